@@ -2,9 +2,9 @@
 # The checks beside the proofs: checks/run.sh gives the programs the words that are stored, plays the sessions, also those
 # at a terminal and of the debugger, the stored runs, random programs in rows and by single events, the reports and the
 # conversations with GDB by the programs that are built, reads the lines of all sources a second time, grades submissions,
-# looks at the links of the pages, counts what the proofs can do without, and tells whether the modules and
-# page/nektavoly.html are of these sources, in some seconds. The gate does the same after `rt ci`. `checks/run.sh --others`
-# tells which other checks there are, how each is called, and how long it takes.
+# looks at the links of the pages, counts what the proofs can do without and what has to be believed, and tells whether the
+# modules and page/nektavoly.html are of these sources, in some seconds. The gate does the same after `rt ci`.
+# `checks/run.sh --others` tells which other checks there are, how each is called, and how long it takes.
 #
 # `checks/run.sh --node` plays all of that which needs a program by the modules of anywhere/, with Node in place of the native
 # programs, and compares it with the same texts; `checks/run.sh --node --quick` plays the words and the sessions alone. What
@@ -77,7 +77,7 @@ longer='checks/stored-runs/run.sh checks/rows/run.sh checks/why/run.sh checks/gd
 # shellcheck disable=SC2086
 case "$*" in
 '')
-    do_all $quick $longer 'python3 -B checks/links.py' 'python3 -B checks/lemmas.py' anywhere/is_current.sh page/is_current.sh checks/shell.sh
+    do_all $quick $longer 'python3 -B checks/links.py' 'python3 -B checks/lemmas.py' 'python3 -B checks/closure.py' anywhere/is_current.sh page/is_current.sh checks/shell.sh
     tell_others
     ;;
 --node)

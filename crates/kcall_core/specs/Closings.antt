@@ -19,8 +19,7 @@ use Rattle.proc_table.specs.declared.process.State as table
 use Rattle.proc_table.specs.declared.process.State.TheVariants.{Live as Live_state, Zombie as Zombie_state}
 use Rattle.kernel_spec.specs.views.PipeEnds.{count_on}
 use Rattle.kernel_spec.specs.views.View.{or_gone}
-use Rattle.kernel_spec.specs.others.Quiet.{end_of}
-use Rattle.kernel_spec.specs.steps.Updates.{fewer_on, freed_on, fewer_on_all, freed_on_all, changed_state, with_closed}
+use Rattle.kernel_spec.specs.steps.Updates.{fewer_on, freed_on, fewer_on_all, freed_on_all, changed_state, with_closed, end_of}
 use Rattle.kernel_spec.specs.views.WellFormed.{WellFormed}
 use Rattle.kcall_core.specs.Kernel.{frame_count, state_of, IsSound, IsRunning, pid_now, live_now}
 use Rattle.kcall_core.specs.Whole.{AreCounted}

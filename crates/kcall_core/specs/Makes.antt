@@ -10,7 +10,7 @@ use Rattle.kernel_spec.specs.views.Processes.{Zombie}
 use Rattle.kernel_spec.specs.views.View.{View, view_of}
 use Rattle.kernel_spec.specs.steps.Own.{Own, Answer, Called, Blocked, Exited, gone_with}
 use Rattle.kernel_spec.specs.steps.Step.{own}
-use Rattle.kernel_spec.specs.laws.RowLaws.{After, IsBetweenCalls}
+use Rattle.kernel_spec.specs.steps.Cases.{After, IsBetweenCalls}
 use Rattle.kernel_spec.specs.runs.Run.{Step_of, TurnsAfter, halts_with}
 use Rattle.kernel_spec.specs.waking.Wakes.{WakesWhereDue}
 use Rattle.kcall_core.specs.Kernel.{frame_count, state_of, IsRunning, pid_now, live_now}

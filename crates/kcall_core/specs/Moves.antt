@@ -20,7 +20,7 @@ use Rattle.kernel_spec.specs.rows.Calls.{read, write}
 use Rattle.kernel_spec.specs.steps.Own.{Own}
 use Rattle.kcall_core.specs.Holdings.{held_at, with_image}
 use Rattle.kcall_core.specs.Memories.{each_of, pipes_of, free_of, AreSound, RunsIn}
-use Rattle.kernel_spec.specs.laws.RowLaws.{OnPipe, IsBuffer}
+use Rattle.kernel_spec.specs.steps.Cases.{OnPipe, IsBuffer}
 use Rattle.kcall_core.specs.Closings.{wakes_if}
 use Rattle.kcall_core.specs.Kernel.{state_of, pid_now, live_now}
 use Rattle.kcall_core.specs.declared.kernel.Kernel.{Kernel}

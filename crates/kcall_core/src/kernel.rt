@@ -14,7 +14,7 @@ ghost use Rattle.proc_table.specs.declared.process.Process.{Process};
 ghost use Rattle.rv64i_core.specs.declared.execution.Stop.TheVariants as stops;
 ghost use Rattle.kernel_spec.specs.steps.Updates.{give_frames, end_process};
 ghost use Rattle.kernel_spec.specs.steps.Step.{own};
-ghost use Rattle.kernel_spec.specs.laws.RowLaws as laws;
+ghost use Rattle.kernel_spec.specs.steps.Cases as laws;
 ghost use Rattle.kernel_spec.specs.runs.Run.{Turn, TurnTaken};
 ghost use Rattle.kernel_spec.specs.waking.Wakes.{IsRunnable, IsNearest};
 ghost use Rattle.kcall_core.specs.Holdings.{HasMemory};

@@ -30,6 +30,7 @@ pub mod OthersTableIsSeen
 pub mod OutsideIsSeen
 pub mod PipeChangeIsTold
 pub mod PipeWriteIsItsRow
+pub mod SeenByParts
 pub mod StateAfterIsTold
 pub mod TableTells
 pub mod ViewIsSharedAndRest

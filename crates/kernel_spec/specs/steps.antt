@@ -4,3 +4,6 @@ pub mod Step
 pub mod Updates
 pub mod Instruction
 pub mod Ticks
+pub mod Waiting
+pub mod KeptBytes
+pub mod Cases

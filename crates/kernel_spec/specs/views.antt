@@ -9,3 +9,4 @@ pub mod Codes
 pub mod NewKernel
 pub mod WellFormed
 pub mod ByPid
+pub mod Shared

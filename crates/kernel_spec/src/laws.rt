@@ -5,15 +5,14 @@
 //! other process sees of the step (`seen`), and runs of the machine. A law says what follows from
 //! them. No function here takes or gives anything, and none does anything when it is called: each
 //! stands for one claim, and its clauses are the laws that the claim is made of.
-ghost use Rattle.kernel_spec.specs.waking.Conditions.{ConditionsSuffice, ReadyIsOpen, OpensAlone, OpensNothing, OpensPipe, OpensMarked, OpensReaped, OpensForked, OpensGone, OpensTick, OpensConsole, WaitsStay};
-ghost use Rattle.kernel_spec.specs.runs.First.{FirstWell, FirstSlots};
+ghost use Rattle.kernel_spec.specs.laws.ConditionLaws.{ConditionsSuffice, ReadyIsOpen, OpensAlone, OpensNothing, OpensPipe, OpensMarked, OpensReaped, OpensForked, OpensGone, OpensTick, OpensConsole, WaitsStay};
+ghost use Rattle.kernel_spec.specs.laws.FirstLaws.{FirstWell, FirstSlots};
 ghost use Rattle.kernel_spec.specs.laws.RowLaws.{InstructionLaw, EcallLaw, ResumeLaw, EndLaw, TouchLaw, AnswerLaw, WaitingLaw, ExecLaw, ForkLaw, GoneLaw, ReapLaw, KillLaw, PipeReadLaw, PipeWriteLaw, FileReadLaw, OpenLaw, PipeLaw, DupLaw, DupPipeLaw, CloseLaw, ClosePipeLaw, WellForked, WellGone, WellReaped, WellAlone, WellPiped, WellMoved, WellMarked, WritesTakeNothing, StoresTakeNothing, WellOpened, WellDup, WellDupPipe, WellClosed, WellClosedPipe, WellMadePipe, WellOutside};
 ghost use Rattle.kernel_spec.specs.laws.Replays.{EventIsDetermined, RunIsDetermined, ReplayIsTheSame, FirstIsOrderly, StaysOrderly};
-ghost use Rattle.kernel_spec.specs.runs.Rounds.{RoundsThenPlan, StopsThenPlan, RoundsFollowRounds, PlanGoesByRounds, CutEndsInRound};
-ghost use Rattle.kernel_spec.specs.runs.Sources.{EachByteHasItsSource};
+ghost use Rattle.kernel_spec.specs.laws.RoundLaws.{RoundsThenPlan, StopsThenPlan, RoundsFollowRounds, PlanGoesByRounds, CutEndsInRound};
 ghost use Rattle.kernel_spec.specs.laws.StepLaws.{RefusalsChangeNothing, InCallWhereBlocked, BlockedIsInCall};
-ghost use Rattle.kernel_spec.specs.waking.Wakes.{PromisedRunsJoin, PromisedRunsSplit, PromisedIsRun, NoLostWakeUp, NeverLost, ReadyMayRun, FallsAsleepByItself, StaysRunnable, SlotsStay, WaitsAtMost, TurnComes, ComesNearer, IsNear, BlocksUnready};
-ghost use Rattle.kernel_spec.specs.laws.Worlds.{TwoWorlds, SameStep, SharedIsApart, RunsAreCut, PidsAreGiven, OnlyWaitersAreInCalls, OnlyBrokenWritesFailLate, RunsJoin, RunsSplit, Isolated, OthersKeep, OutsideSteps, HaltedStays, UnreadyWaits, NoOldByte, OnlyStoresChangeBytes, StoresWhereUserMay, StoresTheseBytes, EachByteIsOfItsOwn, NoOldPipe, NoOldChild};
+ghost use Rattle.kernel_spec.specs.laws.WakeLaws.{PromisedRunsJoin, PromisedRunsSplit, PromisedIsRun, NoLostWakeUp, NeverLost, ReadyMayRun, FallsAsleepByItself, StaysRunnable, SlotsStay, WaitsAtMost, TurnComes, ComesNearer, IsNear, BlocksUnready};
+ghost use Rattle.kernel_spec.specs.laws.Worlds.{TwoWorlds, SameStep, SharedIsApart, RunsAreCut, PidsAreGiven, OnlyWaitersAreInCalls, OnlyBrokenWritesFailLate, RunsJoin, RunsSplit, Isolated, OthersKeep, OutsideSteps, HaltedStays, UnreadyWaits, NoOldByte, OnlyStoresChangeBytes, StoresWhereUserMay, StoresTheseBytes, EachByteIsOfItsOwn, NoOldPipe, NoOldChild, EachByteHasItsSource};
 
 /// What a process does and sees follows from what it saw and from what is shared with it, whatever else the
 /// machine holds.

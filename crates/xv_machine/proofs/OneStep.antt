@@ -14,7 +14,7 @@ use Rattle.kernel_spec.specs.steps.Own.{Own, Stepped, Exited, gone_with}
 use Rattle.kernel_spec.specs.rows.Calls.{gone}
 use Rattle.kernel_spec.specs.steps.Step.{own, call_in, call_or_begun}
 use Rattle.kernel_spec.specs.rows.Touches.{instruction_now}
-use Rattle.kernel_spec.specs.laws.RowLaws as laws
+use Rattle.kernel_spec.specs.steps.Cases as laws
 use Rattle.kernel_spec.specs.runs.Run.{Outcome, Step_of}
 use Rattle.kcall_core.specs.Kernel.{state_of, IsRunning, pid_now, live_now}
 use Rattle.kcall_core.specs.Whole.{IsWhole}

@@ -16,7 +16,7 @@ use Rattle.kernel_spec.specs.views.View.{view, view_of}
 use Rattle.kernel_spec.specs.steps.Own.{Own, Stepped, goes_on}
 use Rattle.kernel_spec.specs.steps.Step.{own, stored}
 use Rattle.kernel_spec.specs.rows.Touches.{before_instruction}
-use Rattle.kernel_spec.specs.laws.RowLaws as laws
+use Rattle.kernel_spec.specs.steps.Cases as laws
 use Rattle.kernel_spec.specs.runs.Run.{World, Run, Step_of, stays_current, halts_with}
 use Rattle.kernel_spec.specs.runs.Run as runs
 use Rattle.kernel_spec.specs.waking.Wakes.{Promised, IsPromised}

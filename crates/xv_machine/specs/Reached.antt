@@ -9,7 +9,8 @@ use Rattle.kernel_spec.specs.steps.Step.{own}
 use Rattle.kernel_spec.specs.runs.First.{first}
 use Rattle.kernel_spec.specs.runs.Run.{World, Event, Run, Outcome, Step_of, StateAfter, TurnsAfter}
 use Rattle.kernel_spec.specs.waking.Wakes.{Promised, IsPromised, IsReady, IsRunnable, HasNoTurn, turns_taken}
-use Rattle.kernel_spec.specs.laws.Worlds.{IsStepOf, Moment, IsCut, AllBoth, IsFromBoot, shared, steps_of}
+use Rattle.kernel_spec.specs.runs.Moments.{IsStepOf, Moment, IsCut, AllBoth, IsFromBoot, steps_of}
+use Rattle.kernel_spec.specs.views.Shared.{shared}
 use Rattle.kernel_spec.specs.runs.Sources.{Holds, Stands, WasPut}
 use Rattle.xv_machine.specs.Boots.{Boots, HasEmptyTrace}
 use Rattle.xv_machine.specs.Drives.{Goes}

@@ -1,7 +1,7 @@
 //! Steps of the process that runs.
 ghost use Rattle.std.specs.Prelude.{◌≡◌, ◌≢◌, ℕ, ◌<◌, true, false, IsSome};
 ghost use Rattle.kernel_spec.specs.steps.Step.{own};
-ghost use Rattle.kernel_spec.specs.laws.RowLaws as laws;
+ghost use Rattle.kernel_spec.specs.steps.Cases as laws;
 ghost use Rattle.kernel_spec.specs.runs.Run.{Step_of};
 ghost use Rattle.kernel_spec.specs.steps.Own.{Stepped};
 ghost use Rattle.kernel_spec.specs.views.State.{live};

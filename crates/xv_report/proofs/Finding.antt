@@ -12,7 +12,8 @@ use Rattle.xk_base.specs.Image.{some_below}
 use Rattle.xk_base.specs.declared.limits.TheConstants.{NOFILE, NPROC}
 use Rattle.file_table.specs.declared.open_file.End.{End}
 use Rattle.file_table.specs.declared.open_file.End.TheVariants.{Reading, Writing}
-use Rattle.kernel_spec.specs.others.Quiet.{end_of, file_of}
+use Rattle.kernel_spec.proofs.steps.SeenByParts.{file_of}
+use Rattle.kernel_spec.specs.steps.Updates.{end_of}
 use Rattle.kernel_spec.specs.runs.Run.{World}
 use Rattle.kernel_spec.specs.views.Processes.{Process, Live, Alive, Zombie, Status}
 use Rattle.kernel_spec.specs.views.State.{State, live}

@@ -8,7 +8,8 @@ use Rattle.file_table.specs.declared.open_file.End.TheVariants.{Reading, Writing
 use Rattle.file_table.specs.declared.open_file.Target.{Target}
 use Rattle.file_table.specs.declared.open_file.Target.TheVariants.{Console as Terminal, Program as File, Pipe as Pipe_end}
 use Rattle.proc_table.specs.declared.process.Call.{Call}
-use Rattle.kernel_spec.specs.others.Quiet.{end_of, file_at}
+use Rattle.kernel_spec.specs.others.Quiet.{file_at}
+use Rattle.kernel_spec.specs.steps.Updates.{end_of}
 use Rattle.kernel_spec.specs.runs.Run.{World}
 use Rattle.kernel_spec.specs.views.Processes.{Live, Child as Seen, Running, Status}
 use Rattle.kernel_spec.specs.views.State.{State, live}

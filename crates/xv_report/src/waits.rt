@@ -1,7 +1,8 @@
 //! What a sleeper waits for, and who could wake it.
 ghost use Rattle.std.specs.Prelude.{◌≡◌, ℕ, Some};
 ghost use Rattle.file_table.specs.declared.open_file.End.TheVariants.{Reading, Writing};
-ghost use Rattle.kernel_spec.specs.others.Quiet.{end_of, file_at};
+ghost use Rattle.kernel_spec.specs.others.Quiet.{file_at};
+ghost use Rattle.kernel_spec.specs.steps.Updates.{end_of};
 ghost use Rattle.kernel_spec.specs.views.Words.{c_int};
 ghost use Rattle.kernel_spec.specs.waking.Conditions.{target_at, read_waits_for, write_waits_for, sleep_waits_for};
 ghost use Rattle.kernel_spec.specs.views.Processes.{Live};

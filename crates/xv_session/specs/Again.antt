@@ -1,6 +1,6 @@
 -- The same events once more lead to the same.
 use Rattle.std.specs.Prelude.{ℕ, List}
-use Rattle.kernel_spec.specs.laws.Replays.{AreAlike}
+use Rattle.kernel_spec.specs.runs.Alike.{AreAlike}
 use Rattle.kernel_spec.specs.runs.Run.{Event}
 use Rattle.kernel_spec.specs.views.State.{ProgramFile}
 use Rattle.xv_machine.specs.Meaning.{Meaning}

@@ -16,9 +16,9 @@ use Rattle.proc_table.specs.declared.process.Process.{Process}
 use Rattle.kernel_spec.specs.views.Words.{or_zero}
 use Rattle.kernel_spec.specs.views.Processes.{Live, Alive}
 use Rattle.kernel_spec.specs.views.State.{State, live_part}
-use Rattle.kernel_spec.specs.others.Quiet.{file_of, end_of, target_of_open}
-use Rattle.kernel_spec.specs.steps.Updates.{fewer_on, freed_on, fewer_on_all, freed_on_all, changed_state, with_closed}
-use Rattle.kernel_spec.specs.laws.RowLaws.{IsLive}
+use Rattle.kernel_spec.proofs.steps.SeenByParts.{file_of}
+use Rattle.kernel_spec.specs.steps.Updates.{fewer_on, freed_on, fewer_on_all, freed_on_all, changed_state, with_closed, end_of, target_of_open}
+use Rattle.kernel_spec.specs.steps.Cases.{IsLive}
 use Rattle.kcall_core.specs.Kernel.{state_of, or_nobody, slot_now, pid_now, live_now}
 use Rattle.kcall_core.specs.Closings.{woken_by, IsClosing, Remains, target_now, Closes, ClosesFrom}
 use Rattle.kernel_spec.specs.waking.SleepsOn.{closes_wake}

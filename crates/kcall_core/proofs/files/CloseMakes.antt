@@ -20,14 +20,15 @@ use Rattle.kernel_spec.specs.views.Words.{c_int, word, or_zero}
 use Rattle.kernel_spec.specs.views.PipeEnds.{parted, is_given_up}
 use Rattle.kernel_spec.specs.views.Processes.{Live, Alive}
 use Rattle.kernel_spec.specs.views.State.{State}
-use Rattle.kernel_spec.specs.views.View.{View, Descriptor, view_of, show, numbered, rename, descriptor_at, descriptor_on, least_on_pipe, pipe_name}
+use Rattle.kernel_spec.specs.views.View.{View, Descriptor, view_of, show, numbered, rename, least_on_pipe, pipe_name}
+use Rattle.kernel_spec.proofs.steps.SeenByParts.{descriptor_at, descriptor_on}
 use Rattle.kernel_spec.specs.steps.Own.{Own, Called, Blocked}
 use Rattle.kernel_spec.specs.rows.Calls.{close, refused, with_a0}
 use Rattle.kernel_spec.specs.runs.Run.{IsBlocked}
-use Rattle.kernel_spec.specs.others.Quiet.{pipe_of_target, end_of, target_of_open}
-use Rattle.kernel_spec.specs.steps.Updates.{changed_state, own_state, with_answer, with_closed, fewer_on, fewer_at, freed_on, freed_at, settled}
+use Rattle.kernel_spec.specs.others.Quiet.{pipe_of_target}
+use Rattle.kernel_spec.specs.steps.Updates.{changed_state, own_state, with_answer, with_closed, fewer_on, fewer_at, freed_on, freed_at, settled, end_of, target_of_open}
 use Rattle.kernel_spec.specs.views.WellFormed.{WellFormed}
-use Rattle.kernel_spec.specs.laws.RowLaws.{IsLive, After, FilesLeft}
+use Rattle.kernel_spec.specs.steps.Cases.{IsLive, After, FilesLeft}
 use Rattle.kcall_core.specs.Closings.{unless_woken, woken_by, Closes}
 use Rattle.kernel_spec.specs.waking.SleepsOn.{closes_wake}
 use Rattle.kcall_core.specs.Kernel.{frame_count, state_of, IsRunning, slot_now, place_now, pid_now, live_now}

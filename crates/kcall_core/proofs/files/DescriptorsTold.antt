@@ -10,7 +10,7 @@ use Rattle.file_table.specs.declared.open_file.OpenFile.{OpenFile}
 use Rattle.proc_table.specs.Slots.{descriptors_at}
 use Rattle.kernel_spec.specs.views.Words.{or_zero}
 use Rattle.kernel_spec.specs.views.State.{live}
-use Rattle.kernel_spec.specs.others.Quiet.{file_of}
+use Rattle.kernel_spec.proofs.steps.SeenByParts.{file_of}
 use Rattle.kernel_spec.proofs.Common.{none_either_way}
 use Rattle.kcall_core.specs.Observers.{IsLiveIn, opened, descriptor_of}
 use Rattle.kcall_core.specs.Kernel.{state_of}

@@ -26,7 +26,8 @@ use Rattle.kernel_spec.specs.views.Words.{c_int}
 use Rattle.kernel_spec.specs.views.PipeEnds.{joined, has_bytes, has_room}
 use Rattle.kernel_spec.specs.views.Processes.{Live}
 use Rattle.kernel_spec.specs.views.State.{State}
-use Rattle.kernel_spec.specs.views.View.{View, Descriptor, view_of, show, numbered, rename, descriptor_at, descriptor_on, least_on_pipe, pipe_name, or_gone}
+use Rattle.kernel_spec.specs.views.View.{View, Descriptor, view_of, show, numbered, rename, least_on_pipe, pipe_name, or_gone}
+use Rattle.kernel_spec.proofs.steps.SeenByParts.{descriptor_at, descriptor_on}
 use Rattle.kernel_spec.specs.steps.Own.{Own, Called}
 use Rattle.kernel_spec.specs.rows.Tables.{lowest_free}
 use Rattle.kernel_spec.specs.rows.Calls.{dup, refused}
@@ -34,7 +35,7 @@ use Rattle.kernel_spec.specs.others.Quiet.{pipe_of_target}
 use Rattle.kernel_spec.specs.steps.Updates as update
 use Rattle.kernel_spec.specs.steps.Updates.{changed_state, with_answer, more_on, more_at}
 use Rattle.kernel_spec.specs.views.WellFormed.{WellFormed}
-use Rattle.kernel_spec.specs.laws.RowLaws.{IsLive, After, OnPipe}
+use Rattle.kernel_spec.specs.steps.Cases.{IsLive, After, OnPipe}
 use Rattle.kcall_core.specs.Closings.{woken_by}
 use Rattle.kcall_core.specs.Holdings.{pipe_cost, or_new, pipe_named}
 use Rattle.kcall_core.specs.Memories.{pipes_of, free_of}

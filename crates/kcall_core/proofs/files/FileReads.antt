@@ -28,10 +28,9 @@ use Rattle.kernel_spec.specs.views.State.{State}
 use Rattle.kernel_spec.specs.views.View.{View, view_of, numbered, rename_shown, show}
 use Rattle.kernel_spec.specs.steps.Own.{Own, Called}
 use Rattle.kernel_spec.specs.rows.Calls.{read}
-use Rattle.kernel_spec.specs.others.Quiet.{target_of_open}
-use Rattle.kernel_spec.specs.steps.Updates.{changed_state, filed_state, set_file, with_answer, with_bytes}
+use Rattle.kernel_spec.specs.steps.Updates.{changed_state, filed_state, set_file, with_answer, with_bytes, target_of_open}
 use Rattle.kernel_spec.specs.waking.Conditions.{at_start}
-use Rattle.kernel_spec.specs.laws.RowLaws.{After}
+use Rattle.kernel_spec.specs.steps.Cases.{After}
 use Rattle.kernel_spec.proofs.steps.NamesAreChosenAgain.{name_of_file}
 use Rattle.kernel_spec.specs.views.WellFormed.{WellFormed}
 use Rattle.kcall_core.specs.Holdings.{held_at, or_nothing, with_image, HasMemory}

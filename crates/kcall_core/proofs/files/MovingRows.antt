@@ -17,10 +17,11 @@ use Rattle.kernel_spec.specs.views.Words.{c_int}
 use Rattle.kernel_spec.specs.rows.Buffers.{readable, writable_now}
 use Rattle.kernel_spec.specs.views.Processes.{Live}
 use Rattle.kernel_spec.specs.views.State.{State}
-use Rattle.kernel_spec.specs.views.View.{View, Descriptor, view_of, numbered, rename, rename_shown, show, descriptor_at, descriptor_on, least_on_pipe, pipe_name, in_use}
+use Rattle.kernel_spec.specs.views.View.{View, Descriptor, view_of, numbered, rename, rename_shown, show, least_on_pipe, pipe_name, in_use}
+use Rattle.kernel_spec.proofs.steps.SeenByParts.{descriptor_at, descriptor_on}
 use Rattle.kernel_spec.specs.steps.Own.{Own}
 use Rattle.kernel_spec.specs.rows.Calls.{read, write, done, refused}
-use Rattle.kernel_spec.specs.laws.RowLaws.{OnPipe}
+use Rattle.kernel_spec.specs.steps.Cases.{OnPipe}
 use Rattle.kcall_core.specs.Kernel.{state_of, IsRunning, pid_now, live_now}
 use Rattle.kcall_core.specs.Whole.{IsWhole}
 use Rattle.kcall_core.specs.Makes.{view_now}

@@ -23,8 +23,8 @@ use Rattle.kernel_spec.specs.views.Words.{or_zero}
 use Rattle.kernel_spec.specs.views.Words.{is_this}
 use Rattle.kernel_spec.specs.views.State.{live}
 use Rattle.kernel_spec.specs.others.Quiet as quiet
-use Rattle.kernel_spec.specs.others.Quiet.{file_of}
-use Rattle.kernel_spec.specs.laws.RowLaws.{FilesLeft}
+use Rattle.kernel_spec.proofs.steps.SeenByParts.{file_of}
+use Rattle.kernel_spec.specs.steps.Cases.{FilesLeft}
 use Rattle.kernel_spec.specs.views.WellFormed.{sum_below}
 use Rattle.kcall_core.specs.Kernel.{descriptor_map, state_of, IsSound}
 use Rattle.kcall_core.specs.Whole.{named_in, namings, AreCounted}

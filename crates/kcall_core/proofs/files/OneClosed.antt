@@ -20,12 +20,13 @@ use Rattle.file_table.specs.declared.open_file.Target.TheVariants.{Console as Te
 use Rattle.proc_table.specs.Slots.{Slots, place_at, place_is_live, descriptors_at, each_changed}
 use Rattle.kernel_spec.specs.views.Words.{or_zero}
 use Rattle.kernel_spec.specs.views.PipeEnds.{count_on, parted, is_given_up}
-use Rattle.kernel_spec.specs.views.View.{numbered, or_gone, least_on_pipe, pipe_name, descriptor_at, descriptor_on}
+use Rattle.kernel_spec.specs.views.View.{numbered, or_gone, least_on_pipe, pipe_name}
+use Rattle.kernel_spec.proofs.steps.SeenByParts.{descriptor_at, descriptor_on}
 use Rattle.kernel_spec.specs.rows.Tables.{on_end, is_end}
-use Rattle.kernel_spec.specs.others.Quiet.{pipe_of_target, end_of, target_of_open}
-use Rattle.kernel_spec.specs.steps.Updates.{fewer_on, fewer_at, freed_on, freed_at, settled, changed_state, with_closed}
+use Rattle.kernel_spec.specs.others.Quiet.{pipe_of_target}
+use Rattle.kernel_spec.specs.steps.Updates.{fewer_on, fewer_at, freed_on, freed_at, settled, changed_state, with_closed, end_of, target_of_open}
 use Rattle.kernel_spec.specs.views.WellFormed.{WellFormed, on, over_all}
-use Rattle.kernel_spec.specs.laws.RowLaws.{IsLive, FilesLeft, OnPipe}
+use Rattle.kernel_spec.specs.steps.Cases.{IsLive, FilesLeft, OnPipe}
 use Rattle.kcall_core.specs.Holdings.{pipe_cost}
 use Rattle.kcall_core.specs.Memories.{pipes_of, free_of, PipeChanges}
 use Rattle.kcall_core.specs.Kernel.{state_of, IsSound, slot_now, pid_now, live_now}

@@ -19,15 +19,15 @@ use Rattle.proc_table.specs.Slots.{Slots, place_at, place_is_live, descriptors_a
 use Rattle.kernel_spec.specs.views.Words.{is_this, or_zero}
 use Rattle.kernel_spec.specs.views.Processes.{Live}
 use Rattle.kernel_spec.specs.views.State.{State}
-use Rattle.kernel_spec.specs.others.Quiet.{pipe_of_target, target_of_open}
-use Rattle.kernel_spec.specs.steps.Updates.{changed_state, filed_state, with_answer}
+use Rattle.kernel_spec.specs.others.Quiet.{pipe_of_target}
+use Rattle.kernel_spec.specs.steps.Updates.{changed_state, filed_state, with_answer, target_of_open}
 use Rattle.kernel_spec.specs.steps.Updates as update
 use Rattle.kernel_spec.specs.waking.Conditions.{at_start}
 use Rattle.proc_table.specs.declared.process.Call.{Call}
 use Rattle.kernel_spec.specs.views.View.{view_of, show}
 use Rattle.kernel_spec.specs.steps.Own.{Own}
 use Rattle.kcall_core.specs.Makes.{Makes, view_now}
-use Rattle.kernel_spec.specs.laws.RowLaws.{After, NobodyNames}
+use Rattle.kernel_spec.specs.steps.Cases.{After, NobodyNames}
 use Rattle.kernel_spec.specs.views.WellFormed.{WellFormed}
 use Rattle.kcall_core.specs.Kernel.{frame_count, state_of, IsSound, IsRunning, slot_now, pid_now, live_now}
 use Rattle.kcall_core.specs.Whole.{IsWhole, AreCounted}

@@ -35,12 +35,13 @@ use Rattle.kernel_spec.specs.steps.Own.{Own, Called}
 use Rattle.kernel_spec.specs.rows.Tables.{lowest_free, lowest_free_above}
 use Rattle.kernel_spec.specs.rows.Calls.{make_pipe, refused}
 use Rattle.kernel_spec.specs.others.Quiet as quiet
-use Rattle.kernel_spec.specs.others.Quiet.{pipe_of_target, pipe_of_open, pipe_of_file, target_of_open}
+use Rattle.kernel_spec.specs.others.Quiet.{pipe_of_target}
+use Rattle.kernel_spec.proofs.steps.SeenByParts.{pipe_of_open, pipe_of_file}
 use Rattle.kernel_spec.specs.steps.Updates as update
-use Rattle.kernel_spec.specs.steps.Updates.{changed_state, with_answer, with_bytes}
+use Rattle.kernel_spec.specs.steps.Updates.{changed_state, with_answer, with_bytes, target_of_open}
 use Rattle.kernel_spec.specs.waking.Conditions.{at_start}
 use Rattle.kernel_spec.specs.views.PipeEnds.{has_bytes, has_room}
-use Rattle.kernel_spec.specs.laws.RowLaws.{IsLive, After, NobodyNames, NobodyHas}
+use Rattle.kernel_spec.specs.steps.Cases.{IsLive, After, NobodyNames, NobodyHas}
 use Rattle.kernel_spec.specs.views.WellFormed.{WellFormed}
 use Rattle.kcall_core.specs.Holdings.{held_at, or_nothing, pipe_cost, with_image}
 use Rattle.kcall_core.specs.Memories as memories

@@ -22,11 +22,10 @@ use Rattle.kernel_spec.specs.views.View.{View, view_of, or_gone}
 use Rattle.kernel_spec.specs.steps.Own.{Own, Called, Blocked}
 use Rattle.kernel_spec.specs.waking.Ready.{ready}
 use Rattle.kernel_spec.specs.rows.Calls.{row_of, write, done, waits, refused}
-use Rattle.kernel_spec.specs.others.Quiet.{target_of_open, end_of}
-use Rattle.kernel_spec.specs.steps.Updates.{changed_state}
+use Rattle.kernel_spec.specs.steps.Updates.{changed_state, target_of_open, end_of}
 use Rattle.kernel_spec.specs.steps.Updates as update
 use Rattle.kernel_spec.specs.waking.Conditions.{write_waits_for, row_waits_for, target_at, waits_for}
-use Rattle.kernel_spec.specs.laws.RowLaws.{After, now_moved, written}
+use Rattle.kernel_spec.specs.steps.Cases.{After, now_moved, written}
 use Rattle.kcall_core.specs.Closings.{woken_by}
 use Rattle.kcall_core.specs.Holdings.{held_at, or_nothing, or_new, pipe_named, pipe_cost, HasMemory}
 use Rattle.kcall_core.specs.Memories.{each_of, pipes_of, PipeChanges}

@@ -21,11 +21,10 @@ use Rattle.kernel_spec.specs.views.View.{View, view_of, numbered, rename_shown, 
 use Rattle.kernel_spec.specs.steps.Own.{Own, Called, Blocked}
 use Rattle.kernel_spec.specs.waking.Ready.{ready}
 use Rattle.kernel_spec.specs.rows.Calls.{row_of, read, done, waits}
-use Rattle.kernel_spec.specs.others.Quiet.{target_of_open, end_of}
-use Rattle.kernel_spec.specs.steps.Updates.{changed_state}
+use Rattle.kernel_spec.specs.steps.Updates.{changed_state, target_of_open, end_of}
 use Rattle.kernel_spec.specs.steps.Updates as update
 use Rattle.kernel_spec.specs.waking.Conditions.{read_waits_for, row_waits_for, target_at, waits_for}
-use Rattle.kernel_spec.specs.laws.RowLaws.{After}
+use Rattle.kernel_spec.specs.steps.Cases.{After}
 use Rattle.kernel_spec.proofs.steps.NamesAreChosenAgain.{name_of_file}
 use Rattle.kcall_core.specs.Holdings.{held_at, with_image, HasMemory}
 use Rattle.kcall_core.specs.Memories.{each_of, free_of, RunsIn, SlotChanges}

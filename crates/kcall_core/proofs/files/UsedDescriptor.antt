@@ -9,7 +9,8 @@ use Rattle.file_table.specs.Named.{named_by}
 use Rattle.file_table.specs.OpenFiles.{open_file_at, entry_file}
 use Rattle.file_table.specs.declared.open_file.OpenFile.{OpenFile}
 use Rattle.proc_table.specs.Slots.{descriptors_at}
-use Rattle.kernel_spec.specs.views.View.{view_of, named, numbered, rename, descriptor_at}
+use Rattle.kernel_spec.specs.views.View.{view_of, named, numbered, rename}
+use Rattle.kernel_spec.proofs.steps.SeenByParts.{descriptor_at}
 use Rattle.kcall_core.specs.Kernel.{state_of, IsRunning, slot_now, live_now}
 use Rattle.kcall_core.specs.Whole.{IsWhole}
 use Rattle.kcall_core.specs.Makes.{view_now}

@@ -26,7 +26,7 @@ use Rattle.kernel_spec.specs.runs.Run.{Step_of, TurnsAfter, IsBlocked, halts_wit
 use Rattle.kernel_spec.specs.waking.Wakes.{WakesWhereDue}
 use Rattle.kernel_spec.specs.views.WellFormed.{WellFormed}
 use Rattle.kernel_spec.specs.waking.Conditions.{is_open, waits_for, Condition}
-use Rattle.kernel_spec.specs.laws.RowLaws.{After}
+use Rattle.kernel_spec.specs.steps.Cases.{After}
 use Rattle.kcall_core.specs.Kernel.{state_of, IsSound, IsRunning, or_nobody, slot_now, place_now, pid_now, live_now, frame_count}
 use Rattle.kcall_core.specs.Machine.{turns_of, world_of}
 use Rattle.kcall_core.specs.Whole.{IsWhole, AreCounted}

@@ -21,7 +21,7 @@ use Rattle.kernel_spec.specs.rows.Buffers.{may_touching, reaches_touching, reada
 use Rattle.kernel_spec.specs.rows.Touches.{has_absent}
 use Rattle.kernel_spec.specs.steps.Own.{Own}
 use Rattle.kernel_spec.specs.others.Quiet.{seen}
-use Rattle.kernel_spec.specs.laws.RowLaws.{After, IsBuffer}
+use Rattle.kernel_spec.specs.steps.Cases.{After, IsBuffer}
 use Rattle.kcall_core.specs.Buffers.{HasMoved, KeepsBuffer, KeepBuffers}
 use Rattle.kernel_spec.proofs.Common.{none_from_is_none, is_some-view, the_value}
 use Rattle.kernel_spec.proofs.rows.RowParts.{length_of_int}

@@ -12,8 +12,8 @@ use Rattle.kernel_spec.specs.steps.Own.{Own}
 use Rattle.kernel_spec.specs.rows.Calls.{perform, done}
 use Rattle.kernel_spec.specs.steps.Step.{own, call_begun, call_or_begun, call_in}
 use Rattle.kernel_spec.specs.steps.Updates.{own_state, with_answer}
-use Rattle.kernel_spec.specs.laws.RowLaws as laws
-use Rattle.kernel_spec.specs.laws.RowLaws.{IsLive, begun_live, begun_state}
+use Rattle.kernel_spec.specs.steps.Cases as laws
+use Rattle.kernel_spec.specs.steps.Cases.{IsLive, begun_live, begun_state}
 use Rattle.kcall_core.specs.Kernel.{state_of, IsSound, IsRunning, pid_now, live_now}
 use Rattle.kcall_core.specs.Whole.{IsWhole}
 use Rattle.kcall_core.specs.Makes.{Makes, view_now, answer_of}

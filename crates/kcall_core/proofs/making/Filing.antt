@@ -24,7 +24,7 @@ use Rattle.kernel_spec.specs.views.WellFormed.{WellFormed}
 use Rattle.kernel_spec.specs.steps.Updates.{changed_state}
 use Rattle.kcall_core.specs.Closings.{woken_by}
 use Rattle.kernel_spec.specs.waking.Conditions.{Condition, is_open, waits_for, KeepsTargets}
-use Rattle.kernel_spec.specs.laws.RowLaws.{After, FilesLeft}
+use Rattle.kernel_spec.specs.steps.Cases.{After, FilesLeft}
 use Rattle.kcall_core.specs.Kernel.{frame_count, state_of, IsSound, IsRunning, or_nobody, slot_now, pid_now, live_now}
 use Rattle.kcall_core.specs.Machine.{slots_of}
 use Rattle.kcall_core.specs.Whole.{IsWhole, AreCounted}

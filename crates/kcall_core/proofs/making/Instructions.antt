@@ -22,8 +22,8 @@ use Rattle.kernel_spec.specs.views.State.{State, live}
 use Rattle.kernel_spec.specs.views.View.{View, view, view_of}
 use Rattle.kernel_spec.specs.steps.Own.{Own, Stepped, Blocked, goes_on}
 use Rattle.kernel_spec.specs.steps.Step.{own, stored}
-use Rattle.kernel_spec.specs.laws.RowLaws as laws
-use Rattle.kernel_spec.specs.laws.RowLaws.{After}
+use Rattle.kernel_spec.specs.steps.Cases as laws
+use Rattle.kernel_spec.specs.steps.Cases.{After}
 use Rattle.kernel_spec.specs.views.WellFormed.{WellFormed}
 use Rattle.kernel_spec.specs.waking.Conditions.{waits_for}
 use Rattle.kcall_core.specs.Holdings.{held_at, or_nothing, with_image}

@@ -22,7 +22,7 @@ use Rattle.kernel_spec.specs.runs.Run.{Step_of, Ticked, IsBlocked, stays_current
 use Rattle.kernel_spec.specs.waking.Wakes.{IsEnd}
 use Rattle.kernel_spec.specs.views.WellFormed.{WellFormed}
 use Rattle.kernel_spec.specs.waking.Conditions.{is_open, waits_for, OthersWaitOn}
-use Rattle.kernel_spec.specs.laws.RowLaws.{After}
+use Rattle.kernel_spec.specs.steps.Cases.{After}
 use Rattle.kcall_core.specs.Kernel.{frame_count, state_of, IsSound, IsRunning, or_nobody, slot_now, pid_now, live_now}
 use Rattle.kcall_core.specs.Machine.{sleepers_below, turns_of}
 use Rattle.kcall_core.specs.Whole.{IsWhole, AreCounted}

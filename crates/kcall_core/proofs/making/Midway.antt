@@ -31,7 +31,7 @@ use Rattle.kernel_spec.specs.runs.Run.{IsBlocked}
 use Rattle.kernel_spec.specs.steps.Updates.{changed_state, own_state, with_answer}
 use Rattle.kernel_spec.specs.steps.Updates as update
 use Rattle.kernel_spec.specs.views.WellFormed.{WellFormed}
-use Rattle.kernel_spec.specs.laws.RowLaws.{IsLive, After, FilesLeft}
+use Rattle.kernel_spec.specs.steps.Cases.{IsLive, After, FilesLeft}
 use Rattle.kcall_core.specs.Closings.{unless_woken, woken_by}
 use Rattle.kernel_spec.specs.waking.Conditions.{Condition, Child_of, Bytes, Room, Time, Keys, Sending, is_open, waits_for, KeepsTargets}
 use Rattle.kernel_spec.specs.views.PipeEnds.{has_bytes, has_room}

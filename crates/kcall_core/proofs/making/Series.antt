@@ -5,7 +5,7 @@ use Rattle.rv64i_core.specs.declared.execution.Stop.{Stop}
 use Rattle.rv64i_core.specs.declared.execution.Stop.TheVariants as stops
 use Rattle.hart_core.specs.declared.hart.Hart.{Hart}
 use Rattle.kernel_spec.specs.steps.Step.{own}
-use Rattle.kernel_spec.specs.laws.RowLaws as laws
+use Rattle.kernel_spec.specs.steps.Cases as laws
 use Rattle.kcall_core.specs.Memories.{Steps, StepsDone, IsLastStep, StepsInARow, RunsIn}
 use Rattle.kcall_core.specs.Kernel.{IsRunning, slot_now, live_now}
 use Rattle.kcall_core.specs.Whole.{IsWhole}

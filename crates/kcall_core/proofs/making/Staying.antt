@@ -8,7 +8,7 @@ use Rattle.kernel_spec.specs.views.Processes.{Live, Zombie}
 use Rattle.kernel_spec.specs.views.State.{State}
 use Rattle.kernel_spec.specs.views.View.{view_of}
 use Rattle.kernel_spec.specs.steps.Own.{Own}
-use Rattle.kernel_spec.specs.laws.RowLaws.{After}
+use Rattle.kernel_spec.specs.steps.Cases.{After}
 use Rattle.kernel_spec.specs.runs.Run.{World, Step_of, TurnsAfter, halts_with}
 use Rattle.kernel_spec.specs.waking.Wakes.{WakesWhereDue}
 use Rattle.kernel_spec.proofs.Common.{same_live}

@@ -15,7 +15,7 @@ use Rattle.kernel_spec.specs.views.Processes.{Live}
 use Rattle.kernel_spec.specs.views.View.{View, view_of}
 use Rattle.kernel_spec.specs.steps.Step.{own, after_instruction, going_on, unless_killed}
 use Rattle.kernel_spec.specs.rows.Touches.{touch, page_used, before_instruction, instruction_now}
-use Rattle.kernel_spec.specs.laws.RowLaws as laws
+use Rattle.kernel_spec.specs.steps.Cases as laws
 use Rattle.kcall_core.specs.Memories.{RunsIn, step_in, Steps}
 use Rattle.kcall_core.specs.Kernel.{IsRunning, slot_now, live_now}
 use Rattle.kcall_core.specs.Whole.{IsWhole}

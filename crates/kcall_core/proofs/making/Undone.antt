@@ -13,7 +13,7 @@ use Rattle.kernel_spec.specs.steps.Own.{Stepped, Faulted, goes_on}
 use Rattle.kernel_spec.specs.rows.Calls.{gone}
 use Rattle.kernel_spec.specs.steps.Step.{own, stored, after_instruction}
 use Rattle.kernel_spec.specs.rows.Touches.{touch, page_used, before_instruction, instruction_now}
-use Rattle.kernel_spec.specs.laws.RowLaws as laws
+use Rattle.kernel_spec.specs.steps.Cases as laws
 use Rattle.kcall_core.specs.Kernel.{live_now}
 use Rattle.kcall_core.specs.Makes.{view_now, stop_now}
 use Rattle.kcall_core.specs.declared.kernel.Kernel.{Kernel}

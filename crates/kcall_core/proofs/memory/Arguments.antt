@@ -11,7 +11,8 @@ use Rattle.xk_base.specs.declared.limits.TheConstants.{MAXARG, ARG_BYTES}
 use Rattle.xk_base.specs.declared.errors.ExecError.{ExecError}
 use Rattle.xk_base.specs.declared.errors.ExecError.TheVariants.{TooManyArgs, ArgsTooLong}
 use Rattle.exec_core.specs.ArgTexts.{terminated, push_refusal}
-use Rattle.kernel_spec.specs.rows.Buffers.{text_at, text_from, texts_at, texts_from, with_text, pointer_at, may_touching}
+use Rattle.kernel_spec.specs.rows.Buffers.{text_at, text_from, texts_at, pointer_at, may_touching}
+use Rattle.kernel_spec.proofs.memory.TextsByParts.{texts_from, with_text}
 
 -- these texts, and then the others
 abbrev pub behind : List (List ℕ) → Option (List (List ℕ)) → Option (List (List ℕ))

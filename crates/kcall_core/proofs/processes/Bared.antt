@@ -23,7 +23,7 @@ use Rattle.kernel_spec.specs.views.Words.{or_zero}
 use Rattle.kernel_spec.specs.views.Processes.{Alive}
 use Rattle.kernel_spec.specs.views.State.{State}
 use Rattle.kernel_spec.specs.steps.Updates.{changed_state, fewer_on_all, freed_on_all, gone_state}
-use Rattle.kernel_spec.specs.laws.RowLaws.{FilesLeft}
+use Rattle.kernel_spec.specs.steps.Cases.{FilesLeft}
 use Rattle.kcall_core.specs.Kernel.{descriptor_map, state_of, IsSound, IsRunning, slot_now, pid_now, live_now, or_nobody}
 use Rattle.kernel_spec.specs.steps.Own.{Answer, gone_with}
 use Rattle.kernel_spec.specs.rows.Calls.{gone}

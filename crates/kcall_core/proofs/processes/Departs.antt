@@ -12,7 +12,7 @@ use Rattle.proc_table.specs.declared.process.Process.{Process}
 pub use Rattle.kcall_core.specs.Closings.{unless_woken}
 pub use Rattle.kernel_spec.specs.waking.SleepsOn.{last_closes, closes_wake}
 use Rattle.kernel_spec.specs.steps.Updates.{gone_state}
-use Rattle.kernel_spec.specs.laws.RowLaws.{FilesLeft}
+use Rattle.kernel_spec.specs.steps.Cases.{FilesLeft}
 use Rattle.kcall_core.specs.Kernel.{state_of, IsSound, slot_now, pid_now, live_now}
 use Rattle.kcall_core.specs.Whole.{AreCounted}
 use Rattle.kcall_core.specs.declared.kernel.Kernel.{Kernel}

@@ -15,7 +15,7 @@ use Rattle.kernel_spec.specs.views.Processes as meaning
 use Rattle.kernel_spec.specs.views.Processes.{Live, Alive, parent_of}
 use Rattle.kernel_spec.specs.steps.Own.{Answer, gone_with}
 use Rattle.kernel_spec.specs.rows.Calls.{gone}
-use Rattle.kernel_spec.specs.laws.RowLaws.{IsLive, FilesLeft}
+use Rattle.kernel_spec.specs.steps.Cases.{IsLive, FilesLeft}
 use Rattle.kernel_spec.specs.steps.Updates.{fewer_on_all, freed_on_all, gone_state}
 use Rattle.kcall_core.specs.Kernel.{state_of, IsSound, IsRunning, or_nobody, slot_now, pid_now, live_now}
 use Rattle.kcall_core.specs.Whole.{IsWhole}

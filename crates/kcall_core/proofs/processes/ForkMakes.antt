@@ -25,7 +25,7 @@ use Rattle.kernel_spec.specs.waking.Turns.{IsLowestFree}
 use Rattle.kernel_spec.specs.views.WellFormed.{WellFormed}
 use Rattle.kernel_spec.specs.steps.Updates.{forked_state, forking, forked_child}
 use Rattle.kernel_spec.specs.waking.Conditions.{is_open, waits_for}
-use Rattle.kernel_spec.specs.laws.RowLaws.{IsLive, After}
+use Rattle.kernel_spec.specs.steps.Cases.{IsLive, After}
 use Rattle.kcall_core.specs.Kernel.{frame_count, state_of, IsSound, IsRunning, slot_now, place_now, pid_now, live_now}
 use Rattle.kcall_core.specs.Machine.{slots_of, sleepers_below, turns_of}
 use Rattle.kcall_core.specs.Whole.{IsWhole, AreCounted}

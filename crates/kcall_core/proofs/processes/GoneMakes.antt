@@ -20,7 +20,7 @@ use Rattle.kernel_spec.specs.views.WellFormed.{WellFormed}
 use Rattle.kernel_spec.specs.runs.Run.{Outcome, Step_of, Ticked, halts_with}
 use Rattle.kernel_spec.specs.waking.Wakes.{IsInCall, IsEnd}
 use Rattle.kernel_spec.specs.steps.Updates.{gone_state, orphans}
-use Rattle.kernel_spec.specs.laws.RowLaws.{IsLive, After}
+use Rattle.kernel_spec.specs.steps.Cases.{IsLive, After}
 use Rattle.kernel_spec.specs.waking.Conditions.{Condition, Child_of, is_open, waits_for}
 use Rattle.kcall_core.specs.Kernel.{state_of, IsRunning, pid_now, live_now}
 use Rattle.kcall_core.specs.Machine.{sleepers_below}

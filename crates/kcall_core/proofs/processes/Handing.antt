@@ -27,8 +27,7 @@ use Rattle.kernel_spec.specs.views.Words.{or_zero}
 use Rattle.kernel_spec.specs.views.State.{State}
 use Rattle.kernel_spec.specs.views.PipeEnds.{count_on}
 use Rattle.kernel_spec.specs.views.Processes.{Live}
-use Rattle.kernel_spec.specs.others.Quiet.{end_of, target_of_open}
-use Rattle.kernel_spec.specs.steps.Updates.{more_on, more_at, more_on_all}
+use Rattle.kernel_spec.specs.steps.Updates.{more_on, more_at, more_on_all, end_of, target_of_open}
 use Rattle.kcall_core.specs.Holdings.{held_cost, pipe_cost, or_new, pipe_named, held_at, HasMemory, with_saved}
 use Rattle.kcall_core.specs.Memories as memories
 use Rattle.kcall_core.specs.Memories.{each_of, pipes_of, free_of}

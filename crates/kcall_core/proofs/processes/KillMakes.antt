@@ -34,7 +34,7 @@ use Rattle.kernel_spec.specs.views.ByPid.{by_pid}
 use Rattle.kernel_spec.specs.runs.Run.{IsBlocked}
 use Rattle.kernel_spec.specs.steps.Updates.{mark, marked, change, kill_state, killer, own_state, with_answer}
 use Rattle.kernel_spec.specs.views.WellFormed.{WellFormed}
-use Rattle.kernel_spec.specs.laws.RowLaws.{IsLive, After}
+use Rattle.kernel_spec.specs.steps.Cases.{IsLive, After}
 use Rattle.kcall_core.specs.Closings.{unless_woken}
 use Rattle.kernel_spec.specs.waking.Conditions.{is_open, waits_for, OthersWaitOn}
 use Rattle.kcall_core.specs.Holdings.{Held, held_at}

@@ -33,7 +33,7 @@ use Rattle.kernel_spec.specs.views.ByPid.{by_pid}
 use Rattle.kernel_spec.specs.runs.Run.{IsBlocked, halts_with}
 use Rattle.kernel_spec.specs.steps.Updates.{remove_zombie, told_image, waited, waited_state, own_state, set_live, with_answer}
 use Rattle.kernel_spec.specs.views.WellFormed.{WellFormed}
-use Rattle.kernel_spec.specs.laws.RowLaws.{IsLive, After}
+use Rattle.kernel_spec.specs.steps.Cases.{IsLive, After}
 use Rattle.kernel_spec.specs.waking.Conditions.{is_open, waits_for, OthersWaitOn}
 use Rattle.kcall_core.specs.Holdings.{held_at}
 use Rattle.kcall_core.specs.Memories.{each_of}

@@ -22,7 +22,8 @@ use Rattle.kernel_spec.specs.views.Processes as meaning
 use Rattle.kernel_spec.specs.views.State.{ProgramFile, State, live_part, named_file}
 use Rattle.kernel_spec.specs.views.NewKernel.{empty_state}
 use Rattle.kcall_core.specs.Starts.{HasNoProcess}
-use Rattle.kernel_spec.specs.others.Quiet.{file_at, file_of}
+use Rattle.kernel_spec.specs.others.Quiet.{file_at}
+use Rattle.kernel_spec.proofs.steps.SeenByParts.{file_of}
 use Rattle.kernel_spec.specs.views.WellFormed.{WellFormed, over_all, cost, sum_below}
 use Rattle.kernel_spec.specs.waking.Wakes.{NoReadySleeper}
 use Rattle.kcall_core.specs.Memories.{pipes_of, free_of}

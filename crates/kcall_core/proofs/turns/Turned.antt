@@ -21,7 +21,7 @@ use Rattle.kernel_spec.specs.views.Processes as meaning
 use Rattle.kernel_spec.specs.views.Processes.{Alive}
 use Rattle.kernel_spec.specs.views.State.{live}
 use Rattle.kernel_spec.specs.views.Words.{is_this, or_zero}
-use Rattle.kernel_spec.specs.laws.RowLaws.{IsLive}
+use Rattle.kernel_spec.specs.steps.Cases.{IsLive}
 use Rattle.kernel_spec.specs.views.ByPid.{by_pid, put}
 use Rattle.kcall_core.specs.Holdings.{held_at}
 use Rattle.kcall_core.specs.Memories.{each_of}

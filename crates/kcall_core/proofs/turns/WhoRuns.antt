@@ -4,7 +4,7 @@ use Rattle.hart_core.specs.declared.hart.Hart.{Hart}
 use Rattle.proc_table.specs.Processes.{status_of}
 use Rattle.proc_table.specs.Slots.{place_at}
 use Rattle.kernel_spec.specs.views.Processes.{Live, Alive}
-use Rattle.kernel_spec.specs.laws.RowLaws.{IsLive}
+use Rattle.kernel_spec.specs.steps.Cases.{IsLive}
 use Rattle.kcall_core.specs.Kernel.{state_of, IsSound, IsRunning, or_nobody, slot_now, place_now, pid_now, live_now}
 use Rattle.kcall_core.specs.declared.kernel.Kernel.{Kernel}
 use Rattle.kcall_core.proofs.table.States.{running}

@@ -15,11 +15,12 @@ use Rattle.proc_table.specs.declared.process.Call.{Call}
 use Rattle.kernel_spec.specs.views.Processes.{Live, Alive, Zombie, Child, Running, Status}
 use Rattle.kernel_spec.specs.views.State.{State, ProgramFile, live}
 use Rattle.kcall_core.specs.Observers.{if_live, child_at}
-use Rattle.kernel_spec.specs.views.View.{View, Descriptors, Descriptor, Shown, Shown_terminal, Shown_file, Shown_pipe, view_of, descriptor_on, child_of, named, or_gone}
+use Rattle.kernel_spec.specs.views.View.{View, Descriptors, Descriptor, Shown, Shown_terminal, Shown_file, Shown_pipe, view_of, child_of, named, or_gone}
 use Rattle.kernel_spec.specs.views.Words.{is_this}
 use Rattle.kernel_spec.specs.steps.Own.{Own}
-use Rattle.kernel_spec.specs.others.Quiet.{seen, seen_descriptor, seen_children}
-use Rattle.kernel_spec.specs.laws.Worlds.{Nothing_shared, Offset, Content, shared_part, Shared, shared}
+use Rattle.kernel_spec.specs.others.Quiet.{seen, seen_children}
+use Rattle.kernel_spec.proofs.steps.SeenByParts.{seen_descriptor, descriptor_on}
+use Rattle.kernel_spec.specs.views.Shared.{Nothing_shared, Offset, Content, shared_part, Shared, shared}
 
 -- ---- what is shared
 

@@ -11,7 +11,7 @@ ghost use Rattle.kcall_core.specs.Whole.{IsWhole};
 ghost use Rattle.rv64i_core.specs.Step.{is_data_page_fault};
 ghost use Rattle.rv64i_core.specs.declared.execution.Stop.TheVariants as stops;
 ghost use Rattle.kernel_spec.specs.steps.Step.{own};
-ghost use Rattle.kernel_spec.specs.laws.RowLaws as laws;
+ghost use Rattle.kernel_spec.specs.steps.Cases as laws;
 
 use crate::kernel::Kernel;
 use hart_core::Hart;

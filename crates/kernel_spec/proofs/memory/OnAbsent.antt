@@ -1,7 +1,7 @@
 -- Instructions and touched pages, over plain images: what an instruction finds is the same once some pages are touched,
 -- and one that is on an absent page is done once that page is there.
 use Rattle.std.proofs.Common.{◌≡◌, ℕ, zero, suc, ◌+◌, ◌*◌, ◌/◌, ◌%◌, ◌^◌, ◌<◌, ◌≤◌, Bool, true, false, cond, eqb, ◌&&◌, ◌||◌, List, [], ◌∷◌, Option, Some, None, refl, sym, ap, subst, ◌∙◌, arith}
-use Rattle.std.specs.Prelude.{Result, Ok, Err, slice_index, if◌then◌else◌}
+use Rattle.std.specs.Prelude.{Result, Ok, Err, slice_index, if◌then◌else◌, unwrap_or}
 use Rattle.std.proofs.lemmas.Bool.{and_parts, false≢true, eqb-true, and_right}
 use Rattle.std.specs.FinMap.{get}
 use Rattle.xk_base.specs.Image.{Page, Image, with_page}
@@ -28,7 +28,7 @@ use Rattle.addr_space.specs.Absent.{is_absent, brought}
 use Rattle.xk_base.specs.Access.{data_rights}
 use Rattle.addr_space.specs.Changes.{zeroed}
 use Rattle.kernel_spec.specs.steps.Instruction.{next_instruction}
-use Rattle.kernel_spec.specs.rows.Touches.{before_step, touch, page_used, view_or, before_instruction}
+use Rattle.kernel_spec.specs.rows.Touches.{before_step, touch, page_used, before_instruction}
 use Rattle.kernel_spec.specs.views.View.{View}
 use Rattle.kernel_spec.proofs.rows.Settled.{there-not-absent, brought-there, touch-none}
 use Rattle.kernel_spec.proofs.steps.MapsAfterChange.{get_same}
@@ -306,17 +306,17 @@ page_not_on_absent regs i h = ap (λ b. faults_on_data (next_instruction regs i)
 -- ---- the view in which an instruction is done
 
 -- it is told by whether the instruction is on an absent page
-pub before-is : (v : View) → before_instruction v ≡ (if is_on_absent v.regs v.image then view_or (touch (page_used v.regs v.image ∷ []) v) v else v)
+pub before-is : (v : View) → before_instruction v ≡ (if is_on_absent v.regs v.image then unwrap_or (touch (page_used v.regs v.image ∷ []) v) v else v)
 unfolding is_on_absent
 before-is v = by (next_instruction v.regs v.image)
   where
     came : View
-    came = view_or (touch (page_used v.regs v.image ∷ []) v) v
+    came = unwrap_or (touch (page_used v.regs v.image ∷ []) v) v
 
     fault : (d b : Bool) → is_absent v.image (page_used v.regs v.image) ≡ b → (if d then came else v) ≡ (if d && is_absent v.image (page_used v.regs v.image) then came else v)
     fault false b e = refl
     fault true true e = sym (ap (λ b. if b then came else v) e)
-    fault true false e = ap (λ o. view_or o v) (touch-none (page_used v.regs v.image ∷ []) v (ap (λ b. b || false) e)) ∙ sym (ap (λ b. if b then came else v) e)
+    fault true false e = ap (λ o. unwrap_or o v) (touch-none (page_used v.regs v.image ∷ []) v (ap (λ b. b || false) e)) ∙ sym (ap (λ b. if b then came else v) e)
 
     by : (st : Step) → before_step st v ≡ (if faults_on_data st && is_absent v.image (page_used v.regs v.image) then came else v)
     by (Next regs store) = refl
@@ -324,7 +324,7 @@ before-is v = by (next_instruction v.regs v.image)
     by (Fault cause) = fault (is_data_page_fault cause) (is_absent v.image (page_used v.regs v.image)) refl
 
 pub before_same : (v : View) → is_on_absent v.regs v.image ≡ false → before_instruction v ≡ v
-before_same v off = before-is v ∙ ap (λ b. if b then view_or (touch (page_used v.regs v.image ∷ []) v) v else v) off
+before_same v off = before-is v ∙ ap (λ b. if b then unwrap_or (touch (page_used v.regs v.image ∷ []) v) v else v) off
 
 pub before_next : (v : View) (new : Registers) (store : Option Store) → next_instruction v.regs v.image ≡ Next new store → before_instruction v ≡ v
 before_next v new store h = before_same v (next_not_on_absent v.regs new v.image store h)
@@ -336,10 +336,10 @@ pub before_fault : (v : View) (cause : Cause) → next_instruction v.regs v.imag
 before_fault v cause h other = before_same v (fault_not_on_absent v.regs v.image cause h other)
 
 pub before_touched : (v t : View) → is_on_absent v.regs v.image ≡ true → touch (page_used v.regs v.image ∷ []) v ≡ Some t → before_instruction v ≡ t
-before_touched v t on is = before-is v ∙ ap (λ b. if b then view_or (touch (page_used v.regs v.image ∷ []) v) v else v) on ∙ ap (λ o. view_or o v) is
+before_touched v t on is = before-is v ∙ ap (λ b. if b then unwrap_or (touch (page_used v.regs v.image ∷ []) v) v else v) on ∙ ap (λ o. unwrap_or o v) is
 
 pub before_untouched : (v : View) → touch (page_used v.regs v.image ∷ []) v ≡ None → before_instruction v ≡ v
-before_untouched v none = before-is v ∙ ap (λ o. if is_on_absent v.regs v.image then view_or o v else v) none ∙ either (is_on_absent v.regs v.image)
+before_untouched v none = before-is v ∙ ap (λ o. if is_on_absent v.regs v.image then unwrap_or o v else v) none ∙ either (is_on_absent v.regs v.image)
   where
     either : (b : Bool) → (if b then v else v) ≡ v
     either true = refl

@@ -25,7 +25,8 @@ use Rattle.kernel_spec.specs.rows.Tables.{advance, change_pipe}
 use Rattle.kernel_spec.specs.rows.Calls.{Row, Wait, Read, Write, Sleep, row_of, refused, done, waits, least_zombie, has_child, done_at, next_bytes}
 use Rattle.kernel_spec.specs.steps.Step.{own, unless_killed, going_on}
 use Rattle.kernel_spec.specs.waking.Ready.{ready, call_ready, row_ready, on_shown, can_read, can_write}
-use Rattle.kernel_spec.specs.laws.Worlds.{SameRest, SameDescriptors, bare, bare_shown, UnreadyWaits}
+use Rattle.kernel_spec.specs.laws.Worlds.{UnreadyWaits}
+use Rattle.kernel_spec.specs.views.Shared.{SameRest, SameDescriptors, bare, bare_shown}
 use Rattle.kernel_spec.proofs.rows.Falls.{Falls, falls_done, falls_unless, falls_moving, falls_cond, own_falls}
 use Rattle.kernel_spec.proofs.steps.OneNameOnePipe.{shown_of, unchanged_by}
 use Rattle.kernel_spec.proofs.steps.WritesKeepRights.{writable_written}

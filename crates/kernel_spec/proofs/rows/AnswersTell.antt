@@ -9,7 +9,8 @@ use Rattle.kernel_spec.specs.steps.Own.{Own, Answer, Stepped, Called, Blocked, g
 use Rattle.kernel_spec.specs.rows.Calls.{Row, Wait, Read, Sleep, Write, row_of, refused, waits}
 use Rattle.kernel_spec.specs.steps.Step.{own, call_or_begun}
 use Rattle.kernel_spec.specs.runs.Run.{IsBlocked}
-use Rattle.kernel_spec.specs.laws.StepLaws.{RefusalsChangeNothing, InCallWhereBlocked, BlockedIsInCall, waiting_calls, regs_in_call}
+use Rattle.kernel_spec.specs.laws.StepLaws.{RefusalsChangeNothing, InCallWhereBlocked, BlockedIsInCall}
+use Rattle.kernel_spec.specs.steps.Waiting.{waiting_calls, regs_in_call}
 use Rattle.kernel_spec.specs.rows.Calls.{with_a0}
 use Rattle.kernel_spec.specs.views.Words.{word}
 use Rattle.kernel_spec.proofs.rows.Outcomes.{StepComes, in_call, may_wait, own_comes}

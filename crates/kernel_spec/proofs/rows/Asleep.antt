@@ -18,7 +18,7 @@ use Rattle.kernel_spec.specs.rows.Calls.{Row, Wait, Read, Sleep, Write, row_of, 
 use Rattle.proc_table.specs.declared.process.Call.{Call}
 use Rattle.kernel_spec.specs.views.View.{View, Descriptor, Shown, Shown_terminal, Shown_file, Shown_pipe, in_use}
 use Rattle.kernel_spec.specs.steps.Own.{Own}
-use Rattle.kernel_spec.specs.waking.Wakes.{BlocksUnready}
+use Rattle.kernel_spec.specs.laws.WakeLaws.{BlocksUnready}
 use Rattle.kernel_spec.specs.steps.Step.{own}
 use Rattle.kernel_spec.specs.views.Programs.{program_bytes}
 use Rattle.kernel_spec.proofs.rows.Falls.{Falls, falls_done, falls_unless, falls_moving, falls_cond, own_falls}

@@ -4,7 +4,7 @@ use Rattle.std.specs.Prelude.{Option, None, Some, ℤ, pos, negsuc}
 use Rattle.pipe_core.specs.Pipe.{Pipe}
 use Rattle.kernel_spec.specs.views.View.{View, Descriptor, Shown, Shown_terminal, Shown_file, Shown_pipe, in_use}
 use Rattle.kernel_spec.specs.rows.Tables.{changed, change_shown}
-use Rattle.kernel_spec.specs.laws.Worlds.{SameDescriptors, bare, bare_shown}
+use Rattle.kernel_spec.specs.views.Shared.{SameDescriptors, bare, bare_shown}
 
 pub in_use_bare : (m u : View) → SameDescriptors m u → (z : ℤ) → bare (in_use m z) ≡ bare (in_use u z)
 in_use_bare m u same (pos d) = same d

@@ -1,7 +1,7 @@
 -- A step by its parts: once the absent pages that it touches are there, it is a step in which no page is absent that it needs. So a claim about a step
 -- is one about its refusal, and one about the parts of rows in a view that has more pages.
 use Rattle.std.proofs.Common.{◌≡◌, ℕ, Bool, true, false, cond, List, [], ◌∷◌, inl, inr, refl, ap, sym, ◌∙◌, subst}
-use Rattle.std.specs.Prelude.{Option, None, Some, ℤ}
+use Rattle.std.specs.Prelude.{Option, None, Some, ℤ, unwrap_or}
 use Rattle.xk_base.specs.Image.{Image}
 use Rattle.rv64i_core.specs.Memory.{Store}
 use Rattle.rv64i_core.specs.Registers.{Registers}
@@ -13,7 +13,7 @@ use Rattle.kernel_spec.specs.views.View.{View}
 use Rattle.kernel_spec.specs.steps.Own.{Own, Called}
 use Rattle.kernel_spec.specs.rows.Calls.{row_of, perform, refused}
 use Rattle.kernel_spec.specs.steps.Step.{going_on, after_instruction}
-use Rattle.kernel_spec.specs.rows.Touches.{has_absent, touch, page_used, view_or, instruction_now}
+use Rattle.kernel_spec.specs.rows.Touches.{has_absent, touch, page_used, instruction_now}
 use Rattle.kernel_spec.proofs.memory.OnAbsent.{next_once_touched, is_on_absent, before-is}
 use Rattle.kernel_spec.proofs.rows.RowParts.{IsSettled, buffer_of, perform_parts}
 use Rattle.kernel_spec.proofs.rows.RowsByParts.{perform_same, performs_on}
@@ -68,14 +68,14 @@ module _ (P : Step → Own → Type 0) (v : View) where
       page : List ℕ
       page = page_used v.regs v.image ∷ []
 
-      came : is_on_absent v.regs v.image ≡ true → (o : Option View) → touch page v ≡ o → At (view_or o v)
+      came : is_on_absent v.regs v.image ≡ true → (o : Option View) → touch page v ≡ o → At (unwrap_or o v)
       came absent None e = same
       came absent (Some t) e =
           let next = next_once_touched v.regs v.image absent in
           subst At (sym (touch_view page v t e)) (there t.image t.free (touch_touched page v t e)
           (next_no_ecall (next_instruction v.regs t.image) next.0 next.1 (ap (next_instruction v.regs) (touch-comes page v t e).image ∙ next.2)))
 
-      by : (b : Bool) → is_on_absent v.regs v.image ≡ b → At (cond b (view_or (touch page v) v) v)
+      by : (b : Bool) → is_on_absent v.regs v.image ≡ b → At (cond b (unwrap_or (touch page v) v) v)
       by false e = same
       by true e = came e (touch page v) refl
 

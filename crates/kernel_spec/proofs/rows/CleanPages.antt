@@ -37,7 +37,8 @@ use Rattle.kernel_spec.specs.views.State.{ProgramFile}
 use Rattle.std.specs.Int.{cast_unsigned, w32}
 use Rattle.std.specs.List.{list_any}
 use Rattle.std.proofs.lemmas.Option.{same_Some}
-use Rattle.kernel_spec.specs.laws.Worlds.{IsExecOf, IsExecDone, IsNewPage}
+use Rattle.kernel_spec.specs.rows.Execs.{IsExecOf, IsExecDone}
+use Rattle.kernel_spec.specs.steps.KeptBytes.{IsNewPage}
 use Rattle.xk_base.specs.Bytes.{put_in, put_byte}
 use Rattle.xk_base.specs.Gathered.{insert_some}
 use Rattle.kernel_spec.proofs.steps.MapsAfterChange.{get_same, get_other}

@@ -12,11 +12,11 @@ use Rattle.kernel_spec.specs.views.Words.{c_int}
 use Rattle.kernel_spec.specs.rows.Buffers.{readable, writable, writable_now, text_at, texts_at, no_slashes}
 use Rattle.kernel_spec.specs.views.Programs.{program_named}
 use Rattle.kernel_spec.specs.views.Processes.{Alive, Live}
-use Rattle.kernel_spec.specs.views.View.{View, Descriptor, view_of, numbered, rename, descriptor_at, descriptor_on, in_use}
+use Rattle.kernel_spec.specs.views.View.{View, Descriptor, view_of, numbered, rename, in_use}
 use Rattle.kernel_spec.specs.steps.Own.{Own}
 use Rattle.kernel_spec.specs.rows.Tables.{lowest_free, lowest_free_above}
 use Rattle.kernel_spec.specs.rows.Calls.{row_of, perform, refused, fork, wait, make_pipe, read, kill, exec, dup, getpid, sbrk, sbrklazy, sleep, uptime, open_file, write, close, Row, row, exit}
-use Rattle.kernel_spec.specs.others.Quiet.{file_of}
+use Rattle.kernel_spec.proofs.steps.SeenByParts.{file_of, descriptor_at, descriptor_on}
 use Rattle.kernel_spec.specs.views.WellFormed.{WellFormed}
 use Rattle.kernel_spec.proofs.steps.LeastPasses.{least_congr}
 use Rattle.kernel_spec.proofs.steps.NamesAreChosenAgain.{named_at}

@@ -32,7 +32,7 @@ use Rattle.pipe_core.specs.Pipe.{with_more}
 use Rattle.kernel_spec.specs.views.State.{ProgramFile}
 use Rattle.std.specs.List.{list_any}
 use Rattle.std.proofs.lemmas.Option.{same_Some}
-use Rattle.kernel_spec.specs.laws.Worlds.{IsExecDone}
+use Rattle.kernel_spec.specs.rows.Execs.{IsExecDone}
 use Rattle.kernel_spec.specs.rows.Stores.{nothing_stored, stored_by_row, Lies}
 use Rattle.xk_base.specs.Bytes.{put_in, put_byte}
 use Rattle.xk_base.specs.Gathered.{insert_some}

@@ -1,6 +1,7 @@
 -- A call that has waited isn't refused later, but for a write to a pipe that nobody reads any more.
 use Rattle.std.proofs.Common.{◌≡◌, ◌≢◌, ℕ, ◌+◌, ◌-◌, ◌++◌, Bool, true, false, cond, not, ◌&&◌, ◌||◌, List, [], ◌∷◌, length, take, drop, refl, ap, sym, ◌∙◌, subst, inl, inr}
 use Rattle.std.specs.Prelude.{Option, None, Some, ℤ, pos, negsuc, nat_eq, nat_le, IsSome, is_some, slice_get, option_map}
+use Rattle.std.specs.Option.{option_or}
 use Rattle.std.specs.FinMap.{FinMap, get}
 use Rattle.std.specs.Ordering.{nat_cmp}
 use Rattle.std.specs.List.{list_any}
@@ -20,12 +21,16 @@ use Rattle.kernel_spec.specs.views.Processes.{Process, Live, Child, Status, chil
 use Rattle.kernel_spec.specs.views.State.{State, live}
 use Rattle.kernel_spec.specs.views.View.{View, Descriptor, Shown, Shown_terminal, Shown_file, Shown_pipe, view, view_of, child_of, in_use}
 use Rattle.kernel_spec.specs.steps.Own.{Own, Called, Exited, gone_with}
-use Rattle.kernel_spec.specs.others.Quiet.{seen, seen_children, or_child, same_child}
+use Rattle.kernel_spec.specs.others.Quiet.{seen, seen_children}
+use Rattle.kernel_spec.proofs.steps.SeenByParts.{same_child}
 use Rattle.kernel_spec.specs.rows.Tables.{advance, change_pipe}
 use Rattle.kernel_spec.specs.rows.Calls.{Row, Wait, Read, Write, Sleep, row_of, gone, refused, done, waits, least_zombie, has_child, done_at, next_bytes}
 use Rattle.kernel_spec.specs.steps.Step.{own, unless_killed}
 use Rattle.kernel_spec.specs.runs.Run.{World, Event, Outcome, Happens, StepOf}
-use Rattle.kernel_spec.specs.laws.Worlds.{IsStepOf, SameRest, SameDescriptors, bare, bare_shown, Others, IsBrokenWrite, OnlyBrokenWritesFailLate}
+use Rattle.kernel_spec.specs.laws.Worlds.{OnlyBrokenWritesFailLate}
+use Rattle.kernel_spec.specs.runs.Moments.{IsStepOf, Others}
+use Rattle.kernel_spec.specs.views.Shared.{SameRest, SameDescriptors, bare, bare_shown}
+use Rattle.kernel_spec.specs.steps.Waiting.{IsBrokenWrite}
 use Rattle.kernel_spec.proofs.rows.Falls.{Falls, falls_done, falls_unless, falls_moving, falls_cond, own_falls}
 use Rattle.kernel_spec.proofs.steps.WritesKeepRights.{writable_written}
 use Rattle.kernel_spec.proofs.rows.RowNumbers.{row-number}
@@ -301,7 +306,7 @@ seen_keeps : (gone : Option ℤ) (v w : View) (q : ℕ) → IsSome (w.children q
 seen_keeps None v w q some = some
 seen_keeps (Some status) v w q some = by (nat_eq q v.pid) (w.children q) some
   where
-    by : (b : Bool) (o : Option Child) → IsSome o → IsSome (or_child (cond b (same_child o (Status status)) o) (cond (nat_eq w.pid 1) (v.children q) None))
+    by : (b : Bool) (o : Option Child) → IsSome o → IsSome (option_or (cond b (same_child o (Status status)) o) (cond (nat_eq w.pid 1) (v.children q) None))
     by true None h = let no : ⊥ = cc in absurd no
     by true (Some x) h = refl
     by false None h = let no : ⊥ = cc in absurd no

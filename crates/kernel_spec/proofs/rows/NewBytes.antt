@@ -33,7 +33,8 @@ use Rattle.kernel_spec.specs.rows.Calls.{Row, Fork, Exit, Wait, Pipe_row, Read, 
 use Rattle.kernel_spec.specs.rows.Calls.{Sbrk, Sleep, Uptime, Open, Write, Close, Sbrklazy, row_of, perform, answered}
 use Rattle.kernel_spec.specs.rows.Calls.{gone, done, refused, waits, least_zombie, has_child, done_at, next_bytes}
 use Rattle.kernel_spec.specs.steps.Step.{own, unless_killed, going_on, after_instruction, call_begun, begun, stored}
-use Rattle.kernel_spec.specs.laws.Worlds.{IsNewPipe, NoOldPipe, NoOldChild}
+use Rattle.kernel_spec.specs.laws.Worlds.{NoOldPipe, NoOldChild}
+use Rattle.kernel_spec.specs.steps.KeptBytes.{IsNewPipe}
 use Rattle.std.proofs.lemmas.Bool.{eq-eqb}
 use Rattle.std.proofs.lemmas.Option.{same_Some}
 use Rattle.kernel_spec.proofs.steps.LeastPasses.{least_passes}

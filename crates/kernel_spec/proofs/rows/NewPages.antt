@@ -17,7 +17,9 @@ use Rattle.kernel_spec.specs.rows.Touches.{has_absent}
 use Rattle.kernel_spec.specs.steps.Step.{own, unless_killed, going_on, after_instruction, call_begun, call_or_begun, call_in, begun}
 use Rattle.rv64i_core.specs.Memory.{Store}
 use Rattle.kernel_spec.specs.rows.Stores.{Lies, nothing_stored, stored_by_row, stored_by_instruction, stored_in}
-use Rattle.kernel_spec.specs.laws.Worlds.{IsExecOf, IsExecDone, HasWholePages, NoOldByte, OnlyStoresChangeBytes}
+use Rattle.kernel_spec.specs.laws.Worlds.{NoOldByte, OnlyStoresChangeBytes}
+use Rattle.kernel_spec.specs.rows.Execs.{IsExecOf, IsExecDone}
+use Rattle.kernel_spec.specs.steps.KeptBytes.{HasWholePages}
 use Rattle.kernel_spec.proofs.rows.RowParts.{buffer_of, perform_parts}
 use Rattle.kernel_spec.proofs.rows.Touched.{IsTouched, touched_view, new_page, new_zeros}
 use Rattle.kernel_spec.proofs.rows.ByTouch.{by_call_apart, by_instruction_apart}

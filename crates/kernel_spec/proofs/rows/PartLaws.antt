@@ -23,7 +23,7 @@ use Rattle.kernel_spec.specs.others.Quiet.{pipe_of_target}
 use Rattle.kernel_spec.specs.views.WellFormed.{WellFormed}
 use Rattle.kernel_spec.specs.rows.Calls.{done, fork}
 use Rattle.kernel_spec.proofs.rows.RowParts.{cannot_fork, killed_by, read_file, open_at, piped, dup_at, close_at, running}
-use Rattle.kernel_spec.specs.laws.RowLaws.{After, IsLive, FilesLeft, OnPipe, NobodyNames, NobodyHas, closed_state}
+use Rattle.kernel_spec.specs.steps.Cases.{After, IsLive, FilesLeft, OnPipe, NobodyNames, NobodyHas, closed_state}
 use Rattle.kernel_spec.proofs.steps.NamesAreChosenAgain.{name_of_file}
 
 abbrev pub ExecPart : Type 0

@@ -20,13 +20,15 @@ use Rattle.kernel_spec.specs.views.PipeEnds.{joined, parted, is_given_up}
 use Rattle.kernel_spec.specs.views.Programs.{program_bytes}
 use Rattle.kernel_spec.specs.views.Processes.{Live}
 use Rattle.kernel_spec.specs.views.State.{State}
-use Rattle.kernel_spec.specs.views.View.{View, Descriptor, Shown, view_of, show, numbered, rename, descriptor_at, descriptor_on}
+use Rattle.kernel_spec.specs.views.View.{View, Descriptor, Shown, view_of, show, numbered, rename}
+use Rattle.kernel_spec.proofs.steps.SeenByParts.{descriptor_at, descriptor_on}
 use Rattle.kernel_spec.specs.steps.Own.{Own}
 use Rattle.kernel_spec.specs.rows.Tables.{lowest_free, lowest_free_above}
 use Rattle.kernel_spec.specs.rows.Lines.{natural}
 use Rattle.kernel_spec.specs.steps.Updates.{alone_state, changed_state, own_state, piped_state, filed_state, with_answer, with_named, with_bytes, started, kill_state, killer, settled}
 use Rattle.kernel_spec.specs.rows.Calls.{exec, read, open_file, make_pipe, done, refused, what_is_named, has_mode}
-use Rattle.kernel_spec.specs.laws.RowLaws.{After, ExecLaw, ForkLaw, KillLaw, FileReadLaw, closed_state, OpenLaw, PipeLaw, DupLaw, DupPipeLaw, CloseLaw, ClosePipeLaw}
+use Rattle.kernel_spec.specs.laws.RowLaws.{ExecLaw, ForkLaw, KillLaw, FileReadLaw, OpenLaw, PipeLaw, DupLaw, DupPipeLaw, CloseLaw, ClosePipeLaw}
+use Rattle.kernel_spec.specs.steps.Cases.{After, closed_state}
 use Rattle.kernel_spec.proofs.rows.RowParts.{cannot_fork, exec_loaded, unless, read_file, open_at, piped, dup_at, running}
 use Rattle.kernel_spec.proofs.rows.Decoding.{exec_case, kill_case, read_case, dup_case, close_case}
 use Rattle.kernel_spec.proofs.steps.NamesAreChosenAgain.{named_at, name_of_file}

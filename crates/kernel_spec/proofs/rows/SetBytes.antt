@@ -21,7 +21,8 @@ use Rattle.kernel_spec.specs.steps.Own.{Own}
 use Rattle.kernel_spec.specs.rows.Calls.{Row, Fork, Exit, Wait, Pipe_row, Read, Kill, Exec, Dup, Getpid, Sbrk, Sleep, Uptime, Open, Write, Close, Sbrklazy, row_of, perform, refused}
 use Rattle.kernel_spec.specs.steps.Step.{own, unless_killed, going_on, after_instruction, call_begun, begun}
 use Rattle.kernel_spec.specs.rows.Stores.{Lies, nothing_stored, stored_by_row, stored_by_instruction, stored_in}
-use Rattle.kernel_spec.specs.laws.Worlds.{HasWholePages, StoresTheseBytes}
+use Rattle.kernel_spec.specs.laws.Worlds.{StoresTheseBytes}
+use Rattle.kernel_spec.specs.steps.KeptBytes.{HasWholePages}
 use Rattle.kernel_spec.proofs.rows.KeptBytes.{put_stays, write_stays}
 use Rattle.kernel_spec.proofs.rows.Filled.{Fills, wait_fills, pipe_fills, read_fills}
 use Rattle.kernel_spec.proofs.rows.MayStore.{Allowed, store_in_page, parts_allowed, refused_stores, instruction_may, same_row, same_begun, same_stores}

@@ -11,7 +11,7 @@ use Rattle.xk_base.specs.Access.{data_rights}
 use Rattle.addr_space.specs.Changes.{zeroed}
 use Rattle.addr_space.proofs.Touching.{brought-size}
 use Rattle.kernel_spec.specs.views.View.{View}
-use Rattle.kernel_spec.specs.laws.Worlds.{HasWholePages}
+use Rattle.kernel_spec.specs.steps.KeptBytes.{HasWholePages}
 use Rattle.kernel_spec.specs.rows.Touches.{touch}
 use Rattle.kernel_spec.proofs.rows.Settled.{absent-not-there, there-not-absent, brought-there, brought-new, touch-comes}
 

@@ -19,7 +19,8 @@ use Rattle.kernel_spec.specs.views.View.{View}
 use Rattle.kernel_spec.specs.steps.Own.{Own, Answer, Stepped, Called, Blocked, Exited, Faulted}
 use Rattle.kernel_spec.specs.rows.Calls.{Row, Fork, Exit, Wait, Pipe_row, Read, Kill, Exec, Dup, Getpid, Sbrk, Sleep, Uptime, Open, Write, Close, Sbrklazy, row_of}
 use Rattle.kernel_spec.specs.steps.Step.{own, call_in}
-use Rattle.kernel_spec.specs.laws.Worlds.{IsExecDone, HasWholePages}
+use Rattle.kernel_spec.specs.rows.Execs.{IsExecDone}
+use Rattle.kernel_spec.specs.steps.KeptBytes.{HasWholePages}
 use Rattle.kernel_spec.proofs.rows.NewPages.{no_old_byte, same_lengths}
 
 -- ---- a program in memory

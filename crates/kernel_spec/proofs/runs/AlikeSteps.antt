@@ -12,12 +12,13 @@ use Rattle.kernel_spec.specs.views.State.{State, live}
 use Rattle.kernel_spec.specs.views.View.{View, view, file_name, pipe_name}
 use Rattle.kernel_spec.specs.steps.Own.{Own, gone_with}
 use Rattle.kernel_spec.specs.steps.Step.{own}
-use Rattle.kernel_spec.specs.others.Quiet.{file_at, pipe_at, is_same, seen, seen_descriptor, left_at}
+use Rattle.kernel_spec.specs.others.Quiet.{file_at, pipe_at, is_same, seen}
+use Rattle.kernel_spec.proofs.steps.SeenByParts.{seen_descriptor, left_at}
 use Rattle.kernel_spec.specs.waking.Turns.{Turns, Sleeps, IsFreeSlot, IsLowestFree}
 use Rattle.kernel_spec.specs.views.WellFormed.{AreShown}
 use Rattle.kernel_spec.specs.runs.Run.{World, Outcome, Step_of, StepOf, StateAfter, TurnsAfter, IsNewbornOf}
 use Rattle.kernel_spec.specs.waking.Wakes.{WakesWhereDue}
-use Rattle.kernel_spec.specs.laws.Replays.{AreAlike, IsOrderly}
+use Rattle.kernel_spec.specs.runs.Alike.{AreAlike, IsOrderly}
 use Rattle.kernel_spec.proofs.steps.OthersKeepTheRest.{pid_is}
 use Rattle.kernel_spec.proofs.rows.Pids.{own_sound}
 use Rattle.kernel_spec.proofs.turns.KeepsSlots.{is_listed, not_listed, was_or_new, new_slot}

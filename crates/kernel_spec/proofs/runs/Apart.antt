@@ -2,7 +2,8 @@
 use Rattle.std.proofs.Common.{◌≡◌, ℕ, Bool, refl, ap}
 use Rattle.std.specs.Prelude.{Option, None, Some}
 use Rattle.kernel_spec.specs.views.View.{Descriptor, Shown, Shown_terminal, Shown_file, Shown_pipe}
-use Rattle.kernel_spec.specs.laws.Worlds.{bare, bare_shown, Part, Nothing_shared, Offset, Content, shared_part, shared, SharedIsApart}
+use Rattle.kernel_spec.specs.laws.Worlds.{SharedIsApart}
+use Rattle.kernel_spec.specs.views.Shared.{bare, bare_shown, Part, Nothing_shared, Offset, Content, shared_part, shared}
 use Rattle.kernel_spec.proofs.steps.ViewIsSharedAndRest.{together, filled, filled_shown}
 
 abbrev some_shown : Option Descriptor → Shown

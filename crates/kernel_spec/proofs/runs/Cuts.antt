@@ -14,9 +14,10 @@ use Rattle.kernel_spec.specs.steps.Step.{own, call_or_begun}
 use Rattle.kernel_spec.specs.others.Quiet.{seen}
 use Rattle.kernel_spec.specs.runs.Run.{World, Event, Run, Tick, Key, Send, Outcome, Step_of, Turn, Idle, Ticked}
 use Rattle.kernel_spec.specs.runs.Run.{Typed, Sent, Halted, Happens, RunHappens, TickHappens, KeyHappens, TurnTaken, StepOf, IsRun, IsNewbornOf}
-use Rattle.kernel_spec.specs.laws.Worlds.{IsStepOf, Others, Moment, IsCut, is_step_of, steps_of, RunsAreCut, PidsAreGiven, OnlyWaitersAreInCalls}
+use Rattle.kernel_spec.specs.laws.Worlds.{RunsAreCut, PidsAreGiven, OnlyWaitersAreInCalls}
+use Rattle.kernel_spec.specs.runs.Moments.{IsStepOf, Others, Moment, IsCut, is_step_of, steps_of}
 use Rattle.kernel_spec.specs.runs.First.{first}
-use Rattle.kernel_spec.specs.laws.StepLaws.{waiting_calls}
+use Rattle.kernel_spec.specs.steps.Waiting.{waiting_calls}
 use Rattle.kernel_spec.proofs.steps.OthersKeepTheRest.{kept, pid_is}
 use Rattle.kernel_spec.proofs.turns.KeepsSlots.{process_seen}
 use Rattle.kernel_spec.proofs.runs.Two.{own_step}

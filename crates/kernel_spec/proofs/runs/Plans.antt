@@ -5,7 +5,8 @@ use Rattle.std.proofs.lemmas.List.Folds.{list_any-append}
 use Rattle.std.specs.Prelude.{is_some}
 use Rattle.std.proofs.Math.Nat.{zero-add, suc-add}
 use Rattle.kernel_spec.specs.runs.Run.{Event, Outcome, Idle, halted_by}
-use Rattle.kernel_spec.specs.runs.Rounds.{round, events, halts, Planned, AreRounds, EndsInRound, RoundsThenPlan, StopsThenPlan, RoundsFollowRounds, PlanGoesByRounds, CutEndsInRound}
+use Rattle.kernel_spec.specs.runs.Rounds.{round, events, halts, Planned, AreRounds, EndsInRound}
+use Rattle.kernel_spec.specs.laws.RoundLaws.{RoundsThenPlan, StopsThenPlan, RoundsFollowRounds, PlanGoesByRounds, CutEndsInRound}
 use Rattle.kernel_spec.proofs.Common.{or_false, or_assoc}
 
 abbrev Played : Type 0

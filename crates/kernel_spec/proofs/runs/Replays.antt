@@ -21,7 +21,8 @@ use Rattle.kernel_spec.specs.runs.Run.{Step_of, Ticked, Typed, Sent, Halted, Run
 use Rattle.kernel_spec.specs.runs.Run.{HaltedRun, TurnTaken, StepOf, StateAfter, TurnsAfter, IsButWoken, first_sent, sent}
 use Rattle.kernel_spec.specs.runs.Rounds.{events}
 use Rattle.kernel_spec.specs.waking.Wakes.{IsRunnable, IsNearest, TakesNearest, WakesWhereDue, Promised}
-use Rattle.kernel_spec.specs.laws.Replays.{AreAlike, IsOrderly, FirstIsOrderly, StaysOrderly, EventIsDetermined, RunIsDetermined, ReplayIsTheSame}
+use Rattle.kernel_spec.specs.laws.Replays.{FirstIsOrderly, StaysOrderly, EventIsDetermined, RunIsDetermined, ReplayIsTheSame}
+use Rattle.kernel_spec.specs.runs.Alike.{AreAlike, IsOrderly}
 use Rattle.kernel_spec.proofs.turns.KeepsSlots.{slots_stay}
 use Rattle.kernel_spec.proofs.well.FirstWell.{first_well, first_slots, nobody_sleeps}
 use Rattle.kernel_spec.proofs.runs.AlikeSteps.{still_asleep, alike_step, sleepers_after}

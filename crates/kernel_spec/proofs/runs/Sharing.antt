@@ -8,7 +8,8 @@ use Rattle.kernel_spec.specs.views.State.{State, live}
 use Rattle.kernel_spec.specs.views.View.{View, Descriptor, Shown, Shown_terminal, Shown_file, Shown_pipe, view, shown_pipe_name}
 use Rattle.kernel_spec.specs.steps.Own.{Own}
 use Rattle.kernel_spec.specs.steps.Step.{own}
-use Rattle.kernel_spec.specs.others.Quiet.{file_at, pipe_at, pipe_of_file, is_same, seen, seen_descriptor, seen_shown, left_at, meets_on_file, meets_on_pipe}
+use Rattle.kernel_spec.specs.others.Quiet.{file_at, pipe_at, is_same, seen, seen_shown, meets_on_file, meets_on_pipe}
+use Rattle.kernel_spec.proofs.steps.SeenByParts.{pipe_of_file, seen_descriptor, left_at}
 use Rattle.kernel_spec.specs.views.WellFormed.{AreShown}
 use Rattle.kernel_spec.specs.runs.Run.{StateAfter, FilesAfter, IsNewbornOf}
 use Rattle.kernel_spec.proofs.steps.OthersKeepTheRest.{pid_is}

@@ -9,8 +9,9 @@ use Rattle.file_table.specs.declared.open_file.Target.{Target}
 use Rattle.file_table.specs.declared.open_file.Target.TheVariants.{Console as Terminal, Program as File, Pipe as Pipe_end}
 use Rattle.kernel_spec.specs.views.Processes.{Live}
 use Rattle.kernel_spec.specs.views.State.{State, live}
-use Rattle.kernel_spec.specs.views.View.{View, Descriptors, Descriptor, view, view_of, named, numbered, descriptor_at, descriptor_on, show, rename, file_name, pipe_name, shown_pipe_name}
-use Rattle.kernel_spec.specs.others.Quiet.{file_of, file_at, pipe_at, pipe_of_file, pipe_of_open, pipe_of_target, is_same}
+use Rattle.kernel_spec.specs.views.View.{View, Descriptors, Descriptor, view, view_of, named, numbered, show, rename, file_name, pipe_name, shown_pipe_name}
+use Rattle.kernel_spec.specs.others.Quiet.{file_at, pipe_at, pipe_of_target, is_same}
+use Rattle.kernel_spec.proofs.steps.SeenByParts.{file_of, pipe_of_file, pipe_of_open, descriptor_at, descriptor_on}
 use Rattle.kernel_spec.specs.views.WellFormed.{AreShown}
 use Rattle.kernel_spec.proofs.steps.NamesAreChosenAgain.{alike_named}
 use Rattle.kernel_spec.proofs.runs.Uses.{is_end, named_same}

@@ -11,9 +11,11 @@ use Rattle.kernel_spec.specs.views.View.{View, view}
 use Rattle.kernel_spec.specs.steps.Step.{own, call_in}
 use Rattle.kernel_spec.specs.runs.Run.{World, Event, Outcome, Happens, StepOf, IsRun, IsNewbornOf}
 use Rattle.kernel_spec.specs.runs.First.{first}
-use Rattle.kernel_spec.specs.laws.Worlds.{IsStepOf, HasWholePages}
+use Rattle.kernel_spec.specs.runs.Moments.{IsStepOf}
+use Rattle.kernel_spec.specs.steps.KeptBytes.{HasWholePages}
 use Rattle.kernel_spec.specs.rows.Stores.{stored_by, IsStored}
-use Rattle.kernel_spec.specs.runs.Sources.{HasByte, Holds, IsPut, Passes, Stands, WasPut, EachByteHasItsSource}
+use Rattle.kernel_spec.specs.runs.Sources.{HasByte, Holds, IsPut, Passes, Stands, WasPut}
+use Rattle.kernel_spec.specs.laws.Worlds.{EachByteHasItsSource}
 use Rattle.kernel_spec.proofs.steps.OthersKeepTheRest.{kept, pid_is}
 use Rattle.kernel_spec.proofs.rows.NewPages.{no_old_byte}
 use Rattle.kernel_spec.proofs.rows.NewBytes.{no_old_child}

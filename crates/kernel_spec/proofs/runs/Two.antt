@@ -6,7 +6,9 @@ use Rattle.std.proofs.lemmas.Option.{same_Some}
 use Rattle.kernel_spec.specs.views.View.{View, view}
 use Rattle.kernel_spec.specs.steps.Step.{own}
 use Rattle.kernel_spec.specs.runs.Run.{World, Event, Run, Outcome, Step_of, Happens, RunHappens, StepOf, StateAfter}
-use Rattle.kernel_spec.specs.laws.Worlds.{IsStepOf, Others, Moment, IsCut, AllBoth, TwoWorlds, SameStep, shared}
+use Rattle.kernel_spec.specs.laws.Worlds.{TwoWorlds, SameStep}
+use Rattle.kernel_spec.specs.runs.Moments.{IsStepOf, Others, Moment, IsCut, AllBoth}
+use Rattle.kernel_spec.specs.views.Shared.{shared}
 use Rattle.kernel_spec.proofs.steps.ViewIsSharedAndRest.{rest, same_view}
 use Rattle.kernel_spec.specs.views.State.{live}
 use Rattle.kernel_spec.proofs.steps.OthersKeepTheRest.{kept_others, pid_is}

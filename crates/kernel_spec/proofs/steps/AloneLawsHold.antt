@@ -24,8 +24,10 @@ use Rattle.rv64i_core.specs.Memory.{Store}
 use Rattle.kernel_spec.specs.steps.Step.{own, unless_killed, going_on, after_instruction, call_begun}
 use Rattle.kernel_spec.specs.steps.Updates.{own_state, alone_state, with_answer, in_call, stepped, started}
 use Rattle.kernel_spec.specs.runs.Run.{StateAfter, FilesAfter}
-use Rattle.kernel_spec.specs.laws.RowLaws.{After, IsBetweenCalls, InstructionLaw, EcallLaw, ResumeLaw, EndLaw, AnswerLaw, WaitingLaw, TouchLaw, begun_live, begun_state}
-use Rattle.kernel_spec.specs.others.Quiet.{file_at, pipe_at, pipe_of_file}
+use Rattle.kernel_spec.specs.laws.RowLaws.{InstructionLaw, EcallLaw, ResumeLaw, EndLaw, AnswerLaw, WaitingLaw, TouchLaw}
+use Rattle.kernel_spec.specs.steps.Cases.{After, IsBetweenCalls, begun_live, begun_state}
+use Rattle.kernel_spec.specs.others.Quiet.{file_at, pipe_at}
+use Rattle.kernel_spec.proofs.steps.SeenByParts.{pipe_of_file}
 use Rattle.kernel_spec.proofs.steps.BegunIsAsBefore.{with_call, state_begun, same_file_at, same_view_of, quiet_begun, ecall_own}
 use Rattle.kernel_spec.proofs.steps.ChangeIsSeen.{alone, after_alone, view_alone, done_is, waits_is}
 use Rattle.kernel_spec.proofs.steps.TableTells.{own_table_tells}

@@ -1,6 +1,7 @@
 -- What a step comes to for a process that has begun a call, or has touched pages, is what it comes to for the process before.
 use Rattle.std.proofs.Common.{◌≡◌, ◌≢◌, ℕ, ◌+◌, ◌%◌, ◌^◌, false, cond, refl, ap, sym, ◌∙◌, inl, inr}
 use Rattle.std.specs.Prelude.{Option, None, Some, ℤ, option_map, nat_eq}
+use Rattle.std.specs.Option.{option_or}
 use Rattle.std.specs.FinMap.{get}
 use Rattle.std.proofs.lemmas.Bool.Decides.{eqb_tells}
 use Rattle.xk_base.specs.declared.limits.TheConstants.{NOFILE}
@@ -17,8 +18,9 @@ use Rattle.kernel_spec.specs.steps.Own.{Own, gone_with}
 use Rattle.kernel_spec.specs.rows.Calls.{perform}
 use Rattle.kernel_spec.proofs.memory.OnAbsent.{before_ecall}
 use Rattle.kernel_spec.specs.steps.Step.{own, unless_killed, going_on, after_instruction, call_begun}
-use Rattle.kernel_spec.specs.others.Quiet.{Quiet, seen, seen_descriptor, seen_children, or_child, left_at, file_at, file_of, pipe_at, pipe_of_file, is_same}
-use Rattle.kernel_spec.specs.others.Quiet as quiet
+use Rattle.kernel_spec.specs.others.Quiet.{Quiet, seen, seen_children, file_at, pipe_at, is_same}
+use Rattle.kernel_spec.proofs.steps.SeenByParts.{seen_descriptor, left_at, file_of, pipe_of_file}
+use Rattle.kernel_spec.proofs.steps.SeenByParts as parts
 use Rattle.kernel_spec.specs.steps.Updates.{set_live, alone_state}
 use Rattle.kernel_spec.proofs.steps.ViewsAfterSetLive.{view-set_live, same_child, live-set_live_here, live-set_live_there}
 
@@ -42,7 +44,7 @@ module _ (s : State) (p : ℕ) (old : Live) (was : get s.processes p ≡ Some (A
   same_children : (g : Option ℤ) (w : View) → seen_children g (view_of state_begun p with_call) (record w { free = free }) ≡ seen_children g (view_of s p old) w
   unfolding view_of
   same_children None w = refl
-  same_children (Some status) w = λ i. λ x. or_child (cond (nat_eq x p) (quiet.same_child (w.children x) (Status status)) (w.children x))
+  same_children (Some status) w = λ i. λ x. option_or (cond (nat_eq x p) (parts.same_child (w.children x) (Status status)) (w.children x))
       (cond (nat_eq w.pid 1) (same_child s p old with_call was refl p x i) None)
 
   same_seen : (o : Own) (w : View) → seen state_begun (view_of state_begun p with_call) o (record w { free = free }) ≡ seen s (view_of s p old) o w

@@ -15,7 +15,8 @@ use Rattle.kernel_spec.specs.views.Processes.{Alive, Live}
 use Rattle.kernel_spec.specs.views.State.{State, live, live_part}
 use Rattle.kernel_spec.specs.views.View.{Descriptors, view, view_of}
 use Rattle.kernel_spec.specs.steps.Own.{Own, Answer, gone_with}
-use Rattle.kernel_spec.specs.others.Quiet.{file_at, file_of, pipe_of_open}
+use Rattle.kernel_spec.specs.others.Quiet.{file_at}
+use Rattle.kernel_spec.proofs.steps.SeenByParts.{file_of, pipe_of_open}
 use Rattle.kernel_spec.specs.steps.Updates.{changed_state}
 use Rattle.kernel_spec.specs.runs.Run.{StateAfter, IsNewbornOf}
 use Rattle.kernel_spec.proofs.steps.MapsAfterChange.{get_same}

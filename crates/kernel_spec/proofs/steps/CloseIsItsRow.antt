@@ -12,11 +12,12 @@ use Rattle.file_table.specs.declared.open_file.OpenFile.{OpenFile}
 use Rattle.kernel_spec.specs.views.Processes.{Alive, Live}
 use Rattle.proc_table.specs.declared.process.Call.{Call}
 use Rattle.kernel_spec.specs.views.State.{State}
-use Rattle.kernel_spec.specs.views.View.{View, Descriptors, Descriptor, named, numbered, descriptor_at, or_gone, view_of, file_name, pipe_name}
+use Rattle.kernel_spec.specs.views.View.{View, Descriptors, Descriptor, named, numbered, or_gone, view_of, file_name, pipe_name}
 use Rattle.kernel_spec.specs.steps.Own.{Called}
 use Rattle.kernel_spec.specs.rows.Tables.{without_descriptor, one_less_on, change_pipes, pipes_given_up}
 use Rattle.kernel_spec.specs.rows.Calls.{with_a0}
-use Rattle.kernel_spec.specs.others.Quiet.{pipe_of_file, is_same}
+use Rattle.kernel_spec.specs.others.Quiet.{is_same}
+use Rattle.kernel_spec.proofs.steps.SeenByParts.{pipe_of_file, descriptor_at}
 use Rattle.kernel_spec.specs.steps.Updates.{changed_state}
 use Rattle.kernel_spec.proofs.steps.MapsAfterChange.{get_without}
 use Rattle.kernel_spec.proofs.steps.NamesAreChosenAgain.{Alike, alike_named, named_alike, bare}

@@ -10,9 +10,8 @@ use Rattle.pipe_core.specs.Pipe.{Pipe}
 use Rattle.kernel_spec.specs.views.Words.{is_this}
 use Rattle.kernel_spec.specs.views.Processes.{Live, Alive, Zombie}
 use Rattle.kernel_spec.specs.views.State.{State}
-use Rattle.kernel_spec.specs.laws.RowLaws.{IsLive}
-use Rattle.kernel_spec.specs.others.Quiet.{end_of}
-use Rattle.kernel_spec.specs.steps.Updates.{orphan, orphans, given_to, fewer_on, freed_on, fewer_on_all, freed_on_all, gone_state, give_frames, end_process}
+use Rattle.kernel_spec.specs.steps.Cases.{IsLive}
+use Rattle.kernel_spec.specs.steps.Updates.{orphan, orphans, given_to, fewer_on, freed_on, fewer_on_all, freed_on_all, gone_state, give_frames, end_process, end_of}
 use Rattle.kernel_spec.proofs.steps.OrphansKeepKeys.{get-orphans}
 
 module _ (s : State) (l : Live) (closed : l.descriptors ≡ empty) where

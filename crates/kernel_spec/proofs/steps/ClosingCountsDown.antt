@@ -1,6 +1,6 @@
 -- The pipes where each descriptor of a process is closed, the last one first.
 use Rattle.std.proofs.Common.{◌≡◌, ◌≢◌, ℕ, zero, suc, ◌<◌, ◌≤◌, ◌+◌, ◌-◌, Bool, true, false, cond, ◌&&◌, refl, ap, sym, ◌∙◌, arith, inl, inr, ◌⊎◌}
-use Rattle.std.specs.Prelude.{Option, None, Some, option_map, nat_eq}
+use Rattle.std.specs.Prelude.{Option, None, Some, option_map, nat_eq, unwrap_or}
 use Rattle.std.specs.FinMap.{FinMap, get, insert, remove, get-remove}
 use Rattle.std.specs.Ordering.{nat_cmp}
 use Rattle.std.specs.Cmp.{nat_cmp_total, unsigned_tied}
@@ -20,10 +20,11 @@ use Rattle.file_table.specs.declared.open_file.Target.TheVariants.{Console as Te
 use Rattle.kernel_spec.specs.views.Processes.{Live}
 use Rattle.kernel_spec.specs.views.State.{State}
 use Rattle.kernel_spec.specs.views.View.{Descriptors, Descriptor, Shown, Shown_terminal, Shown_file, Shown_pipe, named, numbered, rename}
-use Rattle.kernel_spec.specs.views.View.{descriptor_at, descriptor_on, show, or_gone, or_else, pipe_name, shown_pipe_name, least_on_pipe}
+use Rattle.kernel_spec.specs.views.View.{show, or_gone, pipe_name, shown_pipe_name, least_on_pipe}
 use Rattle.kernel_spec.specs.rows.Tables.{on_end, shown_on_end, is_end, ends, all_closed, changed, names_given_up, pipes_given_up}
-use Rattle.kernel_spec.specs.others.Quiet.{pipe_of_file, pipe_of_open, pipe_of_target, end_of, target_of_open}
-use Rattle.kernel_spec.specs.steps.Updates.{settled, fewer_at, fewer_on, freed_at, freed_on, fewer_on_all, freed_on_all}
+use Rattle.kernel_spec.specs.others.Quiet.{pipe_of_target}
+use Rattle.kernel_spec.proofs.steps.SeenByParts.{pipe_of_file, pipe_of_open, descriptor_at, descriptor_on}
+use Rattle.kernel_spec.specs.steps.Updates.{settled, fewer_at, fewer_on, freed_at, freed_on, fewer_on_all, freed_on_all, end_of, target_of_open}
 use Rattle.kernel_spec.proofs.steps.MapsAfterChange.{get_at}
 use Rattle.kernel_spec.proofs.steps.LeastPasses.{least_passes, least_least}
 use Rattle.kernel_spec.proofs.steps.NamesAreChosenAgain.{named_at}
@@ -188,20 +189,20 @@ module _ (s : State) (l : Live) where
 
   named_target : (n i : ℕ) (e : End) (g : ℕ) (r w : Bool) (y : Target) → Some y ≡ Some (Pipe_end i e)
       → names_given_up n (option_map (rename (all_closed T)) (changed fewer (descriptor_on s g (Some (record { read = r; write = w; target = y })))))
-      ≡ (nat_eq (or_else (least_on_pipe (all_closed T) i) i) n && is_given_up (fewer i (or_gone (get s.pipes i))))
+      ≡ (nat_eq (unwrap_or (least_on_pipe (all_closed T) i) i) n && is_given_up (fewer i (or_gone (get s.pipes i))))
   named_target n i e g r w Terminal h = let no : ⊥ = cc in absurd no
   named_target n i e g r w (File program offset) h = let no : ⊥ = cc in absurd no
-  named_target n i e g r w (Pipe_end k f) h = let same : k ≡ i = cc in ap (λ (q : ℕ). nat_eq (or_else (least_on_pipe (all_closed T) q) q) n && is_given_up (fewer q (or_gone (get s.pipes q)))) same
+  named_target n i e g r w (Pipe_end k f) h = let same : k ≡ i = cc in ap (λ (q : ℕ). nat_eq (unwrap_or (least_on_pipe (all_closed T) q) q) n && is_given_up (fewer q (or_gone (get s.pipes q)))) same
 
   named_open : (n i : ℕ) (e : End) (g : ℕ) (o : Option OpenFile) → target_of_open o ≡ Some (Pipe_end i e)
       → names_given_up n (option_map (rename (all_closed T)) (changed fewer (descriptor_on s g o))) ≡
-      (nat_eq (or_else (least_on_pipe (all_closed T) i) i) n && is_given_up (fewer i (or_gone (get s.pipes i))))
+      (nat_eq (unwrap_or (least_on_pipe (all_closed T) i) i) n && is_given_up (fewer i (or_gone (get s.pipes i))))
   named_open n i e g None h = let no : ⊥ = cc in absurd no
   named_open n i e g (Some x) h = named_target n i e g x.read x.write x.target h
 
   named_place : (n i : ℕ) (e : End) (o : Option ℕ) → end_of s o ≡ Some (Pipe_end i e)
       → names_given_up n (option_map (rename (all_closed T)) (changed fewer (descriptor_at s o))) ≡
-      (nat_eq (or_else (least_on_pipe (all_closed T) i) i) n && is_given_up (fewer i (or_gone (get s.pipes i))))
+      (nat_eq (unwrap_or (least_on_pipe (all_closed T) i) i) n && is_given_up (fewer i (or_gone (get s.pipes i))))
   named_place n i e None h = let no : ⊥ = cc in absurd no
   named_place n i e (Some g) h = named_open n i e g (get s.files g) h
 
@@ -273,7 +274,7 @@ module _ (s : State) (l : Live) where
           (ap (λ (q : ℕ). nat_eq (x.writers - all i Writing + q) 0) c.1 ∙ (let k : ℕ = c.0 in nonzero (x.writers - all i Writing + (k + 1)) (x.writers - all i Writing + k) (omega arith)))
     ]
 
-    by_least : (o : Option ℕ) → least_below P NOFILE ≡ o → is_given_up (left_with n i x) ≡ (nat_eq (or_else o i) n && is_given_up (fewer i x))
+    by_least : (o : Option ℕ) → least_below P NOFILE ≡ o → is_given_up (left_with n i x) ≡ (nat_eq (unwrap_or o i) n && is_given_up (fewer i x))
     by_least None e = let f : P n ≡ false = none_below P NOFILE e n below in let t : P n ≡ true = passes in let no : ⊥ = cc in absurd no
     by_least (Some k) e = elim (eqb_tells k n) [
       | inl h ↦
@@ -293,8 +294,8 @@ module _ (s : State) (l : Live) where
     least_closed : least_on_pipe (all_closed T) i ≡ least_below P NOFILE
     least_closed = λ k. least_below (λ d. is_this i (pipe_name_kept fewer (T d) k)) NOFILE
 
-    pub given_up_here : is_given_up (left_with n i x) ≡ (nat_eq (or_else (least_on_pipe (all_closed T) i) i) n && is_given_up (fewer i x))
-    given_up_here = by_least (least_below P NOFILE) refl ∙ ap (λ (o : Option ℕ). nat_eq (or_else o i) n && is_given_up (fewer i x)) (sym least_closed)
+    pub given_up_here : is_given_up (left_with n i x) ≡ (nat_eq (unwrap_or (least_on_pipe (all_closed T) i) i) n && is_given_up (fewer i x))
+    given_up_here = by_least (least_below P NOFILE) refl ∙ ap (λ (o : Option ℕ). nat_eq (unwrap_or o i) n && is_given_up (fewer i x)) (sym least_closed)
 
   module _ (there : (d j : ℕ) → pipe_of_file s (get l.descriptors d) ≡ Some j → (x : Pipe) × (get s.pipes j ≡ Some x)) where
     table_at : (n : ℕ) → n < NOFILE → named (all_closed T) n ≡ option_map (rename (all_closed T)) (changed fewer (T n))
@@ -312,7 +313,7 @@ module _ (s : State) (l : Live) where
         let on : pipe_of_file s (get l.descriptors n) ≡ Some i = sym (same_pipe_of (get l.descriptors n)) ∙ ap pipe_of eo in
         let x = there n i on in
         freed_there m n is i e eo x.0 x.1
-        ∙ ap one (given_up_here n i below on x.0 ∙ ap (λ (o : Option Pipe). nat_eq (or_else (least_on_pipe (all_closed T) i) i) n && is_given_up (fewer i (or_gone o))) (sym x.1))
+        ∙ ap one (given_up_here n i below on x.0 ∙ ap (λ (o : Option Pipe). nat_eq (unwrap_or (least_on_pipe (all_closed T) i) i) n && is_given_up (fewer i (or_gone o))) (sym x.1))
         ∙ sym (ap one (ap (names_given_up n) (table_at n below) ∙ named_place n i e (get l.descriptors n) eo))
 
     freed_down : (n : ℕ) → n ≤ NOFILE → (m : FinMap nat_cmp Pipe) → ((j : ℕ) → get m j ≡ kept (option_map (left_with n j) (get s.pipes j)))

@@ -1,7 +1,7 @@
 -- The laws of dup and close.
 use Rattle.std.proofs.Common.{◌≡◌, ◌≢◌, ℕ, zero, suc, ◌<◌, ◌≤◌, ◌+◌, ◌-◌, Bool, true, false, cond, ◌&&◌, refl, ap, sym, ◌∙◌, inl, inr, ◌⊎◌, arith}
 use Rattle.std.proofs.Math.Path.{fun_ext}
-use Rattle.std.specs.Prelude.{Option, None, Some, pos, IsSome, option_map, nat_eq}
+use Rattle.std.specs.Prelude.{Option, None, Some, pos, IsSome, option_map, nat_eq, unwrap_or}
 use Rattle.std.specs.FinMap.{FinMap, get, insert, remove}
 use Rattle.std.specs.Ordering.{nat_cmp}
 use Rattle.std.proofs.lemmas.Bool.{eq-eqb, and_right}
@@ -21,15 +21,16 @@ use Rattle.kernel_spec.specs.views.PipeEnds.{joined, parted, is_given_up}
 use Rattle.kernel_spec.specs.views.Processes.{Alive, Live}
 use Rattle.kernel_spec.specs.views.State.{State, live, live_part}
 use Rattle.kernel_spec.specs.views.View.{Descriptors, Descriptor, Shown, Shown_terminal, Shown_file, Shown_pipe, view_of, named, numbered}
-use Rattle.kernel_spec.specs.views.View.{rename, rename_shown, descriptor_at, descriptor_on, show, or_gone, or_else, least_on_file}
+use Rattle.kernel_spec.specs.views.View.{rename, rename_shown, show, or_gone, least_on_file}
 use Rattle.kernel_spec.specs.steps.Own.{Called, goes_on}
 use Rattle.kernel_spec.specs.rows.Calls.{with_a0}
 use Rattle.kernel_spec.specs.rows.Tables.{one_more_on, one_less_on, change_pipes, changed, change_shown, ends, on_end, is_end, names_given_up, pipes_given_up}
-use Rattle.kernel_spec.specs.others.Quiet.{file_at, pipe_at, file_of, pipe_of_file, pipe_of_open, pipe_of_target}
+use Rattle.kernel_spec.specs.others.Quiet.{file_at, pipe_at, pipe_of_target}
+use Rattle.kernel_spec.proofs.steps.SeenByParts.{file_of, pipe_of_file, pipe_of_open, descriptor_at, descriptor_on}
 use Rattle.kernel_spec.proofs.steps.OthersTableIsSeen.{OtherNames, OtherHas}
 use Rattle.kernel_spec.specs.steps.Updates.{changed_state, with_answer, with_named, with_closed, settled}
 use Rattle.kernel_spec.specs.views.WellFormed.{WellFormed}
-use Rattle.kernel_spec.specs.laws.RowLaws.{After, OnPipe, FilesLeft, closed_state}
+use Rattle.kernel_spec.specs.steps.Cases.{After, OnPipe, FilesLeft, closed_state}
 use Rattle.kernel_spec.proofs.steps.MapsAfterChange.{get_same, get_other, get_without}
 use Rattle.kernel_spec.proofs.steps.NamesAreChosenAgain.{named_at}
 use Rattle.kernel_spec.proofs.steps.StateAfterIsTold.{OldOrNew}
@@ -113,7 +114,7 @@ dup_pipe_law s p l c j k i n end x d on unused seen =
     dup_after s p l c j k on.file d (insert s.pipes i (joined x end 1)) on.was on.below on.named_file unused seen
     (ap (λ (y : Descriptor). one_more_on y.shown (named (numbered s l)))
     (same_Some d (record {
-      file = or_else (least_on_file (numbered s l) on.file) on.file;
+      file = unwrap_or (least_on_file (numbered s l) on.file) on.file;
       read = on.read;
       write = on.write;
       shown = Shown_pipe n end x;
@@ -393,7 +394,7 @@ module _ (frames : ℕ) (s : State) (p : ℕ) (l : Live) (k i n : ℕ) (end : En
         close_after frames s p l c k d now files settled_pipes (cond (is_given_up fewer_pipe) 1 0) well on.was left
         (ap (λ (y : Descriptor). one_less_on y.shown (named (numbered s l)))
         (same_Some d (record {
-          file = or_else (least_on_file (numbered s l) on.file) on.file;
+          file = unwrap_or (least_on_file (numbered s l) on.file) on.file;
           read = on.read;
           write = on.write;
           shown = Shown_pipe n end x;

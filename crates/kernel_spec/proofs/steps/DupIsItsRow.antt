@@ -13,11 +13,12 @@ use Rattle.file_table.specs.declared.open_file.Target.TheVariants.{Console as Te
 use Rattle.kernel_spec.specs.views.Processes.{Alive, Live}
 use Rattle.proc_table.specs.declared.process.Call.{Call}
 use Rattle.kernel_spec.specs.views.State.{State, live, live_part}
-use Rattle.kernel_spec.specs.views.View.{Descriptors, Descriptor, named, numbered, rename, descriptor_at, descriptor_on, show, or_gone, view_of}
+use Rattle.kernel_spec.specs.views.View.{Descriptors, Descriptor, named, numbered, rename, show, or_gone, view_of}
 use Rattle.kernel_spec.specs.steps.Own.{Called, goes_on}
 use Rattle.kernel_spec.specs.rows.Tables.{with_copy, one_more_on}
 use Rattle.kernel_spec.specs.rows.Calls.{with_a0}
-use Rattle.kernel_spec.specs.others.Quiet.{file_at, file_of, pipe_at, pipe_of_file, pipe_of_open, pipe_of_target, offset_left, pipe_left, shown_offset, shown_pipe}
+use Rattle.kernel_spec.specs.others.Quiet.{file_at, pipe_at, pipe_of_target}
+use Rattle.kernel_spec.proofs.steps.SeenByParts.{file_of, pipe_of_file, pipe_of_open, offset_left, pipe_left, shown_offset, shown_pipe, descriptor_at, descriptor_on}
 use Rattle.kernel_spec.specs.steps.Updates.{changed_state}
 use Rattle.kernel_spec.proofs.steps.MapsAfterChange.{get_at, get_other}
 use Rattle.kernel_spec.proofs.steps.OthersTableIsSeen.{Tells, Spares, OtherNames, open_offset, target_offset}

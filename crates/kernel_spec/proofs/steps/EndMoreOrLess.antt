@@ -1,6 +1,6 @@
 -- Dup and close of a descriptor on a pipe.
 use Rattle.std.proofs.Common.{◌≡◌, ◌≢◌, ℕ, zero, suc, ◌<◌, ◌≤◌, ◌+◌, Bool, false, cond, ◌&&◌, refl, ap, sym, ◌∙◌, inl, inr, arith}
-use Rattle.std.specs.Prelude.{Option, None, Some, option_map, nat_eq}
+use Rattle.std.specs.Prelude.{Option, None, Some, option_map, nat_eq, unwrap_or}
 use Rattle.std.specs.FinMap.{get}
 use Rattle.std.proofs.lemmas.Bool.{eq-eqb}
 use Rattle.std.proofs.lemmas.Bool.Decides.{eqb_tells}
@@ -15,9 +15,10 @@ use Rattle.file_table.specs.declared.open_file.Target.{Target}
 use Rattle.file_table.specs.declared.open_file.Target.TheVariants.{Console as Terminal, Program as File, Pipe as Pipe_end}
 use Rattle.kernel_spec.specs.views.Processes.{Live}
 use Rattle.kernel_spec.specs.views.State.{State}
-use Rattle.kernel_spec.specs.views.View.{Descriptors, Descriptor, Shown_pipe, named, numbered, rename, descriptor_at, descriptor_on, or_gone, or_else, pipe_name, least_on_pipe}
+use Rattle.kernel_spec.specs.views.View.{Descriptors, Descriptor, Shown_pipe, named, numbered, rename, or_gone, pipe_name, least_on_pipe}
 use Rattle.kernel_spec.specs.rows.Tables.{one_more_on, one_less_on, change_pipe, changed, names_given_up, pipes_given_up}
-use Rattle.kernel_spec.specs.others.Quiet.{pipe_of_file, pipe_of_open, pipe_of_target}
+use Rattle.kernel_spec.specs.others.Quiet.{pipe_of_target}
+use Rattle.kernel_spec.proofs.steps.SeenByParts.{pipe_of_file, pipe_of_open, descriptor_at, descriptor_on}
 use Rattle.kernel_spec.proofs.steps.LeastPasses.{least_passes}
 use Rattle.kernel_spec.proofs.steps.NamesAreChosenAgain.{choice, named_at}
 use Rattle.kernel_spec.proofs.steps.OnePipeChanges.{numbered_set, named_change}
@@ -62,7 +63,7 @@ module _ (s : State) (old : Live) (i k : ℕ) (y : Pipe) (names : least_on_pipe 
   name j = choice (λ d. pipe_name (T d)) j
 
   name_i : name i ≡ k
-  name_i = ap (λ (o : Option ℕ). or_else o i) names
+  name_i = ap (λ (o : Option ℕ). unwrap_or o i) names
 
   k_below : k < NOFILE
   k_below = (least_passes NOFILE (λ d. is_this i (pipe_name (T d))) k names).1

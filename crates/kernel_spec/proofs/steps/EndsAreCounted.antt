@@ -16,10 +16,11 @@ use Rattle.file_table.specs.declared.open_file.Target.{Target}
 use Rattle.file_table.specs.declared.open_file.Target.TheVariants.{Console as Terminal, Program as File, Pipe as Pipe_end}
 use Rattle.kernel_spec.specs.views.Processes.{Live}
 use Rattle.kernel_spec.specs.views.State.{State}
-use Rattle.kernel_spec.specs.views.View.{numbered, descriptor_at, descriptor_on}
+use Rattle.kernel_spec.specs.views.View.{numbered}
 use Rattle.kernel_spec.specs.rows.Tables.{on_end, is_end}
-use Rattle.kernel_spec.specs.steps.Updates.{more_at, more_on, more_on_all}
-use Rattle.kernel_spec.specs.others.Quiet.{pipe_of_file, pipe_of_open, pipe_of_target, end_of, target_of_open}
+use Rattle.kernel_spec.specs.steps.Updates.{more_at, more_on, more_on_all, end_of, target_of_open}
+use Rattle.kernel_spec.specs.others.Quiet.{pipe_of_target}
+use Rattle.kernel_spec.proofs.steps.SeenByParts.{pipe_of_file, pipe_of_open, descriptor_at, descriptor_on}
 use Rattle.kernel_spec.proofs.steps.MapsAfterChange.{get_at}
 use Rattle.kernel_spec.proofs.Common.{count_below-none}
 

@@ -13,14 +13,16 @@ use Rattle.kernel_spec.specs.views.State.{State, live, live_part}
 use Rattle.kernel_spec.specs.views.View.{View, view, view_of}
 use Rattle.kernel_spec.specs.steps.Own.{Own, Answer, Called, goes_on, gone_with}
 use Rattle.kernel_spec.specs.rows.Calls.{fork, gone, wait, least_zombie}
-use Rattle.kernel_spec.specs.others.Quiet.{file_at, pipe_at, file_of, pipe_of_file, pipe_of_open}
+use Rattle.kernel_spec.specs.others.Quiet.{file_at, pipe_at}
+use Rattle.kernel_spec.proofs.steps.SeenByParts.{file_of, pipe_of_file, pipe_of_open}
 use Rattle.kernel_spec.proofs.steps.OthersTableIsSeen.{OtherNames}
 use Rattle.kernel_spec.specs.steps.Updates.{forking, forked_child, forked_state, gone_state, waited_state, waited, kill_state, killer, own_state, marked, orphan, orphans, given_to}
 use Rattle.kernel_spec.specs.views.Words.{is_this}
 use Rattle.kernel_spec.specs.rows.Buffers.{writable_now}
 use Rattle.kernel_spec.specs.views.WellFormed.{WellFormed}
 use Rattle.kernel_spec.specs.runs.Run.{FilesAfter, IsNewbornOf}
-use Rattle.kernel_spec.specs.laws.RowLaws.{After, FilesLeft, GoneLaw, ReapLaw}
+use Rattle.kernel_spec.specs.laws.RowLaws.{GoneLaw, ReapLaw}
+use Rattle.kernel_spec.specs.steps.Cases.{After, FilesLeft}
 use Rattle.kernel_spec.proofs.steps.MapsAfterChange.{get_same, get_other, get_without}
 use Rattle.kernel_spec.proofs.steps.ViewsAfterSetLive.{live-set_live_there}
 use Rattle.kernel_spec.proofs.steps.StateAfterIsTold.{files_after, state_after}

@@ -1,6 +1,6 @@
 -- The laws of the rows on pipes and programs' files, and of those that open a file or make a pipe.
 use Rattle.std.proofs.Common.{◌≡◌, ◌≢◌, ℕ, ◌<◌, ◌-◌, ◌++◌, length, take, Bool, true, false, cond, not, refl, ap, sym, ◌∙◌, subst, inl, inr}
-use Rattle.std.specs.Prelude.{Option, None, Some, ℤ, pos}
+use Rattle.std.specs.Prelude.{Option, None, Some, ℤ, pos, unwrap_or}
 use Rattle.std.specs.FinMap.{FinMap, get, insert}
 use Rattle.std.specs.Ordering.{nat_cmp}
 use Rattle.std.proofs.lemmas.Bool.Decides.{eqb_tells}
@@ -22,13 +22,15 @@ use Rattle.kernel_spec.specs.rows.Buffers.{writable, writable_now}
 use Rattle.kernel_spec.specs.views.PipeEnds.{there, has_bytes}
 use Rattle.kernel_spec.specs.views.Processes.{Alive, Live}
 use Rattle.kernel_spec.specs.views.State.{State, live_part}
-use Rattle.kernel_spec.specs.views.View.{View, view_of, named, numbered, or_else, least_on_file, Shown_pipe, show, shown_pipe_name, in_use}
+use Rattle.kernel_spec.specs.views.View.{View, view_of, named, numbered, least_on_file, Shown_pipe, show, shown_pipe_name, in_use}
 use Rattle.kernel_spec.specs.steps.Own.{Own, Answer, Called, Blocked, goes_on, gone_with}
 use Rattle.kernel_spec.specs.rows.Calls.{with_a0, done, waits, read, write}
 use Rattle.kernel_spec.specs.rows.Tables.{change_pipe}
-use Rattle.kernel_spec.specs.others.Quiet.{file_at, pipe_of_file, pipe_of_open, pipe_of_target}
+use Rattle.kernel_spec.specs.others.Quiet.{file_at, pipe_of_target}
+use Rattle.kernel_spec.proofs.steps.SeenByParts.{pipe_of_file, pipe_of_open}
 use Rattle.kernel_spec.specs.steps.Updates.{changed_state, own_state, piped_state, filed_state, with_answer, in_call, with_named, with_bytes}
-use Rattle.kernel_spec.specs.laws.RowLaws.{After, OnPipe, IsBuffer, PipeReadLaw, now_moved, written, PipeWriteLaw, NobodyNames, NobodyHas}
+use Rattle.kernel_spec.specs.laws.RowLaws.{PipeReadLaw, PipeWriteLaw}
+use Rattle.kernel_spec.specs.steps.Cases.{After, OnPipe, IsBuffer, now_moved, written, NobodyNames, NobodyHas}
 use Rattle.kernel_spec.proofs.steps.NamesAreChosenAgain.{name_of_file}
 use Rattle.kernel_spec.proofs.steps.MapsAfterChange.{get_same, get_other}
 use Rattle.kernel_spec.proofs.steps.TableTells.{own_table_tells}
@@ -69,9 +71,9 @@ module _ (s : State) (p : ℕ) (l : Live) (c : Call) (d i k n : ℕ) (end : End)
       ∙ ap (read_on c (view_of s p l)) (pipes.the_descriptor s p l d i k end x on)
       ∙ ap (λ (b : Bool). unless (not b) c (view_of s p l)
       (λ _. moving c (view_of s p l) (writable l.image c.a1 (length_of_int (c_int c.a2))) (c_int c.a2)
-      (λ m. read_from c (view_of s p l) m (or_else (least_on_file (numbered s l) on.file) on.file) (Shown_pipe k end x)))) reads
+      (λ m. read_from c (view_of s p l) m (unwrap_or (least_on_file (numbered s l) on.file) on.file) (Shown_pipe k end x)))) reads
       ∙ ap (λ (z : ℤ). moving c (view_of s p l) (writable l.image c.a1 (length_of_int z)) z
-      (λ m. read_from c (view_of s p l) m (or_else (least_on_file (numbered s l) on.file) on.file) (Shown_pipe k end x))) buffer.0
+      (λ m. read_from c (view_of s p l) m (unwrap_or (least_on_file (numbered s l) on.file) on.file) (Shown_pipe k end x))) buffer.0
       ∙ ap (λ (b : Bool). unless_nothing b c (view_of s p l) (λ _. unless (not (writable l.image c.a1 n)) c (view_of s p l) (λ _. read_pipe c (view_of s p l) k x n))) buffer.1
       ∙ ap (λ (b : Bool). unless (not b) c (view_of s p l) (λ _. read_pipe c (view_of s p l) k x n)) (now-writable l.image c.a1 n buffer.2)
 

@@ -1,7 +1,7 @@
 -- A read from a program's file: it is the step that its row tells.
 use Rattle.std.proofs.Common.{◌≡◌, ℕ, ◌<◌, ◌+◌, length, Bool, true, false, cond, List, refl, ap, sym, ◌∙◌, inl, inr}
 use Rattle.std.proofs.Math.Path.{fun_ext}
-use Rattle.std.specs.Prelude.{Option, None, Some, pos, option_map, nat_eq, nat_lt}
+use Rattle.std.specs.Prelude.{Option, None, Some, pos, option_map, nat_eq, nat_lt, unwrap_or}
 use Rattle.std.specs.FinMap.{get, insert}
 use Rattle.std.proofs.lemmas.Bool.{ltb-true}
 use Rattle.std.proofs.lemmas.Bool.Decides.{eqb_tells}
@@ -15,11 +15,12 @@ use Rattle.kernel_spec.specs.views.Processes.{Alive, Live}
 use Rattle.proc_table.specs.declared.process.Call.{Call}
 use Rattle.kernel_spec.specs.views.State.{State, live_part}
 use Rattle.kernel_spec.specs.views.View.{View, Descriptors, Descriptor, Shown, Shown_terminal, Shown_file, Shown_pipe, named, numbered}
-use Rattle.kernel_spec.specs.views.View.{rename, rename_shown, or_else, file_name, pipe_name, descriptor_at, descriptor_on, view_of, shown_pipe_name}
+use Rattle.kernel_spec.specs.views.View.{rename, rename_shown, file_name, pipe_name, view_of, shown_pipe_name}
 use Rattle.kernel_spec.specs.steps.Own.{Called, goes_on}
 use Rattle.kernel_spec.specs.rows.Tables.{advance, advanced, advance_shown}
 use Rattle.kernel_spec.specs.rows.Calls.{with_a0}
-use Rattle.kernel_spec.specs.others.Quiet.{file_at, file_of}
+use Rattle.kernel_spec.specs.others.Quiet.{file_at}
+use Rattle.kernel_spec.proofs.steps.SeenByParts.{file_of, descriptor_at, descriptor_on}
 use Rattle.kernel_spec.specs.steps.Updates.{changed_state}
 use Rattle.kernel_spec.proofs.steps.MapsAfterChange.{get_at, get_other}
 use Rattle.kernel_spec.proofs.steps.OthersTableIsSeen.{Spares, kind}
@@ -65,7 +66,7 @@ module _ (t : Descriptors) (f d n : ℕ) (below : d < NOFILE) (on : file_name (t
   renamed_shown : (x : Shown) → rename_shown u x ≡ rename_shown t x
   renamed_shown Shown_terminal = refl
   renamed_shown (Shown_file program offset) = refl
-  renamed_shown (Shown_pipe j end pipe) = λ i. Shown_pipe (or_else (least_pipe j i) j) end pipe
+  renamed_shown (Shown_pipe j end pipe) = λ i. Shown_pipe (unwrap_or (least_pipe j i) j) end pipe
 
   advance_renamed : (x : Shown) → rename_shown t (advance_shown n x) ≡ advance_shown n (rename_shown t x)
   advance_renamed Shown_terminal = refl
@@ -73,7 +74,7 @@ module _ (t : Descriptors) (f d n : ℕ) (below : d < NOFILE) (on : file_name (t
   advance_renamed (Shown_pipe j end pipe) = refl
 
   renamed : (x : Descriptor) → rename u x ≡ rename t x
-  renamed x = λ i. record x { file = or_else (least_file x.file i) x.file; shown = renamed_shown x.shown i }
+  renamed x = λ i. record x { file = unwrap_or (least_file x.file i) x.file; shown = renamed_shown x.shown i }
 
   cases : (x : Descriptor) (b : Bool) → option_map (rename u) (cond b (Some (record x { shown = advance_shown n x.shown })) (Some x)) ≡ cond b
       (Some (record (rename t x) { shown = advance_shown n (rename t x).shown })) (Some (rename t x))

@@ -1,7 +1,7 @@
 -- Fork and exit change every pipe that the process names, by the number of its descriptors on each end.
 use Rattle.std.proofs.Common.{◌≡◌, ℕ, ◌<◌, Bool, true, false, cond, ◌&&◌, refl, ap, sym, ◌∙◌}
 use Rattle.std.proofs.Math.Path.{fun_ext}
-use Rattle.std.specs.Prelude.{Option, None, Some, option_map, nat_lt}
+use Rattle.std.specs.Prelude.{Option, None, Some, option_map, nat_lt, unwrap_or}
 use Rattle.std.proofs.lemmas.Bool.{ltb-true}
 use Rattle.xk_base.specs.declared.limits.TheConstants.{NOFILE}
 use Rattle.kernel_spec.specs.views.Words.{is_this}
@@ -10,7 +10,7 @@ use Rattle.pipe_core.specs.Pipe.{Pipe}
 use Rattle.file_table.specs.declared.open_file.End.{End}
 use Rattle.file_table.specs.declared.open_file.End.TheVariants.{Reading, Writing}
 use Rattle.kernel_spec.specs.views.PipeEnds.{joined, parted}
-use Rattle.kernel_spec.specs.views.View.{Descriptors, Descriptor, Shown, Shown_terminal, Shown_file, Shown_pipe, named, rename, rename_shown, or_else, pipe_name, shown_pipe_name}
+use Rattle.kernel_spec.specs.views.View.{Descriptors, Descriptor, Shown, Shown_terminal, Shown_file, Shown_pipe, named, rename, rename_shown, pipe_name, shown_pipe_name}
 use Rattle.kernel_spec.specs.rows.Tables.{change_pipes, changed, change_shown, ends, on_end, shown_on_end, is_end, doubled, all_closed}
 use Rattle.kernel_spec.proofs.steps.OnePipeChanges.{file_name_kept, pipe_name_kept}
 use Rattle.kernel_spec.proofs.steps.NamesAreChosenAgain.{same_names, choice, named_at}
@@ -23,12 +23,12 @@ module _ (t : Descriptors) (f g : ℕ → Pipe → Pipe) (agree : (d j : ℕ) �
   shown_changes d below Shown_terminal on = refl
   shown_changes d below (Shown_file program offset) on = refl
   shown_changes d below (Shown_pipe j end pipe) on =
-      λ i. Shown_pipe (or_else (least_below (λ e. is_this j (pipe_name_kept f (t e) i)) NOFILE) j) end (agree d j below on pipe i)
+      λ i. Shown_pipe (unwrap_or (least_below (λ e. is_this j (pipe_name_kept f (t e) i)) NOFILE) j) end (agree d j below on pipe i)
 
   place_changes : (d : ℕ) → d < NOFILE → (o : Option Descriptor) → t d ≡ o → option_map (rename (change_pipes f t)) (changed f o) ≡ changed g (option_map (rename t) o)
   place_changes d below None e = refl
   place_changes d below (Some x) e = λ i. Some (record x
-      { file = or_else (least_below (λ c. is_this x.file (file_name_kept f (t c) i)) NOFILE) x.file; shown = shown_changes d below x.shown (ap pipe_name e) i })
+      { file = unwrap_or (least_below (λ c. is_this x.file (file_name_kept f (t c) i)) NOFILE) x.file; shown = shown_changes d below x.shown (ap pipe_name e) i })
 
   range_changes : (d : ℕ) (b : Bool) → nat_lt d NOFILE ≡ b → cond b (option_map (rename (change_pipes f t)) (changed f (t d))) None ≡ changed g (cond b (option_map (rename t) (t d)) None)
   range_changes d true e = place_changes d (ltb-true d NOFILE e) (t d) refl

@@ -13,11 +13,12 @@ use Rattle.kernel_spec.specs.views.PipeEnds.{joined}
 use Rattle.kernel_spec.specs.views.Processes.{Process, Alive, Live, Child, Running, Status, Zombie, parent_of}
 use Rattle.proc_table.specs.declared.process.Call.{Call}
 use Rattle.kernel_spec.specs.views.State.{State, live, live_part}
-use Rattle.kernel_spec.specs.views.View.{View, named, numbered, descriptor_at, view, view_of, child_of, or_gone}
+use Rattle.kernel_spec.specs.views.View.{View, named, numbered, view, view_of, child_of, or_gone}
 use Rattle.kernel_spec.specs.steps.Own.{Own, Called, goes_on}
 use Rattle.kernel_spec.specs.rows.Tables.{doubled, ends}
 use Rattle.kernel_spec.specs.rows.Calls.{fork}
-use Rattle.kernel_spec.specs.others.Quiet.{pipe_at, pipe_of_file, file_of}
+use Rattle.kernel_spec.specs.others.Quiet.{pipe_at}
+use Rattle.kernel_spec.proofs.steps.SeenByParts.{pipe_of_file, file_of, descriptor_at}
 use Rattle.kernel_spec.specs.steps.Updates.{forking, forked_child, forked_state}
 use Rattle.kernel_spec.proofs.steps.MapsAfterChange.{get_at, get_same, get_other, keys_push}
 use Rattle.kernel_spec.proofs.steps.ViewsAfterSetLive.{same_child, same_keys, live-set_live_there}

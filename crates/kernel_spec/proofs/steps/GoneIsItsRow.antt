@@ -1,6 +1,7 @@
 -- A process that goes: it is the step that its row tells.
 use Rattle.std.proofs.Common.{◌≡◌, ◌≢◌, ℕ, ◌<◌, ◌≤◌, ◌+◌, ◌-◌, Bool, true, false, cond, ◌||◌, refl, ap, sym, ◌∙◌, subst, inl, inr, arith}
 use Rattle.std.specs.Prelude.{Option, None, Some, ℤ, option_map, is_some, nat_eq}
+use Rattle.std.specs.Option.{option_or}
 use Rattle.std.specs.FinMap.{FinMap, get, keys}
 use Rattle.std.specs.Ordering.{nat_cmp}
 use Rattle.std.specs.Cmp.{nat_cmp_total}
@@ -19,7 +20,8 @@ use Rattle.kernel_spec.specs.views.View.{Descriptors, named, numbered, view, vie
 use Rattle.kernel_spec.specs.steps.Own.{Answer, gone_with}
 use Rattle.kernel_spec.specs.rows.Tables.{all_closed, ends}
 use Rattle.kernel_spec.specs.rows.Calls.{gone}
-use Rattle.kernel_spec.specs.others.Quiet.{pipe_at, pipe_of_file, file_of, seen_children, or_child, same_child}
+use Rattle.kernel_spec.specs.others.Quiet.{pipe_at, seen_children}
+use Rattle.kernel_spec.proofs.steps.SeenByParts.{pipe_of_file, file_of, same_child}
 use Rattle.kernel_spec.specs.steps.Updates.{gone_state, orphans, orphan, given_to}
 use Rattle.kernel_spec.proofs.steps.MapsAfterChange.{get_at, get_same, keys_insert}
 use Rattle.kernel_spec.proofs.steps.OthersTableIsSeen.{Tells, OtherHas, OtherNames}
@@ -51,45 +53,45 @@ turn a b = elim (eqb_tells a b) [
 pub not_this : (q p : ℕ) → q ≢ p → nat_eq p q ≡ false
 not_this q p h = elim (eqb_tells p q) [ inl g ↦ absurd (h (sym g.1)) | inr g ↦ g.0 ]
 
-nothing_more : (c : Option Child) (b : Bool) → c ≡ or_child c (cond b None None)
+nothing_more : (c : Option Child) (b : Bool) → c ≡ option_or c (cond b None None)
 nothing_more None true = refl
 nothing_more None false = refl
 nothing_more (Some x) b = refl
 
 orphan_child : (q p : ℕ) → q ≢ p → (b : Bool) (x : Process) → is_this p (parent_of x) ≡ b
-    → child_of q (Some (cond b (given_to 1 x) x)) ≡ or_child (child_of q (Some x)) (cond (nat_eq q 1) (child_of p (Some x)) None)
+    → child_of q (Some (cond b (given_to 1 x) x)) ≡ option_or (child_of q (Some x)) (cond (nat_eq q 1) (child_of p (Some x)) None)
 orphan_child q p other true (Alive l) e =
     let mine : l.parent ≡ Some p = this_is p l.parent e in
     (ap (λ (b : Bool). cond b (Some Running) None) (turn 1 q) ∙ given (nat_eq q 1))
-    ∙ (λ i. or_child (cond (sym (not_this q p other) i) (Some Running) None) (cond (nat_eq q 1) (cond (sym (eq-eqb p p refl) i) (Some Running) None) None))
-    ∙ (λ i. or_child (cond (is_this q (sym mine i)) (Some Running) None) (cond (nat_eq q 1) (cond (is_this p (sym mine i)) (Some Running) None) None))
+    ∙ (λ i. option_or (cond (sym (not_this q p other) i) (Some Running) None) (cond (nat_eq q 1) (cond (sym (eq-eqb p p refl) i) (Some Running) None) None))
+    ∙ (λ i. option_or (cond (is_this q (sym mine i)) (Some Running) None) (cond (nat_eq q 1) (cond (is_this p (sym mine i)) (Some Running) None) None))
   where
-    given : (b : Bool) → cond b (Some Running) None ≡ or_child None (cond b (Some Running) None)
+    given : (b : Bool) → cond b (Some Running) None ≡ option_or None (cond b (Some Running) None)
     given true = refl
     given false = refl
 orphan_child q p other true (Zombie parent status) e =
     let mine : parent ≡ Some p = this_is p parent e in
     (ap (λ (b : Bool). cond b (Some (Status status)) None) (turn 1 q) ∙ given (nat_eq q 1))
-    ∙ (λ i. or_child (cond (sym (not_this q p other) i) (Some (Status status)) None) (cond (nat_eq q 1) (cond (sym (eq-eqb p p refl) i) (Some (Status status)) None) None))
-    ∙ (λ i. or_child (cond (is_this q (sym mine i)) (Some (Status status)) None) (cond (nat_eq q 1) (cond (is_this p (sym mine i)) (Some (Status status)) None) None))
+    ∙ (λ i. option_or (cond (sym (not_this q p other) i) (Some (Status status)) None) (cond (nat_eq q 1) (cond (sym (eq-eqb p p refl) i) (Some (Status status)) None) None))
+    ∙ (λ i. option_or (cond (is_this q (sym mine i)) (Some (Status status)) None) (cond (nat_eq q 1) (cond (is_this p (sym mine i)) (Some (Status status)) None) None))
   where
-    given : (b : Bool) → cond b (Some (Status status)) None ≡ or_child None (cond b (Some (Status status)) None)
+    given : (b : Bool) → cond b (Some (Status status)) None ≡ option_or None (cond b (Some (Status status)) None)
     given true = refl
     given false = refl
 orphan_child q p other false (Alive l) e = nothing_more (child_of q (Some (Alive l))) (nat_eq q 1)
-    ∙ (λ i. or_child (child_of q (Some (Alive l))) (cond (nat_eq q 1) (cond (sym e i) (Some Running) None) None))
+    ∙ (λ i. option_or (child_of q (Some (Alive l))) (cond (nat_eq q 1) (cond (sym e i) (Some Running) None) None))
 orphan_child q p other false (Zombie parent status) e = nothing_more (child_of q (Some (Zombie parent status))) (nat_eq q 1)
-    ∙ (λ i. or_child (child_of q (Some (Zombie parent status))) (cond (nat_eq q 1) (cond (sym e i) (Some (Status status)) None) None))
+    ∙ (λ i. option_or (child_of q (Some (Zombie parent status))) (cond (nat_eq q 1) (cond (sym e i) (Some (Status status)) None) None))
 
 -- the child that is gone itself
 gone_child : (q p : ℕ) (parent : Option ℕ) (status : ℤ) → parent ≢ Some p
-    → cond (is_this q parent) (Some (Status status)) None ≡ or_child (same_child (cond (is_this q parent) (Some Running) None) (Status status))
+    → cond (is_this q parent) (Some (Status status)) None ≡ option_or (same_child (cond (is_this q parent) (Some Running) None) (Status status))
     (cond (nat_eq q 1) (cond (is_this p parent) (Some Running) None) None)
 gone_child q p parent status own = by (is_this q parent) (nat_eq q 1)
-    ∙ (λ i. or_child (same_child (cond (is_this q parent) (Some Running) None) (Status status))
+    ∙ (λ i. option_or (same_child (cond (is_this q parent) (Some Running) None) (Status status))
     (cond (nat_eq q 1) (cond (sym (this_is_not p parent own) i) (Some Running) None) None))
   where
-    by : (a b : Bool) → cond a (Some (Status status)) None ≡ or_child (same_child (cond a (Some Running) None) (Status status)) (cond b (cond false (Some Running) None) None)
+    by : (a b : Bool) → cond a (Some (Status status)) None ≡ option_or (same_child (cond a (Some Running) None) (Status status)) (cond b (cond false (Some Running) None) None)
     by true b = refl
     by false true = refl
     by false false = refl
@@ -139,25 +141,25 @@ module _ (s : State) (p : ℕ) (old : Live) (was : get s.processes p ≡ Some (A
   pub pids_after : keys after.processes ≡ keys s.processes
   pids_after = keys_insert nat_cmp_total (orphans p s).processes p (Zombie old.parent status) (ap is_some (get-orphans p s p ∙ ap (option_map (orphan p)) was)) ∙ keys-orphans p s
 
-  other_child : (q r : ℕ) → q ≢ p → (o : Option Process) → child_of q (option_map (orphan p) o) ≡ or_child (child_of q o) (cond (nat_eq q 1) (child_of p o) None)
+  other_child : (q r : ℕ) → q ≢ p → (o : Option Process) → child_of q (option_map (orphan p) o) ≡ option_or (child_of q o) (cond (nat_eq q 1) (child_of p o) None)
   other_child q r other None = nothing_more None (nat_eq q 1)
   other_child q r other (Some x) = orphan_child q p other (is_this p (parent_of x)) x refl
 
   children_after : (q r : ℕ) → q ≢ p
-      → child_of q (get after.processes r) ≡ or_child (cond (nat_eq r p) (same_child (child_of q (get s.processes r)) (Status status))
+      → child_of q (get after.processes r) ≡ option_or (cond (nat_eq r p) (same_child (child_of q (get s.processes r)) (Status status))
       (child_of q (get s.processes r))) (cond (nat_eq q 1) (child_of p (get s.processes r)) None)
   children_after q r other = ap (child_of q) (process_at r) ∙ elim (eqb_tells r p) [
     | inl h ↦
         let at_p : get s.processes r ≡ Some (Alive old) = ap (get s.processes) h.1 ∙ was in
         ap (λ (b : Bool). child_of q (cond b (Some (Zombie old.parent status)) (option_map (orphan p) (get s.processes r)))) h.0
         ∙ gone_child q p old.parent status can.parent
-        ∙ sym (ap (λ (b : Bool). or_child (cond b (same_child (child_of q (get s.processes r)) (Status status)) (child_of q (get s.processes r)))
+        ∙ sym (ap (λ (b : Bool). option_or (cond b (same_child (child_of q (get s.processes r)) (Status status)) (child_of q (get s.processes r)))
         (cond (nat_eq q 1) (child_of p (get s.processes r)) None)) h.0
-        ∙ ap (λ (o : Option Process). or_child (same_child (child_of q o) (Status status)) (cond (nat_eq q 1) (child_of p o) None)) at_p)
+        ∙ ap (λ (o : Option Process). option_or (same_child (child_of q o) (Status status)) (cond (nat_eq q 1) (child_of p o) None)) at_p)
     | inr h ↦
         ap (λ (b : Bool). child_of q (cond b (Some (Zombie old.parent status)) (option_map (orphan p) (get s.processes r)))) h.0
         ∙ other_child q r other (get s.processes r)
-        ∙ sym (ap (λ (b : Bool). or_child (cond b (same_child (child_of q (get s.processes r)) (Status status)) (child_of q (get s.processes r)))
+        ∙ sym (ap (λ (b : Bool). option_or (cond b (same_child (child_of q (get s.processes r)) (Status status)) (child_of q (get s.processes r)))
         (cond (nat_eq q 1) (child_of p (get s.processes r)) None)) h.0)
   ]
 

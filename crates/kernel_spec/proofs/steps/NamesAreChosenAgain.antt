@@ -1,7 +1,7 @@
 -- Names chosen anew from names that were chosen before are those chosen from the kernel's own numbers.
 use Rattle.std.proofs.Common.{◌≡◌, ℕ, ◌<◌, Bool, true, false, cond, refl, ap, sym, ◌∙◌, inl, inr, lt-ltb}
 use Rattle.std.proofs.Math.Path.{fun_ext}
-use Rattle.std.specs.Prelude.{Option, None, Some, option_map, nat_eq, nat_lt}
+use Rattle.std.specs.Prelude.{Option, None, Some, option_map, nat_eq, nat_lt, unwrap_or}
 use Rattle.std.proofs.lemmas.Bool.{eq-eqb, ltb-true}
 use Rattle.std.proofs.lemmas.Bool.Decides.{eqb_tells}
 use Rattle.xk_base.specs.declared.limits.TheConstants.{NOFILE}
@@ -11,14 +11,14 @@ use Rattle.xk_base.proofs.Least.{none_below}
 use Rattle.kernel_spec.specs.views.Processes.{Live}
 use Rattle.kernel_spec.specs.views.State.{State}
 use Rattle.kernel_spec.specs.views.View.{Descriptors, Descriptor, Shown, Shown_terminal, Shown_file, Shown_pipe, named, numbered}
-use Rattle.kernel_spec.specs.views.View.{rename, rename_shown, or_else, least_on_file, file_name, pipe_name, shown_pipe_name}
+use Rattle.kernel_spec.specs.views.View.{rename, rename_shown, least_on_file, file_name, pipe_name, shown_pipe_name}
 use Rattle.kernel_spec.specs.others.Quiet.{is_same}
 use Rattle.kernel_spec.proofs.steps.LeastPasses.{least_passes, least_congr}
 use Rattle.kernel_spec.proofs.Common.{this_is}
 
 -- the name that a live process has for its open file f
 abbrev pub name_of_file : State → Live → ℕ → ℕ
-name_of_file s l f = or_else (least_on_file (numbered s l) f) f
+name_of_file s l f = unwrap_or (least_on_file (numbered s l) f) f
 
 abbrev pub bare_shown : Shown → Shown
 bare_shown Shown_terminal = Shown_terminal
@@ -53,14 +53,14 @@ some_shown (Some d) = d.shown
 -- the least place with the name that place d has; d has it itself
 same_choice : (name : Descriptors → ℕ → Option ℕ) (t u : Descriptors) → ((d e : ℕ) → d < NOFILE → e < NOFILE → is_same (name t d) (name t e) ≡ is_same (name u d) (name u e))
     → (d m n : ℕ) → d < NOFILE → name t d ≡ Some m → name u d ≡ Some n
-    → or_else (least_below (λ e. is_this m (name t e)) NOFILE) m ≡ or_else (least_below (λ e. is_this n (name u e)) NOFILE) n
+    → unwrap_or (least_below (λ e. is_this m (name t e)) NOFILE) m ≡ unwrap_or (least_below (λ e. is_this n (name u e)) NOFILE) n
 same_choice name t u same d m n below isT isU =
     let one : least_below (λ e. is_this m (name t e)) NOFILE ≡ least_below (λ e. is_this n (name u e)) NOFILE =
     least_congr NOFILE (λ e. is_this m (name t e)) (λ e. is_this n (name u e))
     (λ e b. ap (λ (o : Option ℕ). is_same o (name t e)) (sym isT) ∙ same d e below b ∙ ap (λ (o : Option ℕ). is_same o (name u e)) isU) in
     chosen (least_below (λ e. is_this m (name t e)) NOFILE) (least_below (λ e. is_this n (name u e)) NOFILE) refl one
   where
-    chosen : (a b : Option ℕ) → least_below (λ e. is_this m (name t e)) NOFILE ≡ a → a ≡ b → or_else a m ≡ or_else b n
+    chosen : (a b : Option ℕ) → least_below (λ e. is_this m (name t e)) NOFILE ≡ a → a ≡ b → unwrap_or a m ≡ unwrap_or b n
     chosen (Some a) (Some b) e f = cc
     chosen (Some a) None e f = let no : ⊥ = cc in absurd no
     chosen None b e f =
@@ -135,10 +135,10 @@ module _ (t u : Descriptors) (alike : Alike t u) (k j : ℕ) (below : j < NOFILE
 -- ---- a named table is alike to the table it was named from
 
 abbrev pub choice : (ℕ → Option ℕ) → ℕ → ℕ
-choice name m = or_else (least_below (λ c. is_this m (name c)) NOFILE) m
+choice name m = unwrap_or (least_below (λ c. is_this m (name c)) NOFILE) m
 
 -- the place chosen for a name that some place has has the name
-pub choice_has : (name : ℕ → Option ℕ) (d m : ℕ) → d < NOFILE → name d ≡ Some m → (o : Option ℕ) → least_below (λ c. is_this m (name c)) NOFILE ≡ o → name (or_else o m) ≡ Some m
+pub choice_has : (name : ℕ → Option ℕ) (d m : ℕ) → d < NOFILE → name d ≡ Some m → (o : Option ℕ) → least_below (λ c. is_this m (name c)) NOFILE ≡ o → name (unwrap_or o m) ≡ Some m
 choice_has name d m below is None e =
     let fails : is_this m (name d) ≡ false = none_below (λ c. is_this m (name c)) NOFILE e d below in
     let passes : is_this m (name d) ≡ true = ap (is_this m) is ∙ eq-eqb m m refl in

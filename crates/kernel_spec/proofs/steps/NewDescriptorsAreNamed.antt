@@ -1,6 +1,6 @@
 -- New descriptors: open and pipe.
 use Rattle.std.proofs.Common.{◌≡◌, ◌≢◌, ℕ, ◌<◌, Bool, true, false, cond, refl, ap, sym, ◌∙◌, inl, inr}
-use Rattle.std.specs.Prelude.{Option, None, Some, option_map, nat_eq}
+use Rattle.std.specs.Prelude.{Option, None, Some, option_map, nat_eq, unwrap_or}
 use Rattle.std.proofs.lemmas.Bool.{eq-eqb}
 use Rattle.std.proofs.lemmas.Bool.Decides.{eqb_tells}
 use Rattle.std.proofs.lemmas.Option.{same_Some}
@@ -10,7 +10,7 @@ use Rattle.xk_base.specs.Words.{least_below}
 use Rattle.xk_base.proofs.Least.{none_below}
 use Rattle.pipe_core.specs.Pipe.{Pipe}
 use Rattle.file_table.specs.declared.open_file.End.TheVariants.{Reading, Writing}
-use Rattle.kernel_spec.specs.views.View.{Descriptors, Descriptor, Shown, Shown_terminal, Shown_file, Shown_pipe, named, file_name, pipe_name, shown_pipe_name, or_else}
+use Rattle.kernel_spec.specs.views.View.{Descriptors, Descriptor, Shown, Shown_terminal, Shown_file, Shown_pipe, named, file_name, pipe_name, shown_pipe_name}
 use Rattle.kernel_spec.specs.rows.Tables.{with_descriptor}
 use Rattle.kernel_spec.specs.others.Quiet.{is_same}
 use Rattle.kernel_spec.proofs.steps.LeastPasses.{least_passes}
@@ -122,7 +122,7 @@ module _ (t : Descriptors) (r w g h i : ℕ) (below_r : r < NOFILE) (below_w : w
   ]
 
   -- the new pipe is named by its reading end
-  new_name : (o : Option ℕ) → least_below (λ c. is_this i (pipe_name (first c))) NOFILE ≡ o → or_else o i ≡ r
+  new_name : (o : Option ℕ) → least_below (λ c. is_this i (pipe_name (first c))) NOFILE ≡ o → unwrap_or o i ≡ r
   new_name None e =
       let fails : is_this i (pipe_name (first r)) ≡ false = none_below (λ c. is_this i (pipe_name (first c))) NOFILE e r below_r in
       let passes : is_this i (pipe_name (first r)) ≡ true = ap (λ (d : Option Descriptor). is_this i (pipe_name d)) at_r ∙ eq-eqb i i refl in

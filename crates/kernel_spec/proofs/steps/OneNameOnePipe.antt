@@ -1,7 +1,7 @@
 -- In a view, descriptors on pipes of one name show one pipe.
 use Rattle.std.proofs.Common.{◌≡◌, ℕ, ◌<◌, Bool, true, false, cond, refl, ap, sym, ◌∙◌, subst}
 use Rattle.std.proofs.Math.Path.{fun_ext}
-use Rattle.std.specs.Prelude.{Option, None, Some, option_map, nat_eq, nat_lt}
+use Rattle.std.specs.Prelude.{Option, None, Some, option_map, nat_eq, nat_lt, unwrap_or}
 use Rattle.std.specs.FinMap.{get}
 use Rattle.std.proofs.lemmas.Bool.{eq-eqb, eqb-true, ltb-true}
 use Rattle.std.proofs.lemmas.Option.{same_Some}
@@ -16,7 +16,8 @@ use Rattle.kernel_spec.specs.views.Words.{is_this}
 use Rattle.kernel_spec.specs.views.Processes.{Live}
 use Rattle.kernel_spec.specs.views.State.{State}
 use Rattle.kernel_spec.specs.views.View.{Descriptors, Descriptor, Shown, Shown_terminal, Shown_file, Shown_pipe, named, numbered, rename}
-use Rattle.kernel_spec.specs.views.View.{or_else, or_gone, show, descriptor_at, descriptor_on, least_on_pipe, pipe_name, shown_pipe_name}
+use Rattle.kernel_spec.specs.views.View.{or_gone, show, least_on_pipe, pipe_name, shown_pipe_name}
+use Rattle.kernel_spec.proofs.steps.SeenByParts.{descriptor_at, descriptor_on}
 use Rattle.kernel_spec.specs.rows.Tables.{change_pipe, changed, change_shown}
 use Rattle.kernel_spec.proofs.steps.LeastPasses.{least_passes}
 use Rattle.kernel_spec.proofs.Common.{this_is}
@@ -39,7 +40,7 @@ module _ (s : State) (l : Live) where
   T = numbered s l
 
   -- the descriptor that names pipe i is on it
-  leads : (d i : ℕ) → d < NOFILE → pipe_name (T d) ≡ Some i → (o : Option ℕ) → least_on_pipe T i ≡ o → pipe_name (T (or_else o i)) ≡ Some i
+  leads : (d i : ℕ) → d < NOFILE → pipe_name (T d) ≡ Some i → (o : Option ℕ) → least_on_pipe T i ≡ o → pipe_name (T (unwrap_or o i)) ≡ Some i
   leads d i below on (Some k) is = this_is i (pipe_name (T k)) (least_passes NOFILE (λ e. is_this i (pipe_name (T e))) k is).0
   leads d i below on None is =
       let fails : is_this i (pipe_name (T d)) ≡ false = none_below (λ e. is_this i (pipe_name (T e))) NOFILE is d below in
@@ -54,7 +55,7 @@ module _ (s : State) (l : Live) where
   on_target d g r w Terminal below on name end x is = let no : ⊥ = cc in absurd no
   on_target d g r w (File program offset) below on name end x is = let no : ⊥ = cc in absurd no
   on_target d g r w (Pipe_end i e) below on name end x is =
-      let same : Shown_pipe (or_else (least_on_pipe T i) i) e (or_gone (get s.pipes i)) ≡ Shown_pipe name end x = same_Some _ _ is in
+      let same : Shown_pipe (unwrap_or (least_on_pipe T i) i) e (or_gone (get s.pipes i)) ≡ Shown_pipe name end x = same_Some _ _ is in
       (i, subst (λ (k : ℕ). pipe_name (T k) ≡ Some i) (ap name_in same) (leads d i below on (least_on_pipe T i) refl), sym (ap pipe_in same))
 
   on_file : (d g : ℕ) (o : Option OpenFile) → d < NOFILE → pipe_name (T d) ≡ pipe_name (descriptor_on s g o) → Shows (option_map (rename T) (descriptor_on s g o))

@@ -1,7 +1,7 @@
 -- One pipe changes: what names and views are then.
 use Rattle.std.proofs.Common.{◌≡◌, ℕ, ◌<◌, Bool, true, false, cond, refl, ap, sym, ◌∙◌, inl, inr}
 use Rattle.std.proofs.Math.Path.{fun_ext}
-use Rattle.std.specs.Prelude.{Option, None, Some, option_map, is_some, nat_eq, nat_lt}
+use Rattle.std.specs.Prelude.{Option, None, Some, option_map, is_some, nat_eq, nat_lt, unwrap_or}
 use Rattle.std.specs.FinMap.{get}
 use Rattle.std.proofs.lemmas.Bool.{eq-eqb, ltb-true}
 use Rattle.std.proofs.lemmas.Bool.Decides.{eqb_tells}
@@ -16,8 +16,9 @@ use Rattle.file_table.specs.declared.open_file.Target.TheVariants.{Console as Te
 use Rattle.kernel_spec.specs.views.Processes.{Live}
 use Rattle.kernel_spec.specs.views.State.{State}
 use Rattle.kernel_spec.specs.views.View.{Descriptors, Descriptor, Shown, Shown_terminal, Shown_file, Shown_pipe, named}
-use Rattle.kernel_spec.specs.views.View.{numbered, rename, rename_shown, or_else, or_gone, show, descriptor_at}
-use Rattle.kernel_spec.specs.views.View.{descriptor_on, least_on_pipe, least_on_file, file_name, pipe_name}
+use Rattle.kernel_spec.specs.views.View.{numbered, rename, rename_shown, or_gone, show}
+use Rattle.kernel_spec.proofs.steps.SeenByParts.{descriptor_at, descriptor_on}
+use Rattle.kernel_spec.specs.views.View.{least_on_pipe, least_on_file, file_name, pipe_name}
 use Rattle.kernel_spec.specs.rows.Tables.{change_pipe, changed, change_shown}
 use Rattle.kernel_spec.specs.steps.Updates.{set_pipe}
 use Rattle.kernel_spec.proofs.steps.MapsAfterChange.{get_at}
@@ -52,7 +53,7 @@ module _ (t : Descriptors) (i k : ℕ) (g : Pipe) (is : least_on_pipe t i ≡ So
   on_k = this_is i (pipe_name (t k)) (least_passes NOFILE (λ d. is_this i (pipe_name (t d))) k is).0
 
   -- a pipe that some descriptor is on is named k exactly if it is i
-  found : (j : ℕ) (o : Option ℕ) → least_on_pipe t j ≡ o → (d : ℕ) → d < NOFILE → pipe_name (t d) ≡ Some j → nat_eq (or_else o j) k ≡ nat_eq j i
+  found : (j : ℕ) (o : Option ℕ) → least_on_pipe t j ≡ o → (d : ℕ) → d < NOFILE → pipe_name (t d) ≡ Some j → nat_eq (unwrap_or o j) k ≡ nat_eq j i
   found j None e d below on =
       let no_pass : is_this j (pipe_name (t d)) ≡ false = none_below (λ x. is_this j (pipe_name (t x))) NOFILE e d below in
       let pass : is_this j (pipe_name (t d)) ≡ true = ap (is_this j) on ∙ eq-eqb j j refl in
@@ -75,12 +76,12 @@ module _ (t : Descriptors) (i k : ℕ) (g : Pipe) (is : least_on_pipe t i ≡ So
   shown_renamed d below Shown_terminal on = refl
   shown_renamed d below (Shown_file program offset) on = refl
   shown_renamed d below (Shown_pipe j end pipe) on =
-      λ x. Shown_pipe (or_else (least_pipe j x) j) end (cond (sym (found j (least_on_pipe t j) refl d below on) x) g pipe)
+      λ x. Shown_pipe (unwrap_or (least_pipe j x) j) end (cond (sym (found j (least_on_pipe t j) refl d below on) x) g pipe)
 
   renamed : (d : ℕ) → d < NOFILE → (o : Option Descriptor) → t d ≡ o
       → option_map (rename (change_pipe i g t)) (changed (λ n pipe. cond (nat_eq n i) g pipe) o) ≡ changed (λ n pipe. cond (nat_eq n k) g pipe) (option_map (rename t) o)
   renamed d below None e = refl
-  renamed d below (Some x) e = λ j. Some (record x { file = or_else (least_file x.file j) x.file; shown = shown_renamed d below x.shown (ap pipe_name e) j })
+  renamed d below (Some x) e = λ j. Some (record x { file = unwrap_or (least_file x.file j) x.file; shown = shown_renamed d below x.shown (ap pipe_name e) j })
 
   in_table : (d : ℕ) (b : Bool) → nat_lt d NOFILE ≡ b
       → cond b (option_map (rename (change_pipe i g t)) (change_pipe i g t d)) None ≡ changed (λ n pipe. cond (nat_eq n k) g pipe)

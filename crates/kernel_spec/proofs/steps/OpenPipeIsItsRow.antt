@@ -17,11 +17,12 @@ use Rattle.file_table.specs.declared.open_file.Target.TheVariants.{Console as Te
 use Rattle.kernel_spec.specs.views.Processes.{Alive, Live}
 use Rattle.proc_table.specs.declared.process.Call.{Call}
 use Rattle.kernel_spec.specs.views.State.{State, live_part}
-use Rattle.kernel_spec.specs.views.View.{Descriptors, Descriptor, Shown_pipe, named, numbered, descriptor_at, descriptor_on, show, or_gone, view_of, file_name, pipe_name, shown_pipe_name}
+use Rattle.kernel_spec.specs.views.View.{Descriptors, Descriptor, Shown_pipe, named, numbered, show, or_gone, view_of, file_name, pipe_name, shown_pipe_name}
 use Rattle.kernel_spec.specs.steps.Own.{Called, goes_on}
 use Rattle.kernel_spec.specs.rows.Tables.{with_descriptor}
 use Rattle.kernel_spec.specs.rows.Calls.{with_a0}
-use Rattle.kernel_spec.specs.others.Quiet.{file_at, file_of, pipe_at, pipe_of_file, pipe_of_open, pipe_of_target}
+use Rattle.kernel_spec.specs.others.Quiet.{file_at, pipe_at, pipe_of_target}
+use Rattle.kernel_spec.proofs.steps.SeenByParts.{file_of, pipe_of_file, pipe_of_open, descriptor_at, descriptor_on}
 use Rattle.kernel_spec.specs.steps.Updates.{changed_state}
 use Rattle.kernel_spec.proofs.steps.MapsAfterChange.{get_at, get_same, get_other}
 use Rattle.kernel_spec.proofs.steps.OthersTableIsSeen.{OtherNames, Tells, Spares, kind}

@@ -9,10 +9,13 @@ use Rattle.kernel_spec.specs.views.View.{View, Descriptor, Shown, Shown_terminal
 use Rattle.kernel_spec.specs.views.State.{State, live}
 use Rattle.kernel_spec.specs.steps.Own.{Own}
 use Rattle.kernel_spec.specs.steps.Step.{own}
-use Rattle.kernel_spec.specs.others.Quiet.{seen, seen_descriptor, left_at, meets_on_file, meets_on_pipe}
+use Rattle.kernel_spec.specs.others.Quiet.{seen, meets_on_file, meets_on_pipe}
+use Rattle.kernel_spec.proofs.steps.SeenByParts.{seen_descriptor, left_at}
 use Rattle.kernel_spec.specs.runs.Run.{World, Event, Run, Tick, Key, Send, Outcome, Turn, Idle, Step_of, Ticked}
 use Rattle.kernel_spec.specs.runs.Run.{Typed, Sent, Halted, Happens, RunHappens, TickHappens, KeyHappens, TurnTaken, StepOf, sent}
-use Rattle.kernel_spec.specs.laws.Worlds.{bare, IsStepOf, Others, OthersKeep}
+use Rattle.kernel_spec.specs.laws.Worlds.{OthersKeep}
+use Rattle.kernel_spec.specs.views.Shared.{bare}
+use Rattle.kernel_spec.specs.runs.Moments.{IsStepOf, Others}
 use Rattle.kernel_spec.proofs.steps.ViewIsSharedAndRest.{rest}
 
 bare_seen_shown : (f p : Option Descriptor) (file : ℕ) (read write : Bool) (x : Shown)

@@ -1,7 +1,7 @@
 -- What another process sees of a step: its table, where the step told the open files and the pipes that both name, and spared all others.
 use Rattle.std.proofs.Common.{◌≡◌, ◌≢◌, ℕ, ◌<◌, Bool, true, false, cond, refl, ap, sym, ◌∙◌}
 use Rattle.std.proofs.Math.Path.{fun_ext}
-use Rattle.std.specs.Prelude.{Option, None, Some, option_map, nat_eq, nat_lt}
+use Rattle.std.specs.Prelude.{Option, None, Some, option_map, nat_eq, nat_lt, unwrap_or}
 use Rattle.std.specs.FinMap.{get}
 use Rattle.std.proofs.lemmas.Bool.{eqb-true, eq-eqb}
 use Rattle.xk_base.specs.declared.limits.TheConstants.{NOFILE}
@@ -14,10 +14,11 @@ use Rattle.file_table.specs.declared.open_file.Target.{Target}
 use Rattle.file_table.specs.declared.open_file.Target.TheVariants.{Console as Terminal, Program as File, Pipe as Pipe_end}
 use Rattle.kernel_spec.specs.views.Processes.{Live}
 use Rattle.kernel_spec.specs.views.State.{State, live}
-use Rattle.kernel_spec.specs.views.View.{Descriptors, Descriptor, Shown_file, Shown_pipe, named, numbered, rename, rename_shown, descriptor_at}
-use Rattle.kernel_spec.specs.views.View.{descriptor_on, show, or_gone, or_else, least_on_file, least_on_pipe, file_name, pipe_name}
-use Rattle.kernel_spec.specs.others.Quiet.{file_at, pipe_at, file_of, pipe_of_file, pipe_of_open, pipe_of_target, is_same, meets_on_file}
-use Rattle.kernel_spec.specs.others.Quiet.{meets_on_pipe, left_at, offset_left, pipe_left, seen_shown, seen_descriptor, seen_table}
+use Rattle.kernel_spec.specs.views.View.{Descriptors, Descriptor, Shown_file, Shown_pipe, named, numbered, rename, rename_shown}
+use Rattle.kernel_spec.specs.views.View.{show, or_gone, least_on_file, least_on_pipe, file_name, pipe_name}
+use Rattle.kernel_spec.specs.others.Quiet.{file_at, pipe_at, pipe_of_target, is_same, meets_on_file}
+use Rattle.kernel_spec.proofs.steps.SeenByParts.{file_of, pipe_of_file, pipe_of_open, left_at, offset_left, pipe_left, seen_descriptor, descriptor_at, descriptor_on}
+use Rattle.kernel_spec.specs.others.Quiet.{meets_on_pipe, seen_shown, seen_table}
 use Rattle.kernel_spec.proofs.steps.LeastPasses.{least_passes}
 
 -- another process than p names the open file, is on the pipe
@@ -168,7 +169,7 @@ module _ (s t : State) (p q : ℕ) (left : Descriptors) (told : Tells s t p left
       let on : pipe_at s q d ≡ Some j = ap (pipe_of_file s) here ∙ ap pipe_of_open was in
       let left_x : pipe_left (or_gone (get s.pipes j)) (left_at left (meets_on_pipe s p q d)) ≡ or_gone (get t.pipes j) =
       pipe_met d j (or_gone (get s.pipes j)) on (meets_on_pipe s p q d) refl refl in
-      (λ i. Shown_pipe (or_else (sym (same_least_pipe j) i) j) e (left_x i)) ∙ (λ i. Shown_pipe (or_else (least_on_pipe (numbered t m) (same i)) (same i)) (end i) (or_gone (get t.pipes (same i))))
+      (λ i. Shown_pipe (unwrap_or (sym (same_least_pipe j) i) j) e (left_x i)) ∙ (λ i. Shown_pipe (unwrap_or (least_on_pipe (numbered t m) (same i)) (same i)) (end i) (or_gone (get t.pipes (same i))))
   shown_case d f r w r' w' Terminal (File h k) here was becomes kind = let no : ⊥ = cc in absurd no
   shown_case d f r w r' w' Terminal (Pipe_end k g) here was becomes kind = let no : ⊥ = cc in absurd no
   shown_case d f r w r' w' (File g n) Terminal here was becomes kind = let no : ⊥ = cc in absurd no
@@ -186,7 +187,7 @@ module _ (s t : State) (p q : ℕ) (left : Descriptors) (told : Tells s t p left
       let writes : a.write ≡ b.write = sym (ap write_of kinds) in
       let starts : start_target b.target ≡ start_target a.target = ap target_of kinds in
       let shows = shown_case d f a.read a.write b.read b.write a.target b.target here was becomes starts in
-      λ i. Some (record { file = or_else (sym (same_least_file f) i) f; read = reads i; write = writes i; shown = shows i })
+      λ i. Some (record { file = unwrap_or (sym (same_least_file f) i) f; read = reads i; write = writes i; shown = shows i })
 
   number_case : (d : ℕ) (o : Option ℕ) → get m.descriptors d ≡ o
       → seen_descriptor (f_met d) (p_met d) (option_map (rename (numbered s m)) (descriptor_at s o)) ≡ option_map (rename (numbered t m)) (descriptor_at t o)

@@ -8,7 +8,8 @@ use Rattle.kernel_spec.specs.views.Processes.{Live}
 use Rattle.kernel_spec.specs.views.State.{State, live}
 use Rattle.kernel_spec.specs.views.View.{View, view, view_of}
 use Rattle.kernel_spec.specs.runs.Run.{World, Event, Run, Tick, Key, Send, Outcome, Turn, Idle, Step_of, Ticked, Typed, Sent, Halted, Happens, RunHappens, TickHappens, KeyHappens, TurnTaken, sent}
-use Rattle.kernel_spec.specs.laws.Worlds.{OutsideSteps, HaltedStays, seen_outside}
+use Rattle.kernel_spec.specs.laws.Worlds.{OutsideSteps, HaltedStays}
+use Rattle.kernel_spec.specs.runs.Outside.{seen_outside}
 use Rattle.kernel_spec.proofs.steps.OthersKeepTheRest.{clock_view, console_view}
 
 clock_is : (s : State) (p : ℕ) (o : Option Live) (v : View) → option_map (view_of s p) o ≡ Some v → v.clock ≡ s.clock

@@ -9,9 +9,10 @@ use Rattle.file_table.specs.declared.open_file.Target.{Target}
 use Rattle.file_table.specs.declared.open_file.Target.TheVariants.{Console as Terminal, Program as File, Pipe as Pipe_end}
 use Rattle.kernel_spec.specs.views.Processes.{Live}
 use Rattle.kernel_spec.specs.views.State.{State, live}
-use Rattle.kernel_spec.specs.views.View.{Descriptors, Shown_pipe, named, numbered, rename, rename_shown, descriptor_at, descriptor_on, show, or_gone}
+use Rattle.kernel_spec.specs.views.View.{Descriptors, Shown_pipe, named, numbered, rename, rename_shown, show, or_gone}
 use Rattle.kernel_spec.specs.rows.Tables.{change_pipes, changed, change_shown}
-use Rattle.kernel_spec.specs.others.Quiet.{file_at, pipe_at, file_of, pipe_of_file, pipe_of_open, pipe_of_target, offset_left, pipe_left, shown_offset, shown_pipe}
+use Rattle.kernel_spec.specs.others.Quiet.{file_at, pipe_at, pipe_of_target}
+use Rattle.kernel_spec.proofs.steps.SeenByParts.{file_of, pipe_of_file, pipe_of_open, offset_left, pipe_left, shown_offset, shown_pipe, descriptor_at, descriptor_on}
 use Rattle.kernel_spec.proofs.steps.OthersTableIsSeen.{OtherNames, OtherHas, Tells, Spares, open_offset, target_offset, kind}
 use Rattle.kernel_spec.proofs.steps.NamesAreChosenAgain.{named_at}
 

@@ -1,6 +1,6 @@
 -- One pipe changes, and a write to a pipe.
 use Rattle.std.proofs.Common.{◌≡◌, ℕ, ◌+◌, ◌-◌, Bool, true, false, cond, not, refl, ap, sym, ◌∙◌, lt-ltb}
-use Rattle.std.specs.Prelude.{Option, None, Some, ℤ, pos, option_map, nat_eq, nat_le}
+use Rattle.std.specs.Prelude.{Option, None, Some, ℤ, pos, option_map, nat_eq, nat_le, unwrap_or}
 use Rattle.std.specs.FinMap.{insert}
 use Rattle.xk_base.specs.declared.limits.TheConstants.{NOFILE}
 use Rattle.rv64i_core.specs.Registers.{Registers}
@@ -14,12 +14,13 @@ use Rattle.file_table.specs.declared.open_file.OpenFile.{OpenFile}
 use Rattle.kernel_spec.specs.views.Processes.{Live}
 use Rattle.proc_table.specs.declared.process.Call.{Call}
 use Rattle.kernel_spec.specs.views.State.{State, live_part}
-use Rattle.kernel_spec.specs.views.View.{View, Shown_pipe, named, numbered, rename, or_else, or_gone, descriptor_at, descriptor_on, least_on_file, view_of, in_use}
+use Rattle.kernel_spec.specs.views.View.{View, Shown_pipe, named, numbered, rename, or_gone, least_on_file, view_of, in_use}
 use Rattle.kernel_spec.specs.steps.Own.{Called, Blocked, goes_on}
 use Rattle.kernel_spec.specs.rows.Tables.{change_pipe}
 use Rattle.kernel_spec.specs.rows.Calls.{write, done, waits, with_a0, done_at, next_bytes}
-use Rattle.kernel_spec.specs.others.Quiet.{pipe_at, pipe_of_file, file_of, pipe_of_open}
-use Rattle.kernel_spec.specs.laws.RowLaws.{OnPipe}
+use Rattle.kernel_spec.specs.others.Quiet.{pipe_at}
+use Rattle.kernel_spec.proofs.steps.SeenByParts.{pipe_of_file, file_of, pipe_of_open, descriptor_at, descriptor_on}
+use Rattle.kernel_spec.specs.steps.Cases.{OnPipe}
 use Rattle.kernel_spec.specs.steps.Updates.{changed_state}
 use Rattle.kernel_spec.proofs.steps.MapsAfterChange.{get_other}
 use Rattle.kernel_spec.proofs.steps.OthersTableIsSeen.{Spares}
@@ -30,17 +31,18 @@ use Rattle.kernel_spec.proofs.rows.RowsByParts.{write_same}
 
 module _ (s : State) (p : ℕ) (old : Live) (d i k : ℕ) (end : End) (x : Pipe) (on : OnPipe s p old d i k end x) where
   -- as p sees it
-  pub the_descriptor : (view_of s p old).descriptors d ≡ Some (record { file = or_else (least_on_file (numbered s old) on.file) on.file; read = on.read; write = on.write; shown = Shown_pipe k end x })
+  pub the_descriptor : (view_of s p old).descriptors d
+      ≡ Some (record { file = unwrap_or (least_on_file (numbered s old) on.file) on.file; read = on.read; write = on.write; shown = Shown_pipe k end x })
   unfolding view_of named
   the_descriptor =
       ap (λ (b : Bool). cond b (option_map (rename (numbered s old)) (numbered s old d)) None) (lt-ltb d NOFILE on.below)
       ∙ ap (λ (o : Option ℕ). option_map (rename (numbered s old)) (descriptor_at s o)) on.named_file
       ∙ ap (λ (o : Option OpenFile). option_map (rename (numbered s old)) (descriptor_on s on.file o)) on.opened
       ∙ (λ j. Some (record {
-        file = or_else (least_on_file (numbered s old) on.file) on.file;
+        file = unwrap_or (least_on_file (numbered s old) on.file) on.file;
         read = on.read;
         write = on.write;
-        shown = Shown_pipe (or_else (on.names j) i) end (or_gone (on.pipe j));
+        shown = Shown_pipe (unwrap_or (on.names j) i) end (or_gone (on.pipe j));
       }))
 
   on_pipe : pipe_at s p d ≡ Some i

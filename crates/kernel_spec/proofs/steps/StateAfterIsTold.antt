@@ -6,9 +6,10 @@ use Rattle.std.proofs.lemmas.Option.{same_Some}
 use Rattle.kernel_spec.specs.views.State.{State}
 use Rattle.kernel_spec.specs.views.View.{View, view}
 use Rattle.kernel_spec.specs.steps.Own.{Own}
-use Rattle.kernel_spec.specs.others.Quiet.{file_at, pipe_at, pipe_of_file}
+use Rattle.kernel_spec.specs.others.Quiet.{file_at, pipe_at}
+use Rattle.kernel_spec.proofs.steps.SeenByParts.{pipe_of_file}
 use Rattle.kernel_spec.specs.runs.Run.{FilesAfter, StateAfter, IsNewbornOf}
-use Rattle.kernel_spec.specs.laws.RowLaws.{NobodyNames, NobodyHas}
+use Rattle.kernel_spec.specs.steps.Cases.{NobodyNames, NobodyHas}
 use Rattle.kernel_spec.proofs.steps.TableTells.{Leaves, quiet_from}
 
 -- process p names the open file already, or it is new, and so is its pipe, if it is an end of one

@@ -13,8 +13,9 @@ use Rattle.file_table.specs.declared.open_file.Target.TheVariants.{Console as Te
 use Rattle.kernel_spec.specs.views.Processes.{Live}
 use Rattle.kernel_spec.specs.views.State.{State, live}
 use Rattle.kernel_spec.specs.steps.Own.{Own, gone_with}
-use Rattle.kernel_spec.specs.views.View.{View, Descriptors, named, numbered, rename, rename_shown, descriptor_at, descriptor_on, show, or_gone, view, view_of, child_of}
-use Rattle.kernel_spec.specs.others.Quiet.{file_at, file_of, pipe_of_file, pipe_of_open, pipe_of_target, offset_left, pipe_left, shown_offset, shown_pipe, seen, seen_children, Quiet}
+use Rattle.kernel_spec.specs.views.View.{View, Descriptors, named, numbered, rename, rename_shown, show, or_gone, view, view_of, child_of}
+use Rattle.kernel_spec.specs.others.Quiet.{file_at, pipe_of_target, seen, seen_children, Quiet}
+use Rattle.kernel_spec.proofs.steps.SeenByParts.{file_of, pipe_of_file, pipe_of_open, offset_left, pipe_left, shown_offset, shown_pipe, descriptor_at, descriptor_on}
 use Rattle.kernel_spec.proofs.steps.OthersTableIsSeen.{open_offset, target_offset, kind, Tells, Spares, seen_table_is, kind_pipe}
 
 shown_offset_is : (t : State) (names : Descriptors) (n : ℕ) (x : Target) → shown_offset n (rename_shown names (show t x)) ≡ target_offset n x

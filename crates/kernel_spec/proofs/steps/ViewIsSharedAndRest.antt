@@ -3,7 +3,7 @@ use Rattle.std.proofs.Common.{◌≡◌, ℕ, Bool, false, [], refl, sym, ◌∙
 use Rattle.std.specs.Prelude.{Option, None, Some}
 use Rattle.console_core.specs.Lists.{empty_console}
 use Rattle.kernel_spec.specs.views.View.{View, Descriptor, Shown, Shown_terminal, Shown_file, Shown_pipe}
-use Rattle.kernel_spec.specs.laws.Worlds.{bare, Part, Offset, Content, shared_part, Shared, shared}
+use Rattle.kernel_spec.specs.views.Shared.{bare, Part, Offset, Content, shared_part, Shared, shared}
 
 -- what of a view is its own
 abbrev pub rest : View → View

@@ -16,7 +16,8 @@ use Rattle.kernel_spec.specs.views.Processes.{Process, Alive, Live, parent_of}
 use Rattle.kernel_spec.specs.views.State.{State, live}
 use Rattle.kernel_spec.specs.views.View.{numbered}
 use Rattle.kernel_spec.specs.rows.Tables.{ends, on_end}
-use Rattle.kernel_spec.specs.others.Quiet.{file_of, pipe_at, pipe_of_file, pipe_of_open, pipe_of_target}
+use Rattle.kernel_spec.specs.others.Quiet.{pipe_at, pipe_of_target}
+use Rattle.kernel_spec.proofs.steps.SeenByParts.{file_of, pipe_of_file, pipe_of_open}
 use Rattle.kernel_spec.specs.views.WellFormed.{WellFormed, over_all, on}
 use Rattle.kernel_spec.proofs.steps.OthersTableIsSeen.{OtherHas}
 use Rattle.kernel_spec.proofs.well.Sums.{sum_term, sum_terms}

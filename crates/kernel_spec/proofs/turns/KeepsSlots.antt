@@ -20,7 +20,8 @@ use Rattle.kernel_spec.specs.waking.Turns.{Turns, Sleeps, HasSlot, IsLowestFree}
 use Rattle.kernel_spec.specs.views.WellFormed.{HasSlots}
 use Rattle.kernel_spec.specs.runs.Run.{World, Event, Run, Tick, Key, Send, Outcome, Turn, Idle, Step_of, Ticked, Typed}
 use Rattle.kernel_spec.specs.runs.Run.{Sent, Halted, Happens, RunHappens, TickHappens, KeyHappens, TurnTaken, StepOf, IsNewbornOf, IsButWoken, stays_current}
-use Rattle.kernel_spec.specs.waking.Wakes.{TakesNearest, IsRunnable, IsNearest, SlotsStay}
+use Rattle.kernel_spec.specs.waking.Wakes.{TakesNearest, IsRunnable, IsNearest}
+use Rattle.kernel_spec.specs.laws.WakeLaws.{SlotsStay}
 use Rattle.kernel_spec.proofs.steps.OthersKeepTheRest.{pid_is}
 use Rattle.kernel_spec.proofs.rows.Pids.{has, own_sound}
 use Rattle.kernel_spec.proofs.Common.{view_pids}

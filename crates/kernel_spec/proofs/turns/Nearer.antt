@@ -5,7 +5,7 @@ use Rattle.proc_table.specs.Turns.{distance}
 use Rattle.proc_table.proofs.Turns.{nearer}
 use Rattle.kernel_spec.specs.waking.Turns.{HasSlot}
 use Rattle.kernel_spec.specs.runs.Run.{World, Turn, Outcome, RunHappens, TurnTaken}
-use Rattle.kernel_spec.specs.waking.Wakes.{ComesNearer, IsNear}
+use Rattle.kernel_spec.specs.laws.WakeLaws.{ComesNearer, IsNear}
 
 turn_taken : (w t : World) (o : Outcome) (halted : Option ℤ) (current : Option ℕ) → RunHappens w halted current o t → halted ≡ None → current ≡ None → TurnTaken w o t
 turn_taken w t o (Some status) current h e f = let no : ⊥ = cc in absurd no

@@ -11,7 +11,8 @@ use Rattle.kernel_spec.specs.waking.Turns.{Turns, HasSlot}
 use Rattle.kernel_spec.specs.views.WellFormed.{HasSlots}
 use Rattle.kernel_spec.specs.runs.Run.{World, Event, Run, Tick, Key, Send, Outcome, Turn, Idle, Step_of, Ticked}
 use Rattle.kernel_spec.specs.runs.Run.{Typed, Sent, Halted, Happens, RunHappens, TickHappens, KeyHappens, TurnTaken, StepOf, IsButWoken, stays_current}
-use Rattle.kernel_spec.specs.waking.Wakes.{TakesNearest, IsRunnable, IsPromised, is_turn, turns_taken, WaitsAtMost, TurnComes}
+use Rattle.kernel_spec.specs.waking.Wakes.{TakesNearest, IsRunnable, IsPromised, is_turn, turns_taken}
+use Rattle.kernel_spec.specs.laws.WakeLaws.{WaitsAtMost, TurnComes}
 use Rattle.kernel_spec.proofs.waking.NoLost.{stays_runnable, ready_may_run}
 use Rattle.kernel_spec.proofs.turns.Nearer.{comes_nearer, is_near}
 use Rattle.kernel_spec.proofs.well.FirstWell.{first_slots}

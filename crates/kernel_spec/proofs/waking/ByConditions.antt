@@ -9,7 +9,8 @@ use Rattle.kernel_spec.specs.waking.Ready.{ready}
 use Rattle.kernel_spec.specs.waking.Turns.{Sleeps}
 use Rattle.kernel_spec.specs.runs.Run.{World, Outcome, Ticked}
 use Rattle.kernel_spec.specs.waking.Wakes.{NoReadySleeper, IsInCall, IsEnd}
-use Rattle.kernel_spec.specs.waking.Conditions.{Condition, is_open, waits_for, WakesAnyway, WakesByConditions, ConditionsSuffice}
+use Rattle.kernel_spec.specs.waking.Conditions.{Condition, is_open, waits_for, WakesAnyway, WakesByConditions}
+use Rattle.kernel_spec.specs.laws.ConditionLaws.{ConditionsSuffice}
 use Rattle.kernel_spec.proofs.waking.Wakes.{ready_is, view_is}
 
 some_of : (o : Option Live) → IsSome o → (l : Live) × (o ≡ Some l)

@@ -19,10 +19,10 @@ use Rattle.kernel_spec.specs.views.State.{State, live, live_part}
 use Rattle.kernel_spec.specs.views.View.{child_of, or_gone}
 use Rattle.kernel_spec.specs.steps.Own.{Exited}
 use Rattle.kernel_spec.specs.rows.Calls.{Row, Fork, Exit, Wait, Pipe_row, Read, Kill, Exec, Dup, Getpid, Sbrk, Sleep, Uptime, Open, Write, Close, Sbrklazy, row_of}
-use Rattle.kernel_spec.specs.others.Quiet.{file_of, end_of, target_of_open}
-use Rattle.kernel_spec.specs.steps.Updates.{gone_state, given_to, orphan, orphans}
+use Rattle.kernel_spec.proofs.steps.SeenByParts.{file_of}
+use Rattle.kernel_spec.specs.steps.Updates.{gone_state, given_to, orphan, orphans, end_of, target_of_open}
 use Rattle.kernel_spec.specs.views.WellFormed.{WellFormed}
-use Rattle.kernel_spec.specs.laws.RowLaws.{IsLive, FilesLeft}
+use Rattle.kernel_spec.specs.steps.Cases.{IsLive, FilesLeft}
 use Rattle.kernel_spec.specs.waking.Conditions.{Condition, Nothing, Child_of, Bytes, Room, Time, Keys, Sending}
 use Rattle.kernel_spec.specs.waking.Conditions.{is_open, read_waits_for, write_waits_for, target_at, row_waits_for, call_waits_for, waits_for, MayOpenAtEnd}
 use Rattle.kernel_spec.specs.waking.SleepsOn.{is_for}

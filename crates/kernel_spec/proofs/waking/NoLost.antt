@@ -7,8 +7,9 @@ use Rattle.kernel_spec.specs.waking.Ready.{ready}
 use Rattle.kernel_spec.specs.waking.Turns.{Sleeps}
 use Rattle.kernel_spec.specs.runs.Run.{World, Event, Run, Tick, Key, Send, Outcome, Turn, Idle, Step_of, Ticked, Typed, Sent, Halted, Happens, RunHappens, TickHappens, KeyHappens, TurnTaken, StepOf}
 use Rattle.kernel_spec.specs.steps.Own.{Blocked}
-use Rattle.kernel_spec.specs.laws.Worlds.{IsStepOf}
-use Rattle.kernel_spec.specs.waking.Wakes.{NoReadySleeper, NoLostWakeUp, NeverLost, IsPromised, ReadyMayRun, FallsAsleepByItself, StaysRunnable}
+use Rattle.kernel_spec.specs.runs.Moments.{IsStepOf}
+use Rattle.kernel_spec.specs.waking.Wakes.{NoReadySleeper, IsPromised}
+use Rattle.kernel_spec.specs.laws.WakeLaws.{NoLostWakeUp, NeverLost, ReadyMayRun, FallsAsleepByItself, StaysRunnable}
 use Rattle.kernel_spec.proofs.rows.Asleep.{own_unready}
 use Rattle.kernel_spec.proofs.well.FirstWell.{nobody_sleeps}
 use Rattle.kernel_spec.proofs.steps.OthersKeepTheRest.{kept, pid_is}

@@ -12,8 +12,9 @@ use Rattle.kernel_spec.specs.views.Processes.{Process, Live, Alive, Zombie, Chil
 use Rattle.kernel_spec.specs.views.State.{State}
 use Rattle.kernel_spec.specs.views.View.{child_of, or_gone}
 use Rattle.kernel_spec.specs.steps.Updates.{changed_state, mark, marked, waited_state, forked_state, gone_state, orphan, orphans, given_to}
-use Rattle.kernel_spec.specs.waking.Conditions.{Nothing, Child_of, Bytes, Room, Time, Keys, Sending, is_open, OpensOnly, OpensAlone}
-use Rattle.kernel_spec.specs.waking.Conditions.{OpensNothing, OpensPipe, OpensMarked, OpensReaped, OpensTick, OpensConsole, OpensForked, OpensGone, MayOpenAtEnd}
+use Rattle.kernel_spec.specs.waking.Conditions.{Nothing, Child_of, Bytes, Room, Time, Keys, Sending, is_open, OpensOnly}
+use Rattle.kernel_spec.specs.laws.ConditionLaws.{OpensAlone, OpensNothing, OpensPipe, OpensMarked, OpensReaped, OpensTick, OpensConsole, OpensForked, OpensGone}
+use Rattle.kernel_spec.specs.waking.Conditions.{MayOpenAtEnd}
 use Rattle.kernel_spec.specs.views.PipeEnds.{has_bytes, has_room}
 use Rattle.kernel_spec.proofs.steps.ViewsAfterSetLive.{same_child, same_keys}
 use Rattle.kernel_spec.proofs.steps.OrphansKeepKeys.{get-change, keys-change}
@@ -28,7 +29,7 @@ use Rattle.xk_base.specs.Words.{least_below}
 use Rattle.xk_base.proofs.Least.{none_below}
 use Rattle.kernel_spec.specs.steps.Own.{Exited}
 use Rattle.kernel_spec.specs.others.Quiet.{pipe_at}
-use Rattle.kernel_spec.specs.laws.RowLaws.{FilesLeft}
+use Rattle.kernel_spec.specs.steps.Cases.{FilesLeft}
 use Rattle.kernel_spec.proofs.steps.LeastPasses.{least_passes}
 use Rattle.kernel_spec.proofs.steps.GoneIsItsRow as goes
 use Rattle.kernel_spec.proofs.steps.FamilyLawsHold as family_files

@@ -13,12 +13,13 @@ use Rattle.proc_table.specs.declared.process.Call.{Call}
 use Rattle.kernel_spec.specs.views.Words.{c_int}
 use Rattle.kernel_spec.specs.views.Processes.{Process, Live, Alive}
 use Rattle.kernel_spec.specs.views.State.{State, live, live_part}
-use Rattle.kernel_spec.specs.others.Quiet.{file_of, end_of, target_of_open}
+use Rattle.kernel_spec.proofs.steps.SeenByParts.{file_of}
 use Rattle.kernel_spec.specs.rows.Calls.{Row, Fork, Exit, Wait, Pipe_row, Read, Kill, Exec, Dup, Getpid, Sbrk, Sleep, Uptime, Open, Write, Close, Sbrklazy, row_of}
-use Rattle.kernel_spec.specs.steps.Updates.{marked, own_state, changed_state, kill_state, waited_state, forking, forked_child, forked_state, gone_state}
+use Rattle.kernel_spec.specs.steps.Updates.{marked, own_state, changed_state, kill_state, waited_state, forking, forked_child, forked_state, gone_state, end_of, target_of_open}
 use Rattle.kernel_spec.specs.views.WellFormed.{WellFormed}
-use Rattle.kernel_spec.specs.laws.RowLaws.{FilesLeft}
-use Rattle.kernel_spec.specs.waking.Conditions.{read_waits_for, write_waits_for, target_at, row_waits_for, call_waits_for, waits_for, OthersWaitOn, at_start, KeepsTargets, WaitsStay}
+use Rattle.kernel_spec.specs.steps.Cases.{FilesLeft}
+use Rattle.kernel_spec.specs.waking.Conditions.{read_waits_for, write_waits_for, target_at, row_waits_for, call_waits_for, waits_for, OthersWaitOn, at_start, KeepsTargets}
+use Rattle.kernel_spec.specs.laws.ConditionLaws.{WaitsStay}
 use Rattle.kernel_spec.proofs.steps.MapsAfterChange.{get_other, get_without}
 use Rattle.kernel_spec.proofs.steps.OrphansKeepKeys.{get-change}
 use Rattle.kernel_spec.proofs.steps.ForkIsItsRow.{live_some}

@@ -11,11 +11,13 @@ use Rattle.file_table.specs.declared.open_file.Target.TheVariants.{Console as Te
 use Rattle.kernel_spec.specs.views.Processes.{Live}
 use Rattle.proc_table.specs.declared.process.Call.{Call}
 use Rattle.kernel_spec.specs.views.State.{State}
-use Rattle.kernel_spec.specs.views.View.{View, view_of, named, numbered, rename, descriptor_at, descriptor_on, in_use}
+use Rattle.kernel_spec.specs.views.View.{View, view_of, named, numbered, rename, in_use}
+use Rattle.kernel_spec.proofs.steps.SeenByParts.{descriptor_at, descriptor_on}
 use Rattle.kernel_spec.specs.rows.Calls.{Row, Fork, Exit, Wait, Pipe_row, Read, Kill, Exec, Dup, Getpid, Sbrk, Sleep, Uptime, Open, Write, Close, Sbrklazy, row_of}
 use Rattle.kernel_spec.specs.waking.Ready.{ready, call_ready, row_ready, on_shown, can_read, can_write}
-use Rattle.kernel_spec.specs.others.Quiet.{end_of, target_of_open}
-use Rattle.kernel_spec.specs.waking.Conditions.{ReadyIsOpen, is_open, read_waits_for, write_waits_for, target_at, sleep_waits_for, row_waits_for, call_waits_for, waits_for}
+use Rattle.kernel_spec.specs.steps.Updates.{end_of, target_of_open}
+use Rattle.kernel_spec.specs.waking.Conditions.{is_open, read_waits_for, write_waits_for, target_at, sleep_waits_for, row_waits_for, call_waits_for, waits_for}
+use Rattle.kernel_spec.specs.laws.ConditionLaws.{ReadyIsOpen}
 use Rattle.kernel_spec.specs.steps.Ticks.{ticks_since, has_passed}
 
 module _ (s : State) (p : ℕ) (l : Live) where

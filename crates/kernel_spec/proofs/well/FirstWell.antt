@@ -16,10 +16,12 @@ use Rattle.pipe_core.specs.Pipe.{Pipe}
 use Rattle.kernel_spec.specs.views.Programs.{init_name, init_of}
 use Rattle.kernel_spec.specs.views.Processes.{Process, Alive, Live}
 use Rattle.kernel_spec.specs.views.View.{View, view, view_of}
-use Rattle.kernel_spec.specs.others.Quiet.{file_at, file_of}
+use Rattle.kernel_spec.specs.others.Quiet.{file_at}
+use Rattle.kernel_spec.proofs.steps.SeenByParts.{file_of}
 use Rattle.kernel_spec.specs.views.WellFormed.{WellFormed, HasSlots, over_all, cost, sum_below}
 use Rattle.kernel_spec.specs.runs.Run.{World}
-use Rattle.kernel_spec.specs.runs.First.{first, unless_refused, within_frames, first_init, first_loaded, first_state, first_turns, first_process, FirstWell, FirstSlots}
+use Rattle.kernel_spec.specs.runs.First.{first, unless_refused, within_frames, first_init, first_loaded, first_state, first_turns, first_process}
+use Rattle.kernel_spec.specs.laws.FirstLaws.{FirstWell, FirstSlots}
 use Rattle.kernel_spec.specs.views.NewKernel.{refusal}
 use Rattle.kernel_spec.specs.waking.Turns.{Sleeps, HasSlot}
 use Rattle.std.specs.FinSet.{contains, contains-empty}

@@ -21,8 +21,9 @@ use Rattle.kernel_spec.specs.views.Processes.{Process, Alive, Zombie, Live, pare
 use Rattle.kernel_spec.specs.views.State.{State, live, live_part}
 use Rattle.kernel_spec.specs.views.View.{numbered}
 use Rattle.kernel_spec.specs.rows.Tables.{ends}
-use Rattle.kernel_spec.specs.others.Quiet.{file_at, file_of, end_of}
-use Rattle.kernel_spec.specs.steps.Updates.{forked_state, forking, forked_child, more_on_all, more_on, more_at}
+use Rattle.kernel_spec.specs.others.Quiet.{file_at}
+use Rattle.kernel_spec.proofs.steps.SeenByParts.{file_of}
+use Rattle.kernel_spec.specs.steps.Updates.{forked_state, forking, forked_child, more_on_all, more_on, more_at, end_of}
 use Rattle.kernel_spec.specs.views.WellFormed.{WellFormed, HasParent, over_all, on, cost, sum_below}
 use Rattle.kernel_spec.proofs.steps.MapsAfterChange.{get_same, get_other}
 use Rattle.kernel_spec.proofs.steps.EndsAreCounted.{plus, hits, among, hits_at, get-more_on_all}

@@ -21,8 +21,9 @@ use Rattle.kernel_spec.specs.views.Processes.{Process, Alive, Zombie, Live, pare
 use Rattle.kernel_spec.specs.views.State.{State, live, live_part}
 use Rattle.kernel_spec.specs.views.View.{numbered}
 use Rattle.kernel_spec.specs.rows.Tables.{ends}
-use Rattle.kernel_spec.specs.others.Quiet.{file_at, file_of, pipe_at, pipe_of_file, pipe_of_open, pipe_of_target, end_of, target_of_open}
-use Rattle.kernel_spec.specs.steps.Updates.{gone_state, orphans, orphan, given_to, fewer_on_all, freed_on_all, fewer_on, freed_on, fewer_at, freed_at}
+use Rattle.kernel_spec.specs.others.Quiet.{file_at, pipe_at, pipe_of_target}
+use Rattle.kernel_spec.proofs.steps.SeenByParts.{file_of, pipe_of_file, pipe_of_open}
+use Rattle.kernel_spec.specs.steps.Updates.{gone_state, orphans, orphan, given_to, fewer_on_all, freed_on_all, fewer_on, freed_on, fewer_at, freed_at, end_of, target_of_open}
 use Rattle.kernel_spec.specs.views.WellFormed.{WellFormed, HasParent, over_all, on, cost}
 use Rattle.kernel_spec.proofs.steps.MapsAfterChange.{get_same, get_other}
 use Rattle.kernel_spec.proofs.steps.EndsAreCounted.{hits, hits_at}

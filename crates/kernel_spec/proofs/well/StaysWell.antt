@@ -13,7 +13,8 @@ use Rattle.console_core.specs.Lists.{Console}
 use Rattle.kernel_spec.specs.views.Processes.{Process, Alive, Live, parent_of}
 use Rattle.proc_table.specs.declared.process.Call.{Call}
 use Rattle.kernel_spec.specs.views.State.{State, live, live_part}
-use Rattle.kernel_spec.specs.others.Quiet.{file_at, file_of}
+use Rattle.kernel_spec.specs.others.Quiet.{file_at}
+use Rattle.kernel_spec.proofs.steps.SeenByParts.{file_of}
 use Rattle.kernel_spec.specs.steps.Updates.{changed_state}
 use Rattle.kernel_spec.specs.views.WellFormed.{WellFormed, HasParent, over_all, on, cost}
 use Rattle.kernel_spec.proofs.steps.MapsAfterChange.{get_same, get_other}

@@ -8,7 +8,8 @@ use Rattle.file_table.specs.declared.open_file.End.{End}
 use Rattle.file_table.specs.declared.open_file.End.TheVariants.{Reading, Writing}
 use Rattle.kernel_spec.specs.views.Processes.{Process, Zombie, parent_of}
 use Rattle.kernel_spec.specs.views.State.{State, live, live_part}
-use Rattle.kernel_spec.specs.others.Quiet.{file_at, file_of}
+use Rattle.kernel_spec.specs.others.Quiet.{file_at}
+use Rattle.kernel_spec.proofs.steps.SeenByParts.{file_of}
 use Rattle.kernel_spec.specs.steps.Updates.{remove_zombie}
 use Rattle.kernel_spec.specs.views.WellFormed.{WellFormed, HasParent, over_all, on, cost}
 use Rattle.kernel_spec.proofs.steps.MapsAfterChange.{get_without}

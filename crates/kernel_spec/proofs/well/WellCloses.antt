@@ -19,10 +19,12 @@ use Rattle.kernel_spec.specs.views.PipeEnds.{parted, is_given_up}
 use Rattle.kernel_spec.specs.views.Processes.{Process, Alive, Live, Zombie}
 use Rattle.kernel_spec.specs.views.State.{State, live_part}
 use Rattle.kernel_spec.specs.rows.Tables.{is_end}
-use Rattle.kernel_spec.specs.others.Quiet.{file_at, file_of, pipe_of_target, pipe_of_file, pipe_of_open, end_of, target_of_open}
-use Rattle.kernel_spec.specs.steps.Updates.{changed_state, settled}
+use Rattle.kernel_spec.specs.others.Quiet.{file_at, pipe_of_target}
+use Rattle.kernel_spec.proofs.steps.SeenByParts.{file_of, pipe_of_file, pipe_of_open}
+use Rattle.kernel_spec.specs.steps.Updates.{changed_state, settled, end_of, target_of_open}
 use Rattle.kernel_spec.specs.views.WellFormed.{WellFormed, over_all, on}
-use Rattle.kernel_spec.specs.laws.RowLaws.{HasTable, NobodyNames, NobodyHas, OnPipe, FilesLeft, WellClosed, WellClosedPipe, WellMadePipe}
+use Rattle.kernel_spec.specs.laws.RowLaws.{WellClosed, WellClosedPipe, WellMadePipe}
+use Rattle.kernel_spec.specs.steps.Cases.{HasTable, NobodyNames, NobodyHas, OnPipe, FilesLeft}
 use Rattle.kernel_spec.proofs.steps.MapsAfterChange.{get_same, get_other, get_without}
 use Rattle.kernel_spec.proofs.steps.EndsAreCounted.{hits, one, among_nobody}
 use Rattle.kernel_spec.proofs.well.WellTable.{hits_of, count_put, count_take, count_files, total, table_well}

@@ -20,7 +20,8 @@ use Rattle.file_table.specs.declared.open_file.End.{End}
 use Rattle.file_table.specs.declared.open_file.End.TheVariants.{Reading, Writing}
 use Rattle.kernel_spec.proofs.well.Sums.{sum_same}
 use Rattle.kernel_spec.specs.steps.Own.{Exited}
-use Rattle.kernel_spec.specs.laws.RowLaws.{WellOutside, WellForked, WellGone, WellReaped, WellAlone, WritesTakeNothing, StoresTakeNothing, FilesLeft}
+use Rattle.kernel_spec.specs.laws.RowLaws.{WellOutside, WellForked, WellGone, WellReaped, WellAlone, WritesTakeNothing, StoresTakeNothing}
+use Rattle.kernel_spec.specs.steps.Cases.{FilesLeft}
 use Rattle.xk_base.specs.Gathered.{insert_some}
 use Rattle.rv64i_core.specs.Memory.{written}
 use Rattle.rv64i_core.specs.UserImage.{with_store, written_page, write_pages}

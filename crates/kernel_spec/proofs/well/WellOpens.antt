@@ -19,10 +19,12 @@ use Rattle.kernel_spec.specs.views.PipeEnds.{joined, is_given_up}
 use Rattle.kernel_spec.specs.views.Processes.{Alive, Live}
 use Rattle.kernel_spec.specs.views.State.{State, live_part}
 use Rattle.kernel_spec.specs.rows.Tables.{is_end}
-use Rattle.kernel_spec.specs.others.Quiet.{file_at, file_of, pipe_of_target, end_of, target_of_open}
-use Rattle.kernel_spec.specs.steps.Updates.{changed_state, own_state, piped_state, filed_state}
+use Rattle.kernel_spec.specs.others.Quiet.{file_at, pipe_of_target}
+use Rattle.kernel_spec.proofs.steps.SeenByParts.{file_of}
+use Rattle.kernel_spec.specs.steps.Updates.{changed_state, own_state, piped_state, filed_state, end_of, target_of_open}
 use Rattle.kernel_spec.specs.views.WellFormed.{WellFormed, over_all, on}
-use Rattle.kernel_spec.specs.laws.RowLaws.{HasTable, NobodyNames, OnPipe, WellOpened, WellDup, WellDupPipe}
+use Rattle.kernel_spec.specs.laws.RowLaws.{WellOpened, WellDup, WellDupPipe}
+use Rattle.kernel_spec.specs.steps.Cases.{HasTable, NobodyNames, OnPipe}
 use Rattle.kernel_spec.proofs.steps.MapsAfterChange.{get_same, get_other}
 use Rattle.kernel_spec.proofs.steps.EndsAreCounted.{hits, one}
 use Rattle.kernel_spec.proofs.well.WellTable.{hits_of, count_put, count_files, total, table_well}

@@ -17,8 +17,9 @@ use Rattle.kernel_spec.specs.views.Processes.{Process, Alive, Live, Zombie, pare
 use Rattle.kernel_spec.specs.views.State.{State, live, live_part}
 use Rattle.kernel_spec.specs.views.View.{numbered}
 use Rattle.kernel_spec.specs.rows.Tables.{ends}
-use Rattle.kernel_spec.specs.others.Quiet.{file_at, file_of, end_of, target_of_open}
-use Rattle.kernel_spec.specs.steps.Updates.{set_pipe, set_file, mark, marked}
+use Rattle.kernel_spec.specs.others.Quiet.{file_at}
+use Rattle.kernel_spec.proofs.steps.SeenByParts.{file_of}
+use Rattle.kernel_spec.specs.steps.Updates.{set_pipe, set_file, mark, marked, end_of, target_of_open}
 use Rattle.kernel_spec.specs.views.WellFormed.{WellFormed, over_all, on, cost}
 use Rattle.kernel_spec.specs.laws.RowLaws.{WellPiped, WellMoved, WellMarked}
 use Rattle.kernel_spec.proofs.steps.MapsAfterChange.{get_same, get_other}

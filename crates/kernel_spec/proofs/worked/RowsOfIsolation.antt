@@ -25,7 +25,10 @@ use Rattle.kernel_spec.specs.rows.Buffers.{text_at, texts_at, no_slashes}
 use Rattle.kernel_spec.specs.views.Programs.{program_named}
 use Rattle.kernel_spec.specs.runs.Run.{World, Event, Run, Tick, Key, Outcome, Ticked, Typed, Happens, FilesAfter, IsLeft}
 use Rattle.kernel_spec.specs.runs.First.{first}
-use Rattle.kernel_spec.specs.laws.Worlds.{IsStepOf, Others, Moment, Course, SameRest, HasExeced, IsOfItsOwn, IsNewPipe, IsFromBoot}
+use Rattle.kernel_spec.specs.runs.Moments.{IsStepOf, Others, Moment, Course, IsFromBoot}
+use Rattle.kernel_spec.specs.views.Shared.{SameRest}
+use Rattle.kernel_spec.specs.rows.Execs.{HasExeced}
+use Rattle.kernel_spec.specs.steps.KeptBytes.{IsOfItsOwn, IsNewPipe}
 use Rattle.kernel_spec.specs.runs.Sources.{Holds, IsPut, WasPut}
 use Rattle.kernel_spec.proofs.worked.RowsOfRuns.{none_behind}
 

@@ -14,7 +14,8 @@ use Rattle.addr_space.specs.Changes.{perm_of_page}
 use Rattle.kernel_spec.proofs.memory.UserBytes.{may_read, may_write, cell_text, byte-read, byte-write}
 use Rattle.kernel_spec.proofs.rows.Settled.{there-not-absent, absent-not-there}
 use Rattle.user_copy.specs.Reach.{allows, may, reaches}
-use Rattle.kernel_spec.specs.rows.Buffers.{reaches_touching, readable, writable, writable_now, text_at, text_from, texts_at, texts_from, with_text, pointer_at, no_slashes}
+use Rattle.kernel_spec.specs.rows.Buffers.{reaches_touching, readable, writable, writable_now, text_at, text_from, texts_at, pointer_at, no_slashes}
+use Rattle.kernel_spec.proofs.memory.TextsByParts.{texts_from, with_text}
 
 -- a byte that may be read and written, one that may be read alone, and one that may be run alone
 abbrev open_cell : ℕ → Cell

@@ -10,7 +10,7 @@ use Rattle.kernel_spec.specs.waking.Turns.{Sleeps}
 use Rattle.kernel_spec.specs.views.WellFormed.{AreShown}
 use Rattle.kernel_spec.specs.runs.Run.{World}
 use Rattle.kernel_spec.specs.waking.Wakes.{HidesNothing}
-use Rattle.kernel_spec.specs.laws.Replays.{meet_on_file, AreAlike, IsOrderly}
+use Rattle.kernel_spec.specs.runs.Alike.{meet_on_file, AreAlike, IsOrderly}
 
 -- ---- two worlds that can't be told apart
 

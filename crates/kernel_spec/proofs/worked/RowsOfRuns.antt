@@ -13,8 +13,8 @@ use Rattle.kernel_spec.specs.steps.Own.{Stepped, Called, Blocked, Exited, goes_o
 use Rattle.kernel_spec.specs.steps.Step.{own}
 use Rattle.kernel_spec.specs.rows.Calls.{perform, row_of, row, kill}
 use Rattle.kernel_spec.specs.runs.Run.{World, Event, Run, Tick, Key, Outcome, Step_of, Turn, Ticked, Typed, Happens}
-use Rattle.kernel_spec.specs.laws.Worlds.{IsStepOf, Moment, IsCut, steps_of, IsBrokenWrite}
-use Rattle.kernel_spec.specs.laws.StepLaws.{regs_in_call, waiting_calls}
+use Rattle.kernel_spec.specs.runs.Moments.{IsStepOf, Moment, IsCut, steps_of}
+use Rattle.kernel_spec.specs.steps.Waiting.{IsBrokenWrite, regs_in_call, waiting_calls}
 use Rattle.kernel_spec.proofs.worked.WorkedViews.{call, in_call, ends_of}
 use Rattle.kernel_spec.specs.rows.Lines.{◌>>=◌, ◌>>◌, ◌when◌, ◌or◌}
 

@@ -18,7 +18,8 @@ use Rattle.kernel_spec.specs.steps.Own.{Stepped, Called, Blocked, Exited, Faulte
 use Rattle.kernel_spec.specs.rows.Calls.{row_of, perform, row, close, kill, sleep}
 use Rattle.kernel_spec.specs.steps.Step.{own, call_begun, after_instruction}
 use Rattle.kernel_spec.specs.waking.Ready.{ready}
-use Rattle.kernel_spec.specs.others.Quiet.{seen, seen_descriptor}
+use Rattle.kernel_spec.specs.others.Quiet.{seen, seen_table, meets_on_file, meets_on_pipe}
+use Rattle.kernel_spec.proofs.steps.SeenByParts.{left_at, offset_left, pipe_left}
 use Rattle.kernel_spec.proofs.worked.WorkedViews.{call, minus, in_call, ends_of, a0_after, pc_of, call_of}
 use Rattle.kernel_spec.specs.rows.Lines.{◌>>=◌, ◌>>◌, ◌or◌, ◌when◌}
 
@@ -221,8 +222,33 @@ module _ (image : Image) where
   abbrev on_pipe : List ℕ → Descriptor
   on_pipe bytes = record { file = 0; read = true; write = false; shown = Shown_pipe 0 Reading (record { bytes = bytes; readers = 1; writers = 1 }) }
 
-  offset_seen : seen_descriptor (Some (on_file 5)) None (Some (on_file 2)) ∷ seen_descriptor None None (Some (on_file 2)) ∷ [] ≡ Some (on_file 5) ∷ Some (on_file 2) ∷ []
-  offset_seen = refl
+  -- process 1 steps, and leaves descriptor 3 on a file at 5, and 4 on a pipe with two bytes
+  abbrev left : Descriptors
+  left = λ d. cond (nat_eq d 3) (Some (on_file 5)) (cond (nat_eq d 4) (Some (on_pipe (codes "xy"))) None)
 
-  pipe_seen : seen_descriptor None (Some (on_pipe (codes "xy"))) (Some (on_pipe [])) ∷ seen_descriptor None None (Some (on_pipe [])) ∷ [] ≡ Some (on_pipe (codes "xy")) ∷ Some (on_pipe []) ∷ []
-  pipe_seen = refl
+  module _ (s : State) where
+    -- descriptor 0 of process 2, which is on the file at 2, on the empty pipe, or on nothing
+    file_then : Option Descriptor
+    file_then = seen_table s 1 2 left (λ d. Some (on_file 2)) 0
+
+    pipe_then : Option Descriptor
+    pipe_then = seen_table s 1 2 left (λ d. Some (on_pipe [])) 0
+
+    offset_seen : meets_on_file s 1 2 0 ≡ Some 3 → file_then ≡ Some (on_file 5)
+    unfolding file_then
+    offset_seen met = λ i. Some (on_file (offset_left 2 (left_at left (met i))))
+
+    offset_stays : meets_on_file s 1 2 0 ≡ None → file_then ≡ Some (on_file 2)
+    unfolding file_then
+    offset_stays met = λ i. Some (on_file (offset_left 2 (left_at left (met i))))
+
+    pipe_seen : meets_on_pipe s 1 2 0 ≡ Some 4 → pipe_then ≡ Some (on_pipe (codes "xy"))
+    unfolding pipe_then
+    pipe_seen met = λ i. Some (record (on_pipe []) { shown = Shown_pipe 0 Reading (pipe_left (record { bytes = []; readers = 1; writers = 1 }) (left_at left (met i))) })
+
+    pipe_stays : meets_on_pipe s 1 2 0 ≡ None → pipe_then ≡ Some (on_pipe [])
+    unfolding pipe_then
+    pipe_stays met = λ i. Some (record (on_pipe []) { shown = Shown_pipe 0 Reading (pipe_left (record { bytes = []; readers = 1; writers = 1 }) (left_at left (met i))) })
+
+    unused_stays : seen_table s 1 2 left (λ d. None) 0 ≡ None
+    unused_stays = refl

@@ -14,7 +14,7 @@ use Rattle.kernel_spec.specs.views.View.{View, Shown, Shown_terminal, Shown_file
 use Rattle.kernel_spec.specs.steps.Own.{Stepped, Called, Blocked, Faulted}
 use Rattle.kernel_spec.specs.rows.Calls.{Wait, Pipe_row, Read, Write, Sbrk, perform, row, row_of}
 use Rattle.kernel_spec.specs.rows.Stores.{nothing_stored, stored_by, stored_by_row, stored_by_instruction, IsStored, IsStoredAs}
-use Rattle.kernel_spec.specs.laws.Worlds.{NewBytesAreZeros, IsNewPage}
+use Rattle.kernel_spec.specs.steps.KeptBytes.{NewBytesAreZeros, IsNewPage}
 use Rattle.kernel_spec.specs.steps.Step.{own}
 use Rattle.kernel_spec.specs.rows.Lines.{◌>>=◌, ◌or◌}
 use Rattle.kernel_spec.proofs.worked.WorkedViews.{call, in_call}

@@ -7,14 +7,14 @@ use Rattle.std.specs.Ordering.{nat_cmp}
 use Rattle.xk_base.specs.declared.limits.TheConstants.{NOFILE, PIPE_BYTES, NPROC, PID_MAX, MAXPATH}
 use Rattle.xk_base.specs.declared.access.Cause.{Cause}
 use Rattle.xk_base.specs.Words.{le_bytes}
-use Rattle.xk_base.specs.Bytes.{image_bytes, write_image}
+use Rattle.xk_base.specs.Bytes.{write_image}
 use Rattle.xk_base.specs.Image.{Image, price}
 use Rattle.xk_base.specs.Loaded.{Loaded}
-use Rattle.rv64i_core.specs.Registers.{Registers, with_pc, after}
+use Rattle.rv64i_core.specs.Registers.{Registers}
 use Rattle.rv64i_core.specs.Memory.{Store}
 use Rattle.rv64i_core.specs.Step.{Next, Ecall, Fault}
 use Rattle.rv64i_core.specs.UserImage.{with_store}
-use Rattle.pipe_core.specs.Pipe.{Pipe, new_pipe, with_more, without_first}
+use Rattle.pipe_core.specs.Pipe.{Pipe, new_pipe, without_first}
 use Rattle.console_core.specs.Lists.{Console, IsWithinLimits}
 use Rattle.file_table.specs.declared.open_file.End.{End}
 use Rattle.file_table.specs.declared.open_file.End.TheVariants.{Reading, Writing}
@@ -22,37 +22,25 @@ use Rattle.file_table.specs.declared.open_file.Target.{Target}
 use Rattle.file_table.specs.declared.open_file.Target.TheVariants.{Program as File, Pipe as Pipe_end}
 use Rattle.file_table.specs.declared.open_file.OpenFile.{OpenFile}
 use Rattle.proc_table.specs.declared.process.Call.{Call}
+use Rattle.addr_space.specs.Absent.{brought}
 use Rattle.kernel_spec.specs.steps.Instruction.{next_instruction}
 use Rattle.kernel_spec.specs.views.Words.{c_int, minus_one}
 use Rattle.kernel_spec.specs.rows.Buffers.{readable, writable_now, text_at, no_slashes}
-use Rattle.kernel_spec.specs.views.PipeEnds.{there, fit, joined, parted, is_given_up, has_bytes}
-use Rattle.kernel_spec.specs.views.Processes.{Live, Alive, Zombie}
+use Rattle.kernel_spec.specs.views.PipeEnds.{there, joined, parted, is_given_up, has_bytes}
+use Rattle.kernel_spec.specs.views.Processes.{Live, Zombie}
 use Rattle.kernel_spec.specs.views.State.{State}
-use Rattle.kernel_spec.specs.views.View.{Descriptor, view_of, show, numbered, least_on_pipe}
+use Rattle.kernel_spec.specs.views.View.{Descriptor, view_of, show}
 use Rattle.kernel_spec.specs.rows.Touches.{has_absent, touch, before_instruction}
-use Rattle.addr_space.specs.Absent.{brought}
 use Rattle.kernel_spec.specs.steps.Own.{Own, Answer, Exited, Faulted, gone_with}
 use Rattle.kernel_spec.specs.rows.Execs.{Asks}
 use Rattle.kernel_spec.specs.rows.Calls.{perform, done, waits, gone, fork, wait, make_pipe, read, kill, exec, dup, open_file, write, close, least_zombie, what_is_named, has_mode}
 use Rattle.kernel_spec.specs.steps.Step.{own, call_begun}
-use Rattle.kernel_spec.specs.steps.Updates.{set_pipe, set_file, mark, changed_state, own_state, alone_state, piped_state, filed_state, with_named, with_closed, with_bytes, with_answer, in_call, stepped, started, forked_state, gone_state, waited_state, remove_zombie, settled, waited, kill_state, killer}
-use Rattle.kernel_spec.specs.others.Quiet.{file_at, pipe_at, pipe_of_target}
+use Rattle.kernel_spec.specs.steps.Updates.{set_pipe, set_file, mark, changed_state, own_state, alone_state, piped_state, filed_state, with_named, with_bytes, with_answer, in_call, stepped, started, forked_state, gone_state, waited_state, remove_zombie, settled, waited, kill_state, killer}
+use Rattle.kernel_spec.specs.others.Quiet.{pipe_of_target}
 use Rattle.kernel_spec.specs.views.WellFormed.{WellFormed}
-use Rattle.kernel_spec.specs.runs.Run.{StateAfter}
-use Rattle.kernel_spec.specs.rows.Tables.{lowest_free, lowest_free_above}
+use Rattle.kernel_spec.specs.rows.Tables.{lowest_free_above}
 use Rattle.kernel_spec.specs.views.Programs.{program_bytes}
-
--- process p is live, and is l
-abbrev pub IsLive : State → ℕ → Live → Type 0
-IsLive s p l = get s.processes p ≡ Some (Alive l)
-
--- a step of it comes to o, and t is the state after
-abbrev pub After : State → ℕ → Live → Own → State → Type 0
-After s p l o t = StateAfter s (view_of s p l) o t
-
--- its next step is an instruction: it isn't marked, and it is in no call
-abbrev pub IsBetweenCalls : Live → Type 0
-IsBetweenCalls l = (l.killed ≡ false) × (l.call ≡ None)
+use Rattle.kernel_spec.specs.steps.Cases.{IsLive, After, IsBetweenCalls, begun_live, begun_state, touched_live, touched_state, FilesLeft, OnPipe, IsBuffer, now_moved, written, NobodyNames, NobodyHas, IsLowestUnused, closed_state, HasTable}
 
 -- ---- what a step begins with
 
@@ -62,13 +50,6 @@ InstructionLaw =
     (s : State) (p : ℕ) (l : Live) (r : Registers) (st : Option Store)
     → IsLive s p l → IsBetweenCalls l → next_instruction l.regs l.image ≡ Next r st
     → After s p l (own (view_of s p l)) (own_state p (stepped r st l) s)
-
--- past its ECALL, with the call in progress
-abbrev pub begun_live : State → ℕ → Live → Live
-begun_live s p l = record l { regs = with_pc l.regs (after l.regs); call = Some (call_begun (view_of s p l)) }
-
-abbrev pub begun_state : ℕ → Live → State → State
-begun_state p l s = own_state p (begun_live s p l) s
 
 -- an ECALL: the call is begun, and its row is done in the same step
 abbrev pub EcallLaw : Type 0
@@ -80,14 +61,6 @@ EcallLaw =
 -- a call in progress goes on by its row
 abbrev pub ResumeLaw : Type 0
 ResumeLaw = (s : State) (p : ℕ) (l : Live) (c : Call) → l.killed ≡ false → l.call ≡ Some c → own (view_of s p l) ≡ perform c (view_of s p l)
-
--- the process, once these pages are there that were absent
-abbrev pub touched_live : List ℕ → Live → Live
-touched_live pages l = record l { image = brought pages l.image }
-
--- and the state: what the image costs more, it takes from the free frames
-abbrev pub touched_state : List ℕ → ℕ → Live → State → State
-touched_state pages p l s = alone_state p (touched_live pages l) s.console (s.free + price l.image - price (brought pages l.image)) s
 
 -- Pages that are touched: the process sees them, and what a step from there on does to the state is what it does from before
 abbrev pub TouchLaw : Type 0
@@ -129,11 +102,6 @@ ForkLaw =
     → length (keys s.processes) < NPROC → s.next_pid ≤ PID_MAX → price l.image + 1 ≤ s.free
     → After s p l (fork c (view_of s p l)) (forked_state p l s)
 
--- the open files of t are those of s that a live process still names
-pub record FilesLeft (s t : State) : Type 0 where
-  pub stay : (q d g : ℕ) → file_at t q d ≡ Some g → get t.files g ≡ get s.files g
-  pub named : (g : ℕ) → IsSome (get t.files g) → (q : ℕ) × (d : ℕ) × (file_at t q d ≡ Some g)
-
 -- exit, a fault, a kill
 abbrev pub GoneLaw : Type 0
 GoneLaw =
@@ -155,22 +123,6 @@ KillLaw =
 
 -- ---- rows on an open file
 
--- p's descriptor d is on this end of pipe i, which is x; k is p's least descriptor on that pipe
-pub record OnPipe (s : State) (p : ℕ) (l : Live) (d : ℕ) (i k : ℕ) (end : End) (x : Pipe) : Type 0 where
-  pub was : get s.processes p ≡ Some (Alive l)
-  pub below : d < NOFILE
-  pub file : ℕ
-  pub named_file : get l.descriptors d ≡ Some file
-  pub read : Bool
-  pub write : Bool
-  pub opened : get s.files file ≡ Some (record { read = read; write = write; target = Pipe_end i end })
-  pub pipe : get s.pipes i ≡ Some x
-  pub names : least_on_pipe (numbered s l) i ≡ Some k
-
--- the buffer of n bytes is there, n above 0
-abbrev pub IsBuffer : Call → (ℕ → Bool) → ℕ → Type 0
-IsBuffer c is_there n = (c_int c.a2 ≡ pos n) × (nat_eq n 0 ≡ false) × (is_there n ≡ true)
-
 -- read from a pipe: it takes what is there, or waits
 abbrev pub PipeReadLaw : Type 0
 PipeReadLaw =
@@ -178,13 +130,6 @@ PipeReadLaw =
     → on.read ≡ true → c_int c.a0 ≡ pos d → IsBuffer c (writable_now l.image c.a1) n
     → (has_bytes x ≡ true → After s p l (read c (view_of s p l)) (piped_state p (with_answer (pos (there x n)) (with_bytes c.a1 (take (there x n) x.bytes) l)) i (without_first (there x n) x) s))
     × (has_bytes x ≡ false → After s p l (read c (view_of s p l)) (own_state p (in_call (record c { moved = 0 }) l) s))
-
--- how far a write to a pipe has come after a step, and the pipe then
-abbrev pub now_moved : Call → Pipe → ℕ → ℕ
-now_moved c x n = c.moved + fit x (n - c.moved)
-
-abbrev pub written : Call → Live → Pipe → ℕ → Pipe
-written c l x n = with_more (image_bytes l.image (c.a1 + c.moved) (fit x (n - c.moved))) x
 
 -- write to a pipe: as many bytes as fit; it is done when all are in, and it fails when nobody reads any more
 abbrev pub PipeWriteLaw : Type 0
@@ -203,19 +148,6 @@ FileReadLaw =
     → let bytes = take n (drop offset (program_bytes (slice_get s.programs program))) in
     After s p l (read c (view_of s p l))
     (filed_state p (with_answer (pos (length bytes)) (with_bytes c.a1 bytes l)) f (record { read = true; write = w; target = File program (offset + length bytes) }) s)
-
--- no process names the open file; none is on the pipe
-abbrev pub NobodyNames : State → ℕ → Type 0
-NobodyNames s f = (q d : ℕ) → file_at s q d ≢ Some f
-
-abbrev pub NobodyHas : State → ℕ → Type 0
-NobodyHas s j = (q d : ℕ) → pipe_at s q d ≢ Some j
-
--- k is p's lowest free descriptor
-pub record IsLowestUnused (s : State) (p : ℕ) (l : Live) (k : ℕ) : Type 0 where
-  pub lowest : lowest_free (view_of s p l).descriptors ≡ Some k
-  pub below : k < NOFILE
-  pub unused : get l.descriptors k ≡ None
 
 -- open: the lowest free descriptor names a new open file, which is the console or a program's
 abbrev pub OpenLaw : Type 0
@@ -250,10 +182,6 @@ DupPipeLaw =
     (s : State) (p : ℕ) (l : Live) (c : Call) (j k i n : ℕ) (end : End) (x : Pipe) (d : Descriptor) (on : OnPipe s p l j i n end x) → c_int c.a0 ≡ pos j → IsLowestUnused s p l k
     → (view_of s p l).descriptors j ≡ Some d
     → After s p l (dup c (view_of s p l)) (piped_state p (with_answer (pos k) (with_named k on.file l)) i (joined x end 1) s)
-
--- close: descriptor k is free, and an open file that nobody names any more is given up
-abbrev pub closed_state : ℕ → Live → ℕ → FinMap nat_cmp OpenFile → FinMap nat_cmp Pipe → (freed : ℕ) → State → State
-closed_state p l k files pipes freed s = changed_state p (with_answer (pos 0) (with_closed k l)) files pipes s.console (s.free + freed) s
 
 abbrev pub CloseLaw : Type 0
 CloseLaw =
@@ -319,10 +247,6 @@ WellMoved =
 -- a process is marked
 abbrev pub WellMarked : Type 0
 WellMarked = (frames : ℕ) (s : State) (q : ℕ) → WellFormed frames s → WellFormed frames (mark q s)
-
--- p's record after a row on descriptors: they are these, and parent and price stay
-abbrev pub HasTable : Live → Live → FinMap nat_cmp ℕ → Type 0
-HasTable l m descriptors = (m.parent ≡ l.parent) × (price m.image ≡ price l.image) × (m.descriptors ≡ descriptors)
 
 -- open, dup, close and pipe
 abbrev pub WellOpened : Type 0

@@ -1,18 +1,12 @@
 -- What the answer of a step tells of what the step leaves, whichever call it is on.
-use Rattle.std.specs.Prelude.{◌≡◌, ◌↔◌, ℕ, ℤ, pos, List, [], ◌∷◌, Option, None, Some, IsSome, Contains}
-use Rattle.rv64i_core.specs.Registers.{Registers, with_pc, after}
-use Rattle.proc_table.specs.declared.process.Call.{Call}
+use Rattle.std.specs.Prelude.{◌≡◌, ◌↔◌, ℕ, ℤ, None, Some, IsSome, Contains}
 use Rattle.kernel_spec.specs.views.Words.{word, minus_one}
 use Rattle.kernel_spec.specs.views.View.{View}
 use Rattle.kernel_spec.specs.steps.Own.{Called, Blocked, goes_on}
 use Rattle.kernel_spec.specs.rows.Calls.{with_a0}
 use Rattle.kernel_spec.specs.steps.Step.{own, call_in}
 use Rattle.kernel_spec.specs.runs.Run.{IsBlocked}
-
--- the registers with which the process is in its call: the pc is past the ECALL, where it isn't there already
-abbrev pub regs_in_call : View → Option Call → Registers
-regs_in_call v None = with_pc v.regs (after v.regs)
-regs_in_call v (Some c) = v.regs
+use Rattle.kernel_spec.specs.steps.Waiting.{regs_in_call, waiting_calls}
 
 -- A call that answers -1 changes a0 and the pc alone, and ends: all else of the view is as it was, what is left to all is what the view had, no process is made,
 -- and none is marked. (A write to a pipe may have moved bytes at steps before, at which it answered `Blocked`.)
@@ -24,10 +18,6 @@ RefusalsChangeNothing =
 -- A call is in progress in the next view exactly where the step's answer is that it waits
 abbrev pub InCallWhereBlocked : Type 0
 InCallWhereBlocked = (v n : View) → (own v).next ≡ Some n → IsBlocked (own v).answer ↔ IsSome n.call
-
--- the calls that may wait: wait, read, sleep and write
-abbrev pub waiting_calls : List ℤ
-waiting_calls = pos 3 ∷ pos 5 ∷ pos 13 ∷ pos 16 ∷ []
 
 -- It is the call that the step was on, but for the bytes that it has moved, and it is one of those that may wait
 abbrev pub BlockedIsInCall : Type 0

@@ -13,6 +13,7 @@ use Rattle.xk_base.specs.Access.{data_rights}
 use Rattle.addr_space.specs.Changes.{grown as grown_with, shrunk as shrunk_to}
 use Rattle.addr_space.specs.Absent.{is_absent}
 use Rattle.user_copy.specs.Reach.{may, reaches}
+use Rattle.kernel_spec.specs.views.Words.{◌>>=◌}
 
 -- user code may read or write the byte at an address, or may do so once its page is touched
 abbrev pub may_touching : Access → Image → ℕ → Bool
@@ -49,19 +50,14 @@ text_at (suc limit) i a = if may_touching Load i a then text_from (image_byte i 
 abbrev pub pointer_at : Image → ℕ → Option ℕ
 pointer_at i a = if readable i a 8 then Some (le (image_bytes i a 8)) else None
 
-abbrev pub with_text : Option (List ℕ) → Option (List (List ℕ)) → Option (List (List ℕ))
-with_text None rest = None
-with_text (Some text) rest = option_map (λ texts. text ∷ texts) rest
-
--- a pointer 0 ends the list of pointers
-abbrev pub texts_from : Option ℕ → (ℕ → Option (List (List ℕ))) → Option (List (List ℕ))
-texts_from None rest = None
-texts_from (Some p) rest = if nat_eq p 0 then Some [] else rest p
-
 -- the texts that the pointers from address a on lead to, up to a pointer 0: at most `more` of them, each with at most `limit` bytes
 unfoldable pub texts_at : (more : ℕ) (limit : ℕ) → Image → ℕ → Option (List (List ℕ))
-texts_at zero limit i a = texts_from (pointer_at i a) (λ p. None)
-texts_at (suc more) limit i a = texts_from (pointer_at i a) (λ p. with_text (text_at limit i p) (texts_at more limit i (a + 8)))
+texts_at zero limit i a = do
+  p ← pointer_at i a
+  if nat_eq p 0 then Some [] else None
+texts_at (suc more) limit i a = do
+  p ← pointer_at i a
+  if nat_eq p 0 then Some [] else (do text ← text_at limit i p; rest ← texts_at more limit i (a + 8); Some (text ∷ rest))
 
 -- a name without its leading slashes (47)
 unfoldable pub no_slashes : List ℕ → List ℕ

@@ -1,5 +1,5 @@
 -- Changes of a process's table of descriptors (the xv6 book, "I/O and file descriptors").
-use Rattle.std.specs.Prelude.{ℕ, ◌+◌, Bool, true, false, if◌then◌else◌, ◌&&◌, Option, None, Some, nat_eq, nat_lt, is_none}
+use Rattle.std.specs.Prelude.{ℕ, ◌+◌, Bool, true, false, if◌then◌else◌, ◌&&◌, Option, None, Some, nat_eq, nat_lt, is_none, option_map}
 use Rattle.xk_base.specs.declared.limits.TheConstants.{NOFILE}
 use Rattle.xk_base.specs.Words.{least_below, count_below}
 use Rattle.pipe_core.specs.Pipe.{Pipe}
@@ -7,7 +7,7 @@ use Rattle.file_table.specs.declared.open_file.End.{End}
 use Rattle.file_table.specs.declared.open_file.End.TheVariants.{Reading, Writing}
 use Rattle.kernel_spec.specs.views.Words.{with_value}
 use Rattle.kernel_spec.specs.views.PipeEnds.{joined, parted, is_given_up}
-use Rattle.kernel_spec.specs.views.View.{Descriptors, Descriptor, Shown, Shown_terminal, Shown_file, Shown_pipe, named}
+use Rattle.kernel_spec.specs.views.View.{Descriptors, Descriptor, Shown, Shown_file, Shown_pipe, named}
 
 -- the lowest free descriptor
 abbrev pub lowest_free : Descriptors → Option ℕ
@@ -34,13 +34,11 @@ without_descriptor k t = named (with_value t k None)
 -- ---- every pipe changed by f, which is told its name
 
 abbrev pub change_shown : (ℕ → Pipe → Pipe) → Shown → Shown
-change_shown f Shown_terminal = Shown_terminal
-change_shown f (Shown_file program offset) = Shown_file program offset
 change_shown f (Shown_pipe name end pipe) = Shown_pipe name end (f name pipe)
+change_shown f shown = shown
 
 abbrev pub changed : (ℕ → Pipe → Pipe) → Option Descriptor → Option Descriptor
-changed f None = None
-changed f (Some d) = Some (record d { shown = change_shown f d.shown })
+changed f o = option_map (λ (d : Descriptor). record d { shown = change_shown f d.shown }) o
 
 abbrev pub change_pipes : (ℕ → Pipe → Pipe) → Descriptors → Descriptors
 change_pipes f t = λ d. changed f (t d)
@@ -52,9 +50,8 @@ change_pipe name x t = change_pipes (λ n pipe. if nat_eq n name then x else pip
 -- ---- the offset of one open file, n bytes on
 
 abbrev pub advance_shown : ℕ → Shown → Shown
-advance_shown n Shown_terminal = Shown_terminal
 advance_shown n (Shown_file program offset) = Shown_file program (offset + n)
-advance_shown n (Shown_pipe name end pipe) = Shown_pipe name end pipe
+advance_shown n shown = shown
 
 abbrev pub advanced : ℕ → ℕ → Option Descriptor → Option Descriptor
 advanced file n None = None
@@ -67,28 +64,24 @@ advance file n t = λ d. advanced file n (t d)
 
 -- one descriptor more
 abbrev pub one_more_on : Shown → Descriptors → Descriptors
-one_more_on Shown_terminal t = t
-one_more_on (Shown_file program offset) t = t
 one_more_on (Shown_pipe name end pipe) t = change_pipe name (joined pipe end 1) t
+one_more_on _ t = t
 
 -- one descriptor fewer
 abbrev pub one_less_on : Shown → Descriptors → Descriptors
-one_less_on Shown_terminal t = t
-one_less_on (Shown_file program offset) t = t
 one_less_on (Shown_pipe name end pipe) t = change_pipe name (parted pipe end 1) t
+one_less_on _ t = t
 
 -- ---- how many descriptors of the table are on each end of a pipe
 
 abbrev pub is_end : End → End → Bool
 is_end Reading Reading = true
-is_end Reading Writing = false
-is_end Writing Reading = false
 is_end Writing Writing = true
+is_end _ _ = false
 
 abbrev pub shown_on_end : ℕ → End → Shown → Bool
-shown_on_end name end Shown_terminal = false
-shown_on_end name end (Shown_file program offset) = false
 shown_on_end name end (Shown_pipe n e pipe) = nat_eq n name && is_end end e
+shown_on_end name end _ = false
 
 abbrev pub on_end : ℕ → End → Option Descriptor → Bool
 on_end name end None = false
@@ -108,9 +101,8 @@ all_closed t = change_pipes (λ name pipe. parted (parted pipe Reading (ends t n
 -- ---- pipes that no descriptor is on any more
 
 abbrev pub shown_is_given_up : ℕ → Shown → Bool
-shown_is_given_up d Shown_terminal = false
-shown_is_given_up d (Shown_file program offset) = false
 shown_is_given_up d (Shown_pipe name end pipe) = nat_eq name d && is_given_up pipe
+shown_is_given_up d _ = false
 
 -- the descriptor whose number names its pipe, where the pipe is given up
 abbrev pub names_given_up : ℕ → Option Descriptor → Bool

@@ -1,24 +1,23 @@
 -- The state after boot, or why there is none (the xv6 book, "Code: starting xv6, the first process and system call").
-use Rattle.std.specs.Prelude.{◌≡◌, ℕ, ◌+◌, ◌-◌, false, if◌then◌else◌, List, [], ◌∷◌, Option, None, Some, Result, Ok, Err, nat_lt}
-use Rattle.std.specs.FinSet as set
+use Rattle.std.specs.Prelude.{ℕ, ◌+◌, ◌-◌, false, if◌then◌else◌, List, [], ◌∷◌, Option, None, Some, Result, Ok, Err, nat_lt}
 use Rattle.std.specs.FinMap.{empty, insert}
 use Rattle.xk_base.specs.declared.limits.TheConstants.{NPROC, TRACE_MAX}
 use Rattle.xk_base.specs.declared.errors.ExecError.{ExecError}
 use Rattle.xk_base.specs.declared.errors.ExecError.TheVariants.{NoFrames}
 use Rattle.xk_base.specs.declared.errors.BootError.{BootError}
 use Rattle.xk_base.specs.declared.errors.BootError.TheVariants.{BadConfig, NoInit, Init}
-use Rattle.kernel_spec.specs.views.State.{ProgramFile, State}
 use Rattle.xk_base.specs.Image.{price}
 use Rattle.xk_base.specs.Loaded.{Loaded, loaded}
 use Rattle.rv64i_core.specs.Registers.{Registers, fresh, put}
 use Rattle.console_core.specs.Lists.{empty_console}
+use Rattle.kernel_spec.specs.views.State.{ProgramFile, State}
 use Rattle.kernel_spec.specs.views.Words.{SP, A0, A1}
 use Rattle.kernel_spec.specs.views.NewKernel.{refusal}
 use Rattle.kernel_spec.specs.views.Programs.{init_name, init_of}
 use Rattle.kernel_spec.specs.views.Processes.{Live, Alive}
 use Rattle.kernel_spec.specs.waking.Turns.{Turns}
-use Rattle.kernel_spec.specs.views.WellFormed.{WellFormed, HasSlots}
 use Rattle.kernel_spec.specs.runs.Run.{World}
+use Rattle.std.specs.FinSet as set
 
 -- all registers 0, but for the stack pointer and the arguments
 abbrev pub first_regs : Loaded → Registers
@@ -68,11 +67,3 @@ unfoldable pub first : (frames trace : ℕ) → List ProgramFile → Result Worl
 first frames trace programs =
     if nat_lt TRACE_MAX trace then Err BadConfig
     else unless_refused (refusal frames programs) (first_init frames programs (init_of programs))
-
--- ---- laws: the state after boot is well-formed, and process 1 has its slot
-
-abbrev pub FirstWell : Type 0
-FirstWell = (frames trace : ℕ) (programs : List ProgramFile) (w : World) → first frames trace programs ≡ Ok w → WellFormed frames w.state
-
-abbrev pub FirstSlots : Type 0
-FirstSlots = (frames trace : ℕ) (programs : List ProgramFile) (w : World) → first frames trace programs ≡ Ok w → HasSlots w.state w.turns

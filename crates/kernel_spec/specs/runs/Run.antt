@@ -8,7 +8,7 @@ use Rattle.kernel_spec.specs.views.Words.{CLOCK_ROUND}
 use Rattle.kernel_spec.specs.views.State.{State}
 use Rattle.kernel_spec.specs.waking.Turns.{Turns, Sleeps, HasSlot, IsLowestFree}
 use Rattle.kernel_spec.specs.views.View.{View, view}
-use Rattle.kernel_spec.specs.steps.Own.{Own, Left, Answer, Stepped, Called, Blocked, Exited, Faulted, gone_with}
+use Rattle.kernel_spec.specs.steps.Own.{Own, Left, Answer, Stepped, Called, Blocked, gone_with}
 use Rattle.kernel_spec.specs.steps.Step.{own}
 use Rattle.kernel_spec.specs.others.Quiet.{file_at, pipe_at, Quiet}
 
@@ -58,9 +58,7 @@ IsButWoken turns after = (after ≡ record turns { sleepers = after.sleepers }) 
 abbrev pub stays_current : ℕ → Answer → Option ℕ
 stays_current p Stepped = Some p
 stays_current p (Called number value) = Some p
-stays_current p (Blocked number) = None
-stays_current p (Exited status) = None
-stays_current p (Faulted cause) = None
+stays_current p _ = None
 
 -- this status, where p is process 1
 abbrev pub of_first : (p : ℕ) → Option ℤ → Option ℤ

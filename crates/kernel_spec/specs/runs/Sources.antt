@@ -1,13 +1,13 @@
 -- Where the bytes of a process's memory are from, over a whole run.
-use Rattle.std.specs.Prelude.{◌≡◌, ◌⊎◌, ℕ, ◌+◌, ◌*◌, ◌<◌, List, [], ◌∷◌, None, Some, IsSome, slice_index}
+use Rattle.std.specs.Prelude.{◌≡◌, ◌⊎◌, ℕ, ◌+◌, ◌*◌, List, [], ◌∷◌, None, Some, IsSome, slice_index}
 use Rattle.std.specs.FinMap.{get}
 use Rattle.xk_base.specs.Image.{Page, Image}
-use Rattle.kernel_spec.specs.views.State.{ProgramFile}
 use Rattle.kernel_spec.specs.views.View.{View, view}
 use Rattle.kernel_spec.specs.steps.Step.{own}
 use Rattle.kernel_spec.specs.rows.Stores.{IsStoredAs}
-use Rattle.kernel_spec.specs.runs.Run.{World, Event, Outcome, Happens, IsRun}
-use Rattle.kernel_spec.specs.laws.Worlds.{IsStepOf, HasExeced, IsFromBoot}
+use Rattle.kernel_spec.specs.runs.Run.{World, Event, Outcome, Happens}
+use Rattle.kernel_spec.specs.rows.Execs.{HasExeced}
+use Rattle.kernel_spec.specs.runs.Moments.{IsStepOf}
 
 -- byte i of a page of the image
 abbrev pub HasByte : Image → (page i byte : ℕ) → Type 0
@@ -43,10 +43,3 @@ WasPut w [] t p page i byte = ⊥
 WasPut w (e ∷ es) t p page i byte =
     (mid : World) × Happens w e.0 e.1 mid
     × (((q : ℕ) × Puts w e.0 q page i byte × Stands mid es t q p page i byte) ⊎ WasPut mid es t p page i byte)
-
--- Each byte of a live process's memory at the end of a run stood in the memory of a process as the run began, or was put there in the run by a step of the process's own, or of one from which its memory came by forks; and no other byte came there since. So no byte is ever seen that another process left in a frame
-abbrev pub EachByteHasItsSource : Type 0
-EachByteHasItsSource =
-    (frames trace : ℕ) (programs : List ProgramFile) (es fs : List (Event × Outcome)) (w t : World) (p page i byte : ℕ)
-    → IsFromBoot frames trace programs es w → IsRun w fs t → i < 4096 → Holds t p page i byte
-    → ((q : ℕ) × Stands w fs t q p page i byte) ⊎ WasPut w fs t p page i byte

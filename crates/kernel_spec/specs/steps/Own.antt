@@ -18,11 +18,9 @@ pub data Answer : Type 0 where
 
 -- the status of a process that is gone
 abbrev pub gone_with : Answer → Option ℤ
-gone_with Stepped = None
-gone_with (Called number value) = None
-gone_with (Blocked number) = None
 gone_with (Exited status) = Some status
 gone_with (Faulted cause) = Some minus_one
+gone_with _ = None
 
 -- what other processes can see of the step. Each descriptor that the view held is told as it is after the step, also where the step closed it
 pub record Left : Type 0 where

@@ -24,7 +24,19 @@ use Rattle.kernel_spec.specs.views.PipeEnds.{joined, parted, is_given_up}
 use Rattle.kernel_spec.specs.rows.Calls.{with_a0}
 use Rattle.kernel_spec.specs.views.Processes.{Process, Live, Alive, Zombie, parent_of}
 use Rattle.kernel_spec.specs.views.State.{State}
-use Rattle.kernel_spec.specs.others.Quiet.{end_of}
+
+-- ---- what a descriptor's open file is on
+
+abbrev pub target_of_open : Option OpenFile → Option Target
+target_of_open None = None
+target_of_open (Some f) = Some f.target
+
+-- what the open file that a descriptor names is on
+abbrev pub end_of : State → Option ℕ → Option Target
+end_of s None = None
+end_of s (Some file) = target_of_open (get s.files file)
+
+-- ---- one part of the state
 
 -- process p, which is live, is now this
 abbrev pub set_live : ℕ → Live → State → State

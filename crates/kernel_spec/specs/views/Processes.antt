@@ -1,5 +1,5 @@
 -- Processes (the xv6 book, "Process overview"). A process is live, or a zombie: it has ended, and its parent has not waited for it yet.
-use Rattle.std.specs.Prelude.{ℕ, ℤ, pos, Bool, true, false, Option, None, Some}
+use Rattle.std.specs.Prelude.{ℕ, ℤ, pos, Bool, true, false, Option, Some}
 use Rattle.std.specs.FinMap.{FinMap}
 use Rattle.std.specs.Ordering.{nat_cmp}
 use Rattle.xk_base.specs.Image.{Image}
@@ -33,11 +33,9 @@ pub data Child : Type 0 where
   Status : ℤ → Child
 
 abbrev pub has_status : Option Child → Bool
-has_status None = false
-has_status (Some Running) = false
 has_status (Some (Status status)) = true
+has_status _ = false
 
 abbrev pub child_status : Option Child → ℤ
-child_status None = pos 0
-child_status (Some Running) = pos 0
 child_status (Some (Status status)) = status
+child_status _ = pos 0

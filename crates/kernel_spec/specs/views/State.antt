@@ -6,7 +6,7 @@ use Rattle.xk_base.specs.declared.program.Program.{Program}
 use Rattle.pipe_core.specs.Pipe.{Pipe}
 use Rattle.console_core.specs.Lists.{Console}
 use Rattle.file_table.specs.declared.open_file.OpenFile.{OpenFile}
-use Rattle.kernel_spec.specs.views.Processes.{Process, Live, Alive, Zombie}
+use Rattle.kernel_spec.specs.views.Processes.{Process, Live, Alive}
 
 -- a program of the machine: its name, and its file
 pub record ProgramFile : Type 0 where
@@ -35,9 +35,8 @@ pub record State : Type 0 where
   pub programs : List ProgramFile
 
 abbrev pub live_part : Option Process → Option Live
-live_part None = None
 live_part (Some (Alive l)) = Some l
-live_part (Some (Zombie parent status)) = None
+live_part _ = None
 
 -- the process of this pid, if it is live
 abbrev pub live : State → ℕ → Option Live

@@ -1,6 +1,6 @@
 -- What one process can see of the state: its view. Each step of the process is a function of it.
 -- What isn't in it, the process can't tell: other processes' memory and registers, which slots they have, who sleeps, which frames hold what.
-use Rattle.std.specs.Prelude.{ℕ, Bool, if◌then◌else◌, List, [], Option, None, Some, ℤ, pos, negsuc, nat_lt, option_map}
+use Rattle.std.specs.Prelude.{ℕ, Bool, if◌then◌else◌, List, [], Option, None, Some, ℤ, pos, negsuc, nat_lt, option_map, unwrap_or}
 use Rattle.std.specs.FinMap.{get, keys}
 use Rattle.xk_base.specs.declared.limits.TheConstants.{NOFILE}
 use Rattle.kernel_spec.specs.views.State.{ProgramFile, State, live}
@@ -10,11 +10,10 @@ use Rattle.rv64i_core.specs.Registers.{Registers}
 use Rattle.pipe_core.specs.Pipe.{Pipe}
 use Rattle.console_core.specs.Lists.{Console}
 use Rattle.file_table.specs.declared.open_file.End.{End}
-use Rattle.file_table.specs.declared.open_file.OpenFile.{OpenFile}
 use Rattle.file_table.specs.declared.open_file.Target.{Target}
 use Rattle.file_table.specs.declared.open_file.Target.TheVariants.{Console as Terminal, Program as File, Pipe as Pipe_end}
 use Rattle.proc_table.specs.declared.process.Call.{Call}
-use Rattle.kernel_spec.specs.views.Words.{is_this}
+use Rattle.kernel_spec.specs.views.Words.{◌>>=◌, is_this}
 use Rattle.kernel_spec.specs.views.Processes.{Process, Live, Alive, Zombie, Child, Running, Status}
 
 -- what a descriptor is on
@@ -67,17 +66,14 @@ in_use v number = by_number v.descriptors number
 -- ---- names of open files and pipes: a process sees only where two descriptors are on the same one
 
 abbrev pub file_name : Option Descriptor → Option ℕ
-file_name None = None
-file_name (Some d) = Some d.file
+file_name o = option_map (λ (d : Descriptor). d.file) o
 
 abbrev pub shown_pipe_name : Shown → Option ℕ
-shown_pipe_name Shown_terminal = None
-shown_pipe_name (Shown_file program offset) = None
 shown_pipe_name (Shown_pipe name end pipe) = Some name
+shown_pipe_name _ = None
 
 abbrev pub pipe_name : Option Descriptor → Option ℕ
-pipe_name None = None
-pipe_name (Some d) = shown_pipe_name d.shown
+pipe_name o = do d ← o; shown_pipe_name d.shown
 
 -- the least descriptor on the open file of this name
 abbrev pub least_on_file : Descriptors → ℕ → Option ℕ
@@ -87,17 +83,12 @@ least_on_file t name = least_below (λ d. is_this name (file_name (t d))) NOFILE
 abbrev pub least_on_pipe : Descriptors → ℕ → Option ℕ
 least_on_pipe t name = least_below (λ d. is_this name (pipe_name (t d))) NOFILE
 
-abbrev pub or_else : Option ℕ → ℕ → ℕ
-or_else None n = n
-or_else (Some k) n = k
-
 abbrev pub rename_shown : Descriptors → Shown → Shown
-rename_shown t Shown_terminal = Shown_terminal
-rename_shown t (Shown_file program offset) = Shown_file program offset
-rename_shown t (Shown_pipe name end pipe) = Shown_pipe (or_else (least_on_pipe t name) name) end pipe
+rename_shown t (Shown_pipe name end pipe) = Shown_pipe (unwrap_or (least_on_pipe t name) name) end pipe
+rename_shown t shown = shown
 
 abbrev pub rename : Descriptors → Descriptor → Descriptor
-rename t d = record d { file = or_else (least_on_file t d.file) d.file; shown = rename_shown t d.shown }
+rename t d = record d { file = unwrap_or (least_on_file t d.file) d.file; shown = rename_shown t d.shown }
 
 -- the same table, where each open file and each pipe is named by the least descriptor on it
 unfoldable pub named : Descriptors → Descriptors
@@ -115,17 +106,12 @@ show s Terminal = Shown_terminal
 show s (File program offset) = Shown_file program offset
 show s (Pipe_end pipe end) = Shown_pipe pipe end (or_gone (get s.pipes pipe))
 
-abbrev pub descriptor_on : State → ℕ → Option OpenFile → Option Descriptor
-descriptor_on s file None = None
-descriptor_on s file (Some f) = Some (record { file = file; read = f.read; write = f.write; shown = show s f.target })
-
-abbrev pub descriptor_at : State → Option ℕ → Option Descriptor
-descriptor_at s None = None
-descriptor_at s (Some file) = descriptor_on s file (get s.files file)
-
 -- the descriptors, under the kernel's own numbers of open files and pipes
 abbrev pub numbered : State → Live → Descriptors
-numbered s l = λ d. descriptor_at s (get l.descriptors d)
+numbered s l = λ d. do
+  file ← get l.descriptors d
+  f ← get s.files file
+  Some (record { file = file; read = f.read; write = f.write; shown = show s f.target })
 
 -- what process p sees of a process: a child, if it is p's
 abbrev pub child_of : ℕ → Option Process → Option Child

@@ -9,7 +9,7 @@ use Rattle.file_table.specs.declared.open_file.End.TheVariants.{Reading, Writing
 use Rattle.file_table.specs.declared.open_file.OpenFile.{OpenFile}
 use Rattle.file_table.specs.declared.open_file.Target.TheVariants.{Pipe as Pipe_end}
 use Rattle.kernel_spec.specs.views.PipeEnds.{is_given_up}
-use Rattle.kernel_spec.specs.views.Processes.{Process, Alive, Zombie, parent_of}
+use Rattle.kernel_spec.specs.views.Processes.{Process, Alive, parent_of}
 use Rattle.kernel_spec.specs.views.State.{State, live}
 use Rattle.kernel_spec.specs.views.View.{numbered}
 use Rattle.kernel_spec.specs.rows.Tables.{ends}
@@ -23,15 +23,13 @@ sum_below (suc n) f = sum_below n f + f n
 
 -- how many descriptors of a process are on an end of pipe i
 abbrev pub on : State → ℕ → End → Option Process → ℕ
-on s i end None = 0
 on s i end (Some (Alive l)) = ends (numbered s l) i end
-on s i end (Some (Zombie parent status)) = 0
+on s i end _ = 0
 
 -- how many frames a process has
 abbrev pub cost : Option Process → ℕ
-cost None = 0
 cost (Some (Alive l)) = price l.image + 1
-cost (Some (Zombie parent status)) = 0
+cost _ = 0
 
 -- over all processes
 abbrev pub over_all : State → (Option Process → ℕ) → ℕ

@@ -1,5 +1,5 @@
--- Small words on numbers that the rest is said with.
-use Rattle.std.specs.Prelude.{ℕ, ◌%◌, ◌^◌, Bool, false, if◌then◌else◌, Option, None, Some, ℤ, negsuc, nat_eq}
+-- Small words that the rest is said with.
+use Rattle.std.specs.Prelude.{ℕ, ◌%◌, ◌^◌, Bool, false, if◌then◌else◌, Option, None, Some, unwrap_or, option_and_then, ℤ, negsuc, nat_eq}
 use Rattle.std.specs.Int.{cast_signed, cast_unsigned, w32, w64}
 
 -- ---- registers by the calling convention (RISC-V Calling Conventions, "Integer Register Convention")
@@ -39,8 +39,7 @@ CLOCK_ROUND = 2 ^ 32
 
 -- the number, and 0 where there is none
 abbrev pub or_zero : Option ℕ → ℕ
-or_zero None = 0
-or_zero (Some number) = number
+or_zero o = unwrap_or o 0
 
 -- 1 where it is so
 abbrev pub count_if : Bool → ℕ
@@ -56,3 +55,10 @@ is_this n (Some k) = nat_eq k n
 -- the function that gives a for k, and what it gave before for all others
 abbrev pub with_value : {A : Type 0} → (ℕ → A) → ℕ → A → ℕ → A
 with_value f k a q = if nat_eq q k then a else f q
+
+-- ---- what may not be there
+
+-- `x ← o`, a line of a `do`: x is what o has, and if o has nothing, there is nothing
+infixr 5 ◌>>=◌
+abbrev pub ◌>>=◌ : {A B : Type 0} → Option A → (A → Option B) → Option B
+o >>= rest = option_and_then rest o

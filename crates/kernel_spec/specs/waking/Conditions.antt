@@ -4,28 +4,23 @@ use Rattle.std.specs.List.{list_any}
 use Rattle.std.specs.FinMap.{FinMap, get, keys}
 use Rattle.std.specs.Ordering.{nat_cmp}
 use Rattle.xk_base.specs.declared.limits.TheConstants.{NOFILE}
-use Rattle.pipe_core.specs.Pipe.{Pipe}
 use Rattle.file_table.specs.declared.open_file.Target.{Target}
 use Rattle.file_table.specs.declared.open_file.Target.TheVariants.{Console as Terminal, Program as File, Pipe as Pipe_end}
 use Rattle.proc_table.specs.declared.process.Call.{Call}
+use Rattle.file_table.specs.declared.open_file.OpenFile.{OpenFile}
 use Rattle.kernel_spec.specs.views.Words.{c_int}
 use Rattle.kernel_spec.specs.views.PipeEnds.{has_bytes, has_room}
 use Rattle.kernel_spec.specs.rows.Terminal.{has_committed, has_room_to_send}
 use Rattle.kernel_spec.specs.steps.Ticks.{ticks_since, has_passed}
-use Rattle.kernel_spec.specs.views.Processes.{Live, Alive, Zombie, has_status}
-use Rattle.console_core.specs.Lists.{Console}
-use Rattle.file_table.specs.declared.open_file.OpenFile.{OpenFile}
+use Rattle.kernel_spec.specs.views.Processes.{Live, has_status}
 use Rattle.kernel_spec.specs.views.State.{State, live}
 use Rattle.kernel_spec.specs.views.View.{View, view_of, child_of, or_gone}
 use Rattle.kernel_spec.specs.rows.Calls.{Row, Wait, Read, Write, Sleep, row_of}
-use Rattle.kernel_spec.specs.steps.Updates.{changed_state, alone_state, mark, waited_state, forked_state, gone_state, kill_state}
-use Rattle.kernel_spec.specs.others.Quiet.{file_at, pipe_at, end_of, target_of_open}
-use Rattle.kernel_spec.specs.views.WellFormed.{WellFormed}
-use Rattle.kernel_spec.specs.laws.RowLaws.{FilesLeft}
-use Rattle.kernel_spec.specs.waking.Ready.{ready}
+use Rattle.kernel_spec.specs.steps.Updates.{end_of, target_of_open}
+use Rattle.kernel_spec.specs.others.Quiet.{file_at, pipe_at}
 use Rattle.kernel_spec.specs.waking.Turns.{Sleeps}
 use Rattle.kernel_spec.specs.runs.Run.{World, Outcome, Ticked}
-use Rattle.kernel_spec.specs.waking.Wakes.{NoReadySleeper, WakesWhereDue, IsInCall, IsEnd}
+use Rattle.kernel_spec.specs.waking.Wakes.{IsInCall, IsEnd}
 
 -- What has to come before a process that waits may go on
 pub data Condition : Type 0 where
@@ -93,10 +88,6 @@ call_waits_for s p l (Some c) = row_waits_for s p l c (row_of c.number)
 abbrev pub waits_for : State → ℕ → Live → Condition
 waits_for s p l = call_waits_for s p l l.call
 
--- a process is ready exactly where it is marked, or what it waits for has come
-abbrev pub ReadyIsOpen : Type 0
-ReadyIsOpen = (s : State) (p : ℕ) (l : Live) → ready (view_of s p l) ≡ (l.killed || is_open s (waits_for s p l))
-
 -- ---- what each update may make come: whoever waits for something else sleeps on
 
 abbrev pub OpensOnly : State → State → (Condition → Type 0) → Type 0
@@ -111,52 +102,9 @@ IsOfConsole c = (c ≡ Keys) ⊎ (c ≡ Sending)
 abbrev pub IsTime : Condition → Type 0
 IsTime c = (since : ℕ) × (ticks : ℕ) × (c ≡ Time since ticks)
 
--- rows that change only their process, the console and the free frames
-abbrev pub OpensAlone : Type 0
-OpensAlone = (s : State) (p : ℕ) (l m : Live) (console : Console) (free : ℕ) → get s.processes p ≡ Some (Alive l) → m.parent ≡ l.parent → OpensOnly s (alone_state p m console free s) IsOfConsole
-
--- and leave the console as it is, or change an open file
-abbrev pub OpensNothing : Type 0
-OpensNothing =
-    (s : State) (p : ℕ) (l m : Live) (files : FinMap nat_cmp OpenFile) (free : ℕ) → get s.processes p ≡ Some (Alive l) → m.parent ≡ l.parent
-    → OpensOnly s (changed_state p m files s.pipes s.console free s) (λ c. ⊥)
-
--- reads and writes of pipe i, dup and close on it: all other pipes stay
-abbrev pub OpensPipe : Type 0
-OpensPipe =
-    (s : State) (p : ℕ) (l m : Live) (i : ℕ) (files : FinMap nat_cmp OpenFile) (pipes : FinMap nat_cmp Pipe) (free : ℕ) → get s.processes p ≡ Some (Alive l) → m.parent ≡ l.parent
-    → ((j : ℕ) → j ≢ i → get pipes j ≡ get s.pipes j)
-    → OpensOnly s (changed_state p m files pipes s.console free s) (IsOfPipe i)
-
--- a mark
-abbrev pub OpensMarked : Type 0
-OpensMarked = (s : State) (q : ℕ) → OpensOnly s (mark q s) (λ c. ⊥)
-
--- a wait that takes a zombie of p
-abbrev pub OpensReaped : Type 0
-OpensReaped =
-    (s : State) (p q : ℕ) (l m : Live) (status : ℤ) → get s.processes p ≡ Some (Alive l) → m.parent ≡ l.parent → get s.processes q ≡ Some (Zombie (Some p) status)
-    → OpensOnly s (waited_state p m q s) (λ c. c ≡ Child_of p)
-
--- a tick; a key, or a byte that is sent
-abbrev pub OpensTick : Type 0
-OpensTick = (s : State) (clock : ℕ) → OpensOnly s (record s { clock = clock }) IsTime
-
-abbrev pub OpensConsole : Type 0
-OpensConsole = (s : State) (console : Console) → OpensOnly s (record s { console = console }) IsOfConsole
-
--- a new process: nothing
-abbrev pub OpensForked : Type 0
-OpensForked = (frames : ℕ) (s : State) (p : ℕ) (l : Live) → WellFormed frames s → get s.processes p ≡ Some (Alive l) → OpensOnly s (forked_state p l s) (λ c. ⊥)
-
 -- the end of p: its parent's and process 1's children, and the pipes that p was on
 abbrev pub MayOpenAtEnd : State → ℕ → Live → Condition → Type 0
 MayOpenAtEnd s p l c = ((q : ℕ) × (c ≡ Child_of q) × ((l.parent ≡ Some q) ⊎ (q ≡ 1) ⊎ (q ≡ p))) ⊎ ((j : ℕ) × (e : ℕ) × IsOfPipe j c × (pipe_at s p e ≡ Some j))
-
-abbrev pub OpensGone : Type 0
-OpensGone =
-    (frames : ℕ) (s : State) (p : ℕ) (l : Live) (status : ℤ) (files : FinMap nat_cmp OpenFile) → WellFormed frames s → get s.processes p ≡ Some (Alive l) → FilesLeft s (gone_state p l status files s)
-    → OpensOnly s (gone_state p l status files s) (MayOpenAtEnd s p l)
 
 -- ---- what no update changes: what everybody else waits for, and marks
 
@@ -175,19 +123,6 @@ at_start (Some (Pipe_end i end)) = Some (Pipe_end i end)
 abbrev pub KeepsTargets : State → ℕ → FinMap nat_cmp OpenFile → Type 0
 KeepsTargets s p files = (q d f : ℕ) → q ≢ p → file_at s q d ≡ Some f → at_start (target_of_open (get files f)) ≡ at_start (target_of_open (get s.files f))
 
--- It is so after each update of a live process p: p changes with the open files, pipes, the console and the free frames, where the open files of others are on what they
--- were on, or are those that somebody still names; p kills q; p takes the zombie q; p forks; p goes. A tick, a key and a byte that is sent leave what anybody waits for
-abbrev pub WaitsStay : Type 0
-WaitsStay =
-    (frames : ℕ) (s : State) (p : ℕ) (l : Live) → WellFormed frames s → get s.processes p ≡ Some (Alive l)
-    → ((m : Live) (files : FinMap nat_cmp OpenFile) (pipes : FinMap nat_cmp Pipe) (console : Console) (free : ℕ)
-    → KeepsTargets s p files ⊎ FilesLeft s (changed_state p m files pipes console free s) → OthersWaitOn s p (changed_state p m files pipes console free s))
-    × ((m : Live) (q : ℕ) → OthersWaitOn s p (kill_state p m q s))
-    × ((m : Live) (q : ℕ) → OthersWaitOn s p (waited_state p m q s))
-    × OthersWaitOn s p (forked_state p l s)
-    × ((status : ℤ) (files : FinMap nat_cmp OpenFile) → FilesLeft s (gone_state p l status files s) → OthersWaitOn s p (gone_state p l status files s))
-    × ((clock : ℕ) (console : Console) (q : ℕ) (m : Live) → waits_for (record s { clock = clock; console = console }) q m ≡ waits_for s q m)
-
 -- ---- waking by conditions is waking where it is due
 
 -- it counts ticks and there was one, or it is process 1 in wait and a process went
@@ -204,6 +139,3 @@ pub record WakesByConditions (w : World) (o : Outcome) (t : World) (came : Condi
   pub woken :
       (q : ℕ) (l m : Live) → Sleeps w.turns q → live w.state q ≡ Some l → live t.state q ≡ Some m
       → (¬ Sleeps t.turns q) ↔ ((came (waits_for w.state q l) ≡ true) ⊎ ((l.killed ≡ false) × (m.killed ≡ true)) ⊎ WakesAnyway q (view_of t.state q m) o)
-
-abbrev pub ConditionsSuffice : Type 0
-ConditionsSuffice = (w t : World) (o : Outcome) (came : Condition → Bool) → NoReadySleeper w → WakesByConditions w o t came → WakesWhereDue w o t

@@ -9,7 +9,8 @@ use Rattle.kernel_spec.specs.views.View.{view}
 use Rattle.kernel_spec.specs.runs.First.{first}
 use Rattle.kernel_spec.specs.steps.Own.{Stepped}
 use Rattle.kernel_spec.specs.runs.Run.{World, Event, Run, Tick, Send, Outcome, Step_of, Ticked, Sent}
-use Rattle.kernel_spec.specs.laws.Worlds.{Moment, AllBoth, shared}
+use Rattle.kernel_spec.specs.runs.Moments.{Moment, AllBoth}
+use Rattle.kernel_spec.specs.views.Shared.{shared}
 use Rattle.xv_machine.specs.declared.trace.Note.TheVariants as note
 use Rattle.xv_machine.specs.Drives.{Goes}
 use Rattle.xv_machine.specs.Meaning.{Meaning}

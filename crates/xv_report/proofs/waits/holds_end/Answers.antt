@@ -1,6 +1,7 @@
 use Rattle.std.proofs.Common.{◌≡◌, ◌∙◌, ◌<◌, ℕ, Bool, true, false, sym, ap, rules}
 use Rattle.xk_base.specs.declared.limits.TheConstants.{NOFILE}
-use Rattle.kernel_spec.specs.others.Quiet.{end_of, file_at}
+use Rattle.kernel_spec.specs.others.Quiet.{file_at}
+use Rattle.kernel_spec.specs.steps.Updates.{end_of}
 use Rattle.xv_report.specs.Waits.{is_end}
 use Rattle.xv_report.proofs.Ends.{some-none, some-more}
 use Rattle.xv_report.proofs.waits.holds_end.Goals as goal

@@ -1,6 +1,7 @@
 use Rattle.std.proofs.Common.{◌≡◌, false}
 use Rattle.xk_base.specs.Image.{some_below}
-use Rattle.kernel_spec.specs.others.Quiet.{end_of, file_at}
+use Rattle.kernel_spec.specs.others.Quiet.{file_at}
+use Rattle.kernel_spec.specs.steps.Updates.{end_of}
 use Rattle.xv_report.specs.Waits.{is_end}
 use Rattle.xv_report.proofs.waits.holds_end.Given as goal
 

@@ -3,7 +3,7 @@ use Rattle.std.specs.Prelude.{IsSome}
 use Rattle.std.proofs.lemmas.Int.{to_z-of_z}
 use Rattle.xk_base.specs.Image.{price}
 use Rattle.kernel_spec.specs.views.Words.{or_zero}
-use Rattle.kernel_spec.specs.laws.RowLaws.{IsLive}
+use Rattle.kernel_spec.specs.steps.Cases.{IsLive}
 use Rattle.kernel_spec.specs.steps.Updates.{give_frames, end_process, orphans}
 use Rattle.kcall_core.specs.Kernel.{state_of, slot_now, pid_now, live_now, IsSound, IsRunning}
 use Rattle.kcall_core.specs.declared.kernel.Kernel.{Kernel}
