@@ -2,7 +2,7 @@
 use Rattle.std.specs.Prelude.{◌≡◌, ℕ, ◌+◌, ◌*◌, ◌^◌, ◌≤◌, ◌<◌, true, List, [], Some, None, length}
 use Rattle.xk_base.specs.declared.limits.TheConstants.{SIZE_LIMIT}
 use Rattle.xk_base.specs.Frames.{copies}
-use Rattle.xk_base.specs.Image.{Image}
+use Rattle.xk_base.specs.Image.{Image, price}
 use Rattle.phys_ram.specs.Ram.{frame_at}
 use Rattle.frame_list.specs.declared.Pool.{Pool}
 use Rattle.frame_list.specs.Pool.{free_in, Good}
@@ -69,6 +69,14 @@ pub record Unchanged (pool : Pool) (ram : List (List ℕ)) (space : Space) (pool
   pub same_pool : pool' ≡ pool
   pub same_ram : ram' ≡ ram
   pub same_space : space' ≡ space
+
+-- what the space's image would cost more, if it were this one, is at most the free frames
+abbrev pub Affords : Pool → List (List ℕ) → Space → Image → Type 0
+Affords pool ram space image = price image ≤ price (image_of ram space) + length (free_in pool ram)
+
+-- it is more than the free frames
+abbrev pub IsTooDear : Pool → List (List ℕ) → Space → Image → Type 0
+IsTooDear pool ram space image = price (image_of ram space) + length (free_in pool ram) < price image
 
 -- ---- all other spaces
 

@@ -1,18 +1,20 @@
 //! Pages that are not there: how many frames they take, and how they come.
 #![tactic(auto)]
 
-ghost use Rattle.std.specs.Prelude.{◌≡◌, ℕ, ◌+◌, ◌-◌, ◌*◌, ◌/◌, ◌^◌, ◌≤◌, ◌<◌, ◌&&◌, true, false, None, Some, List, length, nat_lt, option_map, IfOk, IfErr};
+ghost use Rattle.std.specs.Prelude.{◌≡◌, ℕ, ◌+◌, ◌-◌, ◌*◌, ◌/◌, ◌^◌};
+ghost use Rattle.std.specs.Prelude.{◌≤◌, ◌<◌, ◌&&◌, true, false, None, Some};
+ghost use Rattle.std.specs.Prelude.{List, length, nat_lt, option_map, IfOk, IfErr};
 ghost use Rattle.std.specs.FinMap.{get};
 ghost use Rattle.xk_base.specs.declared.access.Rights.{Rights};
 ghost use Rattle.xk_base.specs.declared.limits.TheConstants.{SIZE_LIMIT};
 ghost use Rattle.xk_base.specs.Image.{price};
 ghost use Rattle.frame_list.specs.declared.Pool.{Pool};
-ghost use Rattle.frame_list.specs.Pool.{free_in};
 ghost use Rattle.sv39_core.specs.Sv39.{page_entry};
 ghost use Rattle.sv39_core.specs.Tree.{frame_of};
 ghost use Rattle.addr_space.specs.Absent.{is_absent, is_among, grown_lazily, pages_at, brought, whole};
 ghost use Rattle.addr_space.specs.Changes.{filled, perm_of_page};
 ghost use Rattle.addr_space.specs.Space.{image_of, frames_of, Belongs, Changed, Unchanged, IsSpace, SparesOthers};
+ghost use Rattle.addr_space.specs.Space.{Affords, IsTooDear};
 ghost use Rattle.addr_space.specs.Translations.{TranslationsStay};
 
 use crate::{Space, entry_of_page, lower_table, upper_table};
@@ -34,9 +36,12 @@ fn pages_below(size: u64, address: u64, len: usize) -> Pages
     requires limit { size ≤ SIZE_LIMIT }
     ensures order { result.first ≤ result.end }
     ensures few { result.end ≤ 2 ^ 26 }
-    ensures inside { (v : ℕ) → result.first ≤ v → v < result.end → (is_among v (pages_at address len) ≡ true) × (4096 * v < size) }
-    ensures before { (v : ℕ) → v < result.first → 4096 * v < size → is_among v (pages_at address len) ≡ false }
-    ensures behind { (v : ℕ) → result.end ≤ v → 4096 * v < size → is_among v (pages_at address len) ≡ false }
+    ensures inside { (v : ℕ) → result.first ≤ v → v < result.end
+        → (is_among v (pages_at address len) ≡ true) × (4096 * v < size) }
+    ensures before { (v : ℕ) → v < result.first → 4096 * v < size
+        → is_among v (pages_at address len) ≡ false }
+    ensures behind { (v : ℕ) → result.end ≤ v → 4096 * v < size
+        → is_among v (pages_at address len) ≡ false }
 {
     let top = page_count(size) as u64 * PAGE_BYTES;
     if address >= top || len == 0 {
@@ -58,7 +63,9 @@ impl Space {
         requires whole { IsSpace ram.now self.now }
         requires more { first ≤ last }
         requires limit { last ≤ 2 ^ 26 }
-        ensures { (perm : Rights) → price (filled (image_of ram.now self.now) first (last - first) perm) ≡ price (image_of ram.now self.now) + result }
+        ensures { (perm : Rights)
+            → price (filled (image_of ram.now self.now) first (last - first) perm)
+            ≡ price (image_of ram.now self.now) + result }
     {
         let mut number = first;
         let mut count: u32 = 0;
@@ -105,11 +112,15 @@ impl Space {
         ensures changed { IfOk result (λ _. Changed pool.old ram.old self.old pool.new ram.new self.new) }
         ensures belongs { IfOk result (λ _. Belongs pool.new ram.new self.new) }
         ensures size { self.new.size ≡ self.old.size }
-        ensures image { IfOk result (λ _. image_of ram.new self.new ≡ filled (image_of ram.old self.old) first (last - first) perm) }
+        ensures image { IfOk result (λ _.
+            image_of ram.new self.new ≡ filled (image_of ram.old self.old) first (last - first) perm) }
         ensures translations { IfOk result (λ _. TranslationsStay ram.old ram.new self.old.root) }
         ensures others { IfOk result (λ _. SparesOthers pool.old ram.old (frames_of ram.old self.old) ram.new) }
-        ensures fits { IfOk result (λ _. price (filled (image_of ram.old self.old) first (last - first) perm) ≤ price (image_of ram.old self.old) + length (free_in pool.old ram.old)) }
-        ensures refused { IfErr result (λ _. (price (image_of ram.old self.old) + length (free_in pool.old ram.old) < price (filled (image_of ram.old self.old) first (last - first) perm)) × Unchanged pool.old ram.old self.old pool.new ram.new self.new) }
+        ensures fits { IfOk result (λ _.
+            Affords pool.old ram.old self.old (filled (image_of ram.old self.old) first (last - first) perm)) }
+        ensures refused { IfErr result (λ _.
+            IsTooDear pool.old ram.old self.old (filled (image_of ram.old self.old) first (last - first) perm)
+            × Unchanged pool.old ram.old self.old pool.new ram.new self.new) }
     {
         let extra = self.price_between(ram, first, last);
         if pool.free() < extra {
@@ -184,7 +195,8 @@ impl Space {
     /// How many frames a [`touch`](Space::touch) of so many bytes from an address on takes.
     pub fn touch_price(&self, ram: &Ram, address: u64, len: usize) -> u32
         requires whole { IsSpace ram.now self.now }
-        ensures { price (brought (pages_at address len) (image_of ram.now self.now)) ≡ price (image_of ram.now self.now) + result }
+        ensures { price (brought (pages_at address len) (image_of ram.now self.now))
+            ≡ price (image_of ram.now self.now) + result }
     {
         let pages = pages_below(self.size, address, len);
         self.price_between(ram, pages.first, pages.end)
@@ -208,11 +220,15 @@ impl Space {
         ensures changed { IfOk result (λ _. Changed pool.old ram.old self.old pool.new ram.new self.new) }
         ensures belongs { IfOk result (λ _. Belongs pool.new ram.new self.new) }
         ensures size { self.new.size ≡ self.old.size }
-        ensures image { IfOk result (λ _. image_of ram.new self.new ≡ brought (pages_at address len) (image_of ram.old self.old)) }
+        ensures image { IfOk result (λ _.
+            image_of ram.new self.new ≡ brought (pages_at address len) (image_of ram.old self.old)) }
         ensures translations { IfOk result (λ _. TranslationsStay ram.old ram.new self.old.root) }
         ensures others { IfOk result (λ _. SparesOthers pool.old ram.old (frames_of ram.old self.old) ram.new) }
-        ensures fits { IfOk result (λ _. price (brought (pages_at address len) (image_of ram.old self.old)) ≤ price (image_of ram.old self.old) + length (free_in pool.old ram.old)) }
-        ensures refused { IfErr result (λ _. (price (image_of ram.old self.old) + length (free_in pool.old ram.old) < price (brought (pages_at address len) (image_of ram.old self.old))) × Unchanged pool.old ram.old self.old pool.new ram.new self.new) }
+        ensures fits { IfOk result (λ _.
+            Affords pool.old ram.old self.old (brought (pages_at address len) (image_of ram.old self.old))) }
+        ensures refused { IfErr result (λ _.
+            IsTooDear pool.old ram.old self.old (brought (pages_at address len) (image_of ram.old self.old))
+            × Unchanged pool.old ram.old self.old pool.new ram.new self.new) }
     {
         let pages = pages_below(self.size, address, len);
         self.fill(pool, ram, pages.first, pages.end, Perm::data())
@@ -224,9 +240,12 @@ impl Space {
         requires more { self.old.size ≤ size }
         requires limit { size ≤ SIZE_LIMIT }
         ensures size { self.new.size ≡ size }
-        ensures image { (ram : List (List ℕ)) → image_of ram self.new ≡ grown_lazily (image_of ram self.old) size }
-        ensures changed { (pool : Pool) (ram : List (List ℕ)) → Belongs pool ram self.old → Changed pool ram self.old pool ram self.new }
-        ensures belongs { (pool : Pool) (ram : List (List ℕ)) → Belongs pool ram self.old → Belongs pool ram self.new }
+        ensures image { (ram : List (List ℕ))
+            → image_of ram self.new ≡ grown_lazily (image_of ram self.old) size }
+        ensures changed { (pool : Pool) (ram : List (List ℕ)) → Belongs pool ram self.old
+            → Changed pool ram self.old pool ram self.new }
+        ensures belongs { (pool : Pool) (ram : List (List ℕ)) → Belongs pool ram self.old
+            → Belongs pool ram self.new }
     {
         self.size = size;
     }

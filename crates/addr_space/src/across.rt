@@ -1,7 +1,8 @@
 //! Bytes that lie across pages: whole pages at a time, one walk for each.
 #![tactic(auto)]
 
-ghost use Rattle.std.specs.Prelude.{◌≡◌, ℕ, ◌+◌, ◌*◌, ◌/◌, ◌%◌, ◌-◌, ◌≤◌, ◌<◌, ◌^◌, length, Some, None, IfSome, IfNone};
+ghost use Rattle.std.specs.Prelude.{◌≡◌, ℕ, ◌+◌, ◌*◌, ◌/◌, ◌%◌, ◌-◌, ◌≤◌};
+ghost use Rattle.std.specs.Prelude.{◌<◌, ◌^◌, length, Some, None, IfSome, IfNone};
 ghost use Rattle.std.specs.FinMap.{get};
 ghost use Rattle.xk_base.specs.Image.{Page};
 ghost use Rattle.xk_base.specs.Frames.{copies};
@@ -23,7 +24,9 @@ impl Space {
     /// The bytes of a page; none where it isn't there.
     pub fn page_bytes<'a>(&self, ram: &'a Ram, vpn: Vpn) -> Option<&'a FrameBytes>
         requires { IsSpace ram.now self.now }
-        ensures there { IfSome result (λ bytes. (page : Page) × (get (image_of ram.now self.now).pages vpn ≡ Some page) × (bytes.now ≡ page.bytes)) }
+        ensures there { IfSome result (λ bytes.
+            (page : Page) × (get (image_of ram.now self.now).pages vpn ≡ Some page)
+            × (bytes.now ≡ page.bytes)) }
         ensures none { IfNone result (get (image_of ram.now self.now).pages vpn ≡ None) }
     {
         let Entry::Leaf(frame, ..) = entry_of_page(ram, self.root, vpn.number() as usize) else {
@@ -37,7 +40,9 @@ impl Space {
         requires { IsSpace ram.now self.now }
         ensures frame { result ≡ frame_of (page_entry ram.now self.now.root vpn) }
         ensures owned { IfSome result (λ f. (f < length ram.now) × (1 ≤ copies f (frames_of ram.now self.now))) }
-        ensures there { IfSome result (λ f. (page : Page) × (get (image_of ram.now self.now).pages vpn ≡ Some page) × (page.bytes ≡ frame_at ram.now f)) }
+        ensures there { IfSome result (λ f.
+            (page : Page) × (get (image_of ram.now self.now).pages vpn ≡ Some page)
+            × (page.bytes ≡ frame_at ram.now f)) }
         ensures none { IfNone result (get (image_of ram.now self.now).pages vpn ≡ None) }
     {
         let Entry::Leaf(frame, ..) = entry_of_page(ram, self.root, vpn.number() as usize) else {
@@ -87,9 +92,11 @@ impl Space {
         requires there { IsMapped (image_of ram.old self.now) address (length bytes.now) }
         ensures image { image_of ram.new self.now ≡ write_image (image_of ram.old self.now) address bytes.now }
         ensures in_place { WrittenInPlace ram.old ram.new self.now }
-        ensures changed { (pool : Pool) → Belongs pool ram.old self.now → Changed pool ram.old self.now pool ram.new self.now }
+        ensures changed { (pool : Pool) → Belongs pool ram.old self.now
+            → Changed pool ram.old self.now pool ram.new self.now }
         ensures belongs { (pool : Pool) → Belongs pool ram.old self.now → Belongs pool ram.new self.now }
-        ensures others { (pool : Pool) → Belongs pool ram.old self.now → SparesOthers pool ram.old (frames_of ram.old self.now) ram.new }
+        ensures others { (pool : Pool) → Belongs pool ram.old self.now
+            → SparesOthers pool ram.old (frames_of ram.old self.now) ram.new }
     {
         let mut done = 0;
         'parts: while done < bytes.len() {

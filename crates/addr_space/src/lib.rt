@@ -10,7 +10,10 @@
 //! alone, and leaves all others' bytes.
 #![tactic(auto)]
 
-ghost use Rattle.std.specs.Prelude.{◌≡◌, ◌≢◌, ℕ, ◌+◌, ◌*◌, ◌/◌, ◌%◌, ◌^◌, ◌<◌, ◌≤◌, length, Some, None, true, IfOk, IfErr, IfSome, IfNone, IsSome, List, [], ◌-◌, option_map, false, take, drop, min};
+ghost use Rattle.std.specs.Prelude.{◌≡◌, ℕ, ◌+◌, ◌*◌, ◌/◌, ◌%◌};
+ghost use Rattle.std.specs.Prelude.{◌^◌, ◌<◌, ◌≤◌, length, Some, None, true};
+ghost use Rattle.std.specs.Prelude.{IfOk, IfErr, IfSome, IfNone, IsSome, List, []};
+ghost use Rattle.std.specs.Prelude.{◌-◌, option_map, false, take, drop, min};
 ghost use Rattle.xk_base.specs.Frames.{copies};
 ghost use Rattle.frame_list.specs.Pool.{free_in, Good};
 ghost use Rattle.sv39_core.specs.Sv39.{table_at, page_entry, entry_at, table_of, walked};
@@ -23,9 +26,11 @@ ghost use Rattle.addr_space.specs.PlainPrice.{plain_price};
 ghost use Rattle.addr_space.specs.Changes.{zeroed, grown, perm_of_page, shrunk, protected, overwritten};
 ghost use Rattle.addr_space.specs.InPlace.{WrittenInPlace};
 ghost use Rattle.xk_base.specs.Bytes.{write_image};
-ghost use Rattle.addr_space.specs.Steps.{Hanging, Placing, Holds, SameImage, PageAdded, missing, rise, Beside, Cleared, Freed};
+ghost use Rattle.addr_space.specs.Steps.{Hanging, Placing, Holds, SameImage, PageAdded};
+ghost use Rattle.addr_space.specs.Steps.{missing, rise, Beside, Cleared, Freed};
 ghost use Rattle.sv39_core.specs.Tree.{IsTree, page_at, pages_of, page_frames, frame_of};
-ghost use Rattle.addr_space.specs.Space.{image_of, Belongs, Changed, Unchanged, Made, IsSpace, Usual, frames_of, SparesOthers, Isolation};
+ghost use Rattle.addr_space.specs.Space.{image_of, Belongs, Changed, Unchanged, Made};
+ghost use Rattle.addr_space.specs.Space.{IsSpace, Usual, frames_of, SparesOthers, Isolation, Affords, IsTooDear};
 ghost use Rattle.addr_space.specs.Translations.{TranslationsStay, WalksStay, WalksStayBelow, WalksStayBeside};
 ghost use Rattle.frame_list.specs.Traded.{Traded};
 ghost use Rattle.std.specs.FinMap.{get, len};
@@ -72,7 +77,8 @@ impl Space {
         ensures belongs { IfOk result (λ space. Belongs pool.new ram.new space) }
         ensures image { IfOk result (λ space. image_of ram.new space ≡ no_pages) }
         ensures others { IfOk result (λ _. SparesOthers pool.old ram.old [] ram.new) }
-        ensures refused { IfErr result (λ _. (length (free_in pool.old ram.old) ≡ 0) × (pool.new ≡ pool.old) × (ram.new ≡ ram.old)) }
+        ensures refused { IfErr result (λ _.
+            (length (free_in pool.old ram.old) ≡ 0) × (pool.new ≡ pool.old) × (ram.new ≡ ram.old)) }
     {
         let Some(root) = pool.take(ram) else {
             return Err(NoFrames);
@@ -111,7 +117,8 @@ impl Space {
     /// from there on.
     pub fn end(&self) -> u32
         ensures value { result ≡ min self.now.end (2 ^ 26) }
-        ensures unreached { (ram : List (List ℕ)) (va : ℕ) (access : Access) → IsSpace ram self.now → 4096 * result ≤ va → walked ram self.now.root va access ≡ None }
+        ensures unreached { (ram : List (List ℕ)) (va : ℕ) (access : Access) → IsSpace ram self.now
+            → 4096 * result ≤ va → walked ram self.now.root va access ≡ None }
     {
         self.end.min(VPN_END)
     }
@@ -119,9 +126,11 @@ impl Space {
     /// How many frames the space owns: its image's price. As many a [`copy`](Space::copy) takes.
     pub fn price(&self) -> u32
         requires { (ram : List (List ℕ)) × IsSpace ram self.now }
-        ensures owned { (ram : List (List ℕ)) → IsSpace ram self.now → result ≡ length (frames_of ram self.now) }
+        ensures owned { (ram : List (List ℕ)) → IsSpace ram self.now
+            → result ≡ length (frames_of ram self.now) }
         ensures price { (ram : List (List ℕ)) → IsSpace ram self.now → result ≡ price (image_of ram self.now) }
-        ensures plain { (ram : List (List ℕ)) → IsSpace ram self.now → result ≡ plain_price (image_of ram self.now) }
+        ensures plain { (ram : List (List ℕ)) → IsSpace ram self.now
+            → result ≡ plain_price (image_of ram self.now) }
     {
         self.tables + self.pages
     }
@@ -191,7 +200,8 @@ fn upper_for(pool: &mut Pool, ram: &mut Ram, root: Frame, number: usize) -> Fram
     ensures beside { Beside ram.old ram.new root number }
     ensures found { table_at ram.new root 1 (number / 262144) ≡ Some result }
     ensures lowers { (p : ℕ) → table_at ram.new root 2 p ≡ table_at ram.old root 2 p }
-    ensures left { length (free_in pool.old ram.old) ≤ length (free_in pool.new ram.new) + missing (table_at ram.old root 1 (number / 262144)) }
+    ensures left { length (free_in pool.old ram.old)
+        ≤ length (free_in pool.new ram.new) + missing (table_at ram.old root 1 (number / 262144)) }
 {
     if let Some(table) = read_upper_table(ram, root, number) {
         return table;
@@ -208,7 +218,8 @@ fn lower_for(pool: &mut Pool, ram: &mut Ram, root: Frame, upper: Frame, number: 
     ensures same { SameImage pool.old ram.old pool.new ram.new root }
     ensures beside { Beside ram.old ram.new root number }
     ensures found { table_at ram.new root 2 (number / 512) ≡ Some result }
-    ensures left { length (free_in pool.old ram.old) ≤ length (free_in pool.new ram.new) + missing (table_at ram.old root 2 (number / 512)) }
+    ensures left { length (free_in pool.old ram.old)
+        ≤ length (free_in pool.new ram.new) + missing (table_at ram.old root 2 (number / 512)) }
 {
     let _ = root.number(); // contracts alone speak of the root
     if let Some(table) = read_lower_table(ram, upper, number) {
@@ -279,11 +290,15 @@ impl Space {
         requires absent { get (image_of ram.old self.old).pages vpn ≡ None }
         ensures changed { IfOk result (λ _. Changed pool.old ram.old self.old pool.new ram.new self.new) }
         ensures belongs { IfOk result (λ _. Belongs pool.new ram.new self.new) }
-        ensures image { IfOk result (λ _. image_of ram.new self.new ≡ with_page (image_of ram.old self.old) vpn (zeroed perm)) }
+        ensures image { IfOk result (λ _.
+            image_of ram.new self.new ≡ with_page (image_of ram.old self.old) vpn (zeroed perm)) }
         ensures translations { IfOk result (λ _. TranslationsStay ram.old ram.new self.old.root) }
         ensures others { IfOk result (λ _. SparesOthers pool.old ram.old (frames_of ram.old self.old) ram.new) }
-        ensures fits { IfOk result (λ _. price (with_page (image_of ram.old self.old) vpn (zeroed perm)) ≤ price (image_of ram.old self.old) + length (free_in pool.old ram.old)) }
-        ensures refused { IfErr result (λ _. (price (image_of ram.old self.old) + length (free_in pool.old ram.old) < price (with_page (image_of ram.old self.old) vpn (zeroed perm))) × Unchanged pool.old ram.old self.old pool.new ram.new self.new) }
+        ensures fits { IfOk result (λ _.
+            Affords pool.old ram.old self.old (with_page (image_of ram.old self.old) vpn (zeroed perm))) }
+        ensures refused { IfErr result (λ _.
+            IsTooDear pool.old ram.old self.old (with_page (image_of ram.old self.old) vpn (zeroed perm))
+            × Unchanged pool.old ram.old self.old pool.new ram.new self.new) }
     {
         let number = vpn.number() as usize;
         let needed = frames_for(ram, self.root, number);
@@ -340,7 +355,8 @@ fn has_page(ram: &Ram, table: Frame, from: usize) -> bool
     requires table_in { table < length ram.now }
     requires from_in { from < 512 }
     ensures none { result ≡ false → (k : ℕ) → k < 512 → frame_of (entry_at ram.now table k) ≡ None }
-    ensures some { result ≡ true → (k : ℕ) × (f : ℕ) × (k < 512) × (frame_of (entry_at ram.now table k) ≡ Some f) }
+    ensures some { result ≡ true
+        → (k : ℕ) × (f : ℕ) × (k < 512) × (frame_of (entry_at ram.now table k) ≡ Some f) }
 {
     for back in 0..TABLE_ENTRIES {
         let entry = (from + (TABLE_ENTRIES + 1) - back) % TABLE_ENTRIES;
@@ -356,7 +372,8 @@ fn has_table(ram: &Ram, table: Frame, from: usize) -> bool
     requires table_in { table < length ram.now }
     requires from_in { from < 512 }
     ensures none { result ≡ false → (k : ℕ) → k < 512 → table_of (entry_at ram.now table k) ≡ None }
-    ensures some { result ≡ true → (k : ℕ) × (f : ℕ) × (k < 512) × (table_of (entry_at ram.now table k) ≡ Some f) }
+    ensures some { result ≡ true
+        → (k : ℕ) × (f : ℕ) × (k < 512) × (table_of (entry_at ram.now table k) ≡ Some f) }
 {
     for back in 0..TABLE_ENTRIES {
         let entry = (from + (TABLE_ENTRIES + 1) - back) % TABLE_ENTRIES;
@@ -450,8 +467,11 @@ fn next_leaf(ram: &Ram, table: Frame, from: usize) -> usize
 fn next_page(ram: &Ram, root: Frame, from: usize) -> Option<usize>
     requires root_in { root < length ram.now }
     requires from_in { from ≤ 2 ^ 26 }
-    ensures some { IfSome result (λ v. (v < 2 ^ 26) × (from ≤ v) × ((f : ℕ) × (frame_of (page_entry ram.now root v) ≡ Some f)) × ((u : ℕ) → from ≤ u → u < v → frame_of (page_entry ram.now root u) ≡ None)) }
-    ensures none { IfNone result ((u : ℕ) → from ≤ u → u < 2 ^ 26 → frame_of (page_entry ram.now root u) ≡ None) }
+    ensures some { IfSome result (λ v.
+        (v < 2 ^ 26) × (from ≤ v) × ((f : ℕ) × (frame_of (page_entry ram.now root v) ≡ Some f))
+        × ((u : ℕ) → from ≤ u → u < v → frame_of (page_entry ram.now root u) ≡ None)) }
+    ensures none { IfNone result
+        ((u : ℕ) → from ≤ u → u < 2 ^ 26 → frame_of (page_entry ram.now root u) ≡ None) }
 {
     let mut number = from;
     'pages: while number < VPN_END as usize {
@@ -478,8 +498,12 @@ impl Space {
     fn page_from(&self, ram: &Ram, from: usize) -> Option<usize>
         requires whole { IsSpace ram.now self.now }
         requires from_in { from ≤ 2 ^ 26 }
-        ensures some { IfSome result (λ v. (v < 2 ^ 26) × (from ≤ v) × ((f : ℕ) × (frame_of (page_entry ram.now self.now.root v) ≡ Some f)) × ((u : ℕ) → from ≤ u → u < v → frame_of (page_entry ram.now self.now.root u) ≡ None)) }
-        ensures none { IfNone result ((u : ℕ) → from ≤ u → u < 2 ^ 26 → frame_of (page_entry ram.now self.now.root u) ≡ None) }
+        ensures some { IfSome result (λ v.
+            (v < 2 ^ 26) × (from ≤ v)
+            × ((f : ℕ) × (frame_of (page_entry ram.now self.now.root v) ≡ Some f))
+            × ((u : ℕ) → from ≤ u → u < v → frame_of (page_entry ram.now self.now.root u) ≡ None)) }
+        ensures none { IfNone result
+            ((u : ℕ) → from ≤ u → u < 2 ^ 26 → frame_of (page_entry ram.now self.now.root u) ≡ None) }
     {
         if self.end as usize <= from {
             return None;
@@ -495,8 +519,11 @@ impl Space {
         requires page { number < 2 ^ 26 }
         requires there { IsSome (table_at ram.now self.now.root 2 (number / 512)) }
         requires count { self.now.pages ≡ length (page_frames ram.now self.now.root) }
-        ensures used { result ≡ true → (i : ℕ) × (g : ℕ) × (i < 512) × (frame_of (page_entry ram.now self.now.root (512 * (number / 512) + i)) ≡ Some g) }
-        ensures unused { result ≡ false → (i : ℕ) → i < 512 → frame_of (page_entry ram.now self.now.root (512 * (number / 512) + i)) ≡ None }
+        ensures used { result ≡ true
+            → (i : ℕ) × (g : ℕ) × (i < 512)
+            × (frame_of (page_entry ram.now self.now.root (512 * (number / 512) + i)) ≡ Some g) }
+        ensures unused { result ≡ false → (i : ℕ) → i < 512
+            → frame_of (page_entry ram.now self.now.root (512 * (number / 512) + i)) ≡ None }
     {
         if self.pages == 0 {
             return false;
@@ -513,8 +540,11 @@ impl Space {
         requires page { number < 2 ^ 26 }
         requires there { IsSome (table_at ram.now self.now.root 1 (number / 262144)) }
         requires none { self.now.pages ≡ 0 → (p : ℕ) → table_at ram.now self.now.root 2 p ≡ None }
-        ensures used { result ≡ true → (i : ℕ) × (g : ℕ) × (i < 512) × (table_at ram.now self.now.root 2 (512 * (number / 262144) + i) ≡ Some g) }
-        ensures unused { result ≡ false → (i : ℕ) → i < 512 → table_at ram.now self.now.root 2 (512 * (number / 262144) + i) ≡ None }
+        ensures used { result ≡ true
+            → (i : ℕ) × (g : ℕ) × (i < 512)
+            × (table_at ram.now self.now.root 2 (512 * (number / 262144) + i) ≡ Some g) }
+        ensures unused { result ≡ false → (i : ℕ) → i < 512
+            → table_at ram.now self.now.root 2 (512 * (number / 262144) + i) ≡ None }
     {
         if self.pages == 0 {
             return false;
@@ -534,8 +564,10 @@ impl Space {
         ensures size { self.new.size ≡ self.old.size }
         ensures fewer { self.old.pages ≡ 1 + self.new.pages }
         ensures gone { page_entry ram.new self.old.root number ≡ Invalid }
-        ensures entries { (u : ℕ) → (u ≡ number → ⊥) → page_entry ram.new self.old.root u ≡ page_entry ram.old self.old.root u }
-        ensures others { (u : ℕ) → (u ≡ number → ⊥) → page_at ram.new self.old.root u ≡ page_at ram.old self.old.root u }
+        ensures entries { (u : ℕ) → (u ≡ number → ⊥)
+            → page_entry ram.new self.old.root u ≡ page_entry ram.old self.old.root u }
+        ensures others { (u : ℕ) → (u ≡ number → ⊥)
+            → page_at ram.new self.old.root u ≡ page_at ram.old self.old.root u }
     {
         free_leaf(pool, ram, self.root, number);
         self.pages -= 1;
@@ -557,9 +589,12 @@ impl Space {
         requires first_in { first ≤ 2 ^ 26 }
         ensures changed { Changed pool.old ram.old self.old pool.new ram.new self.new }
         ensures size { self.new.size ≡ self.old.size }
-        ensures entries { (u : ℕ) → u < first → page_entry ram.new self.old.root u ≡ page_entry ram.old self.old.root u }
-        ensures below { (u : ℕ) → u < first → page_at ram.new self.old.root u ≡ page_at ram.old self.old.root u }
-        ensures above { (u : ℕ) → first ≤ u → u < 2 ^ 26 → frame_of (page_entry ram.new self.old.root u) ≡ None }
+        ensures entries { (u : ℕ) → u < first
+            → page_entry ram.new self.old.root u ≡ page_entry ram.old self.old.root u }
+        ensures below { (u : ℕ) → u < first
+            → page_at ram.new self.old.root u ≡ page_at ram.old self.old.root u }
+        ensures above { (u : ℕ) → first ≤ u → u < 2 ^ 26
+            → frame_of (page_entry ram.new self.old.root u) ≡ None }
     {
         let mut from = first;
         'pages: while let Some(number) = self.page_from(ram, from) {
@@ -603,7 +638,9 @@ impl Space {
         requires whole { IsSpace ram.now self.now }
         requires more { self.now.size ≤ size }
         requires limit { size ≤ SIZE_LIMIT }
-        ensures { (perm : Rights) → price (grown (image_of ram.now self.now) size perm) ≡ price (image_of ram.now self.now) + result }
+        ensures { (perm : Rights)
+            → price (grown (image_of ram.now self.now) size perm)
+            ≡ price (image_of ram.now self.now) + result }
     {
         let first = page_count(self.size) as usize;
         let last = page_count(size) as usize;
@@ -631,8 +668,11 @@ impl Space {
         ensures image { IfOk result (λ _. image_of ram.new self.new ≡ grown (image_of ram.old self.old) size perm) }
         ensures translations { IfOk result (λ _. TranslationsStay ram.old ram.new self.old.root) }
         ensures others { IfOk result (λ _. SparesOthers pool.old ram.old (frames_of ram.old self.old) ram.new) }
-        ensures fits { IfOk result (λ _. price (grown (image_of ram.old self.old) size perm) ≤ price (image_of ram.old self.old) + length (free_in pool.old ram.old)) }
-        ensures refused { IfErr result (λ _. (price (image_of ram.old self.old) + length (free_in pool.old ram.old) < price (grown (image_of ram.old self.old) size perm)) × Unchanged pool.old ram.old self.old pool.new ram.new self.new) }
+        ensures fits { IfOk result (λ _.
+            Affords pool.old ram.old self.old (grown (image_of ram.old self.old) size perm)) }
+        ensures refused { IfErr result (λ _.
+            IsTooDear pool.old ram.old self.old (grown (image_of ram.old self.old) size perm)
+            × Unchanged pool.old ram.old self.old pool.new ram.new self.new) }
     {
         let first = page_count(self.size) as usize;
         let last = page_count(size) as usize;
@@ -655,7 +695,9 @@ impl Space {
         ensures image { IfOk result (λ child. image_of ram.new child ≡ image_of ram.old self.now) }
         ensures others { IfOk result (λ _. SparesOthers pool.old ram.old [] ram.new) }
         ensures fits { IfOk result (λ _. price (image_of ram.old self.now) ≤ length (free_in pool.old ram.old)) }
-        ensures refused { IfErr result (λ _. (length (free_in pool.old ram.old) < price (image_of ram.old self.now)) × (pool.new ≡ pool.old) × (ram.new ≡ ram.old)) }
+        ensures refused { IfErr result (λ _.
+            (length (free_in pool.old ram.old) < price (image_of ram.old self.now))
+            × (pool.new ≡ pool.old) × (ram.new ≡ ram.old)) }
     {
         if pool.free() < self.price() {
             return Err(NoFrames);
@@ -676,13 +718,16 @@ impl Space {
     fn copy_page(&self, pool: &mut Pool, ram: &mut Ram, child: &mut Space, number: usize)
         requires whole { IsSpace ram.old self.now }
         requires belongs { Belongs pool.old ram.old child.old }
-        requires apart { (f : ℕ) → 1 ≤ copies f (frames_of ram.old self.now) → copies f (free_in pool.old ram.old) + copies f (frames_of ram.old child.old) ≡ 0 }
+        requires apart { (f : ℕ) → 1 ≤ copies f (frames_of ram.old self.now)
+            → copies f (free_in pool.old ram.old) + copies f (frames_of ram.old child.old) ≡ 0 }
         requires page { number < 2 ^ 26 }
         requires there { (f : ℕ) × (frame_of (page_entry ram.old self.now.root number) ≡ Some f) }
         requires absent { get (image_of ram.old child.old).pages number ≡ None }
-        requires room { (page : Page) → price (with_page (image_of ram.old child.old) number page) ≤ price (image_of ram.old child.old) + length (free_in pool.old ram.old) }
+        requires room { (page : Page)
+            → Affords pool.old ram.old child.old (with_page (image_of ram.old child.old) number page) }
         ensures changed { Changed pool.old ram.old child.old pool.new ram.new child.new }
-        ensures image { (page : Page) → page_at ram.old self.now.root number ≡ Some page → image_of ram.new child.new ≡ with_page (image_of ram.old child.old) number page }
+        ensures image { (page : Page) → page_at ram.old self.now.root number ≡ Some page
+            → image_of ram.new child.new ≡ with_page (image_of ram.old child.old) number page }
     {
         let Entry::Leaf(source, perm, ..) = entry_of_page(ram, self.root, number) else {
             unreachable!();
@@ -702,10 +747,13 @@ impl Space {
     pub fn protect(&self, ram: &mut Ram, vpn: Vpn)
         requires whole { IsSpace ram.old self.now }
         requires there { (page : Page) × (get (image_of ram.old self.now).pages vpn ≡ Some page) }
-        ensures changed { (pool : Pool) → Belongs pool ram.old self.now → Changed pool ram.old self.now pool ram.new self.now }
+        ensures changed { (pool : Pool) → Belongs pool ram.old self.now
+            → Changed pool ram.old self.now pool ram.new self.now }
         ensures belongs { (pool : Pool) → Belongs pool ram.old self.now → Belongs pool ram.new self.now }
-        ensures image { (page : Page) → get (image_of ram.old self.now).pages vpn ≡ Some page → image_of ram.new self.now ≡ with_page (image_of ram.old self.now) vpn (protected page) }
-        ensures others { (pool : Pool) → Belongs pool ram.old self.now → SparesOthers pool ram.old (frames_of ram.old self.now) ram.new }
+        ensures image { (page : Page) → get (image_of ram.old self.now).pages vpn ≡ Some page
+            → image_of ram.new self.now ≡ with_page (image_of ram.old self.now) vpn (protected page) }
+        ensures others { (pool : Pool) → Belongs pool ram.old self.now
+            → SparesOthers pool ram.old (frames_of ram.old self.now) ram.new }
         ensures walks { WalksStayBeside vpn ram.old ram.new self.now.root }
     {
         let number = vpn.number() as usize;
@@ -731,7 +779,8 @@ impl Space {
         requires whole { IsSpace ram.now self.now }
         requires there { (page : Page) × (get (image_of ram.now self.now).pages vpn ≡ Some page) }
         requires fits { at + length out.old ≤ 4096 }
-        ensures { (page : Page) → get (image_of ram.now self.now).pages vpn ≡ Some page → out.new ≡ take (length out.old) (drop at page.bytes) }
+        ensures { (page : Page) → get (image_of ram.now self.now).pages vpn ≡ Some page
+            → out.new ≡ take (length out.old) (drop at page.bytes) }
     {
         let Entry::Leaf(frame, ..) = entry_of_page(ram, self.root, vpn.number() as usize) else {
             unreachable!();
@@ -746,12 +795,17 @@ impl Space {
         requires whole { IsSpace ram.old self.now }
         requires there { (page : Page) × (get (image_of ram.old self.now).pages vpn ≡ Some page) }
         requires fits { at + length bytes.now ≤ 4096 }
-        ensures changed { (pool : Pool) → Belongs pool ram.old self.now → Changed pool ram.old self.now pool ram.new self.now }
+        ensures changed { (pool : Pool) → Belongs pool ram.old self.now
+            → Changed pool ram.old self.now pool ram.new self.now }
         ensures belongs { (pool : Pool) → Belongs pool ram.old self.now → Belongs pool ram.new self.now }
-        ensures image { (page : Page) → get (image_of ram.old self.now).pages vpn ≡ Some page → image_of ram.new self.now ≡ with_page (image_of ram.old self.now) vpn (overwritten page at bytes.now) }
-        ensures others { (pool : Pool) → Belongs pool ram.old self.now → SparesOthers pool ram.old (frames_of ram.old self.now) ram.new }
+        ensures image { (page : Page) → get (image_of ram.old self.now).pages vpn ≡ Some page
+            → image_of ram.new self.now
+            ≡ with_page (image_of ram.old self.now) vpn (overwritten page at bytes.now) }
+        ensures others { (pool : Pool) → Belongs pool ram.old self.now
+            → SparesOthers pool ram.old (frames_of ram.old self.now) ram.new }
         ensures walks { WalksStay ram.old ram.new self.now.root }
-        ensures written { image_of ram.new self.now ≡ write_image (image_of ram.old self.now) (4096 * vpn + at) bytes.now }
+        ensures written { image_of ram.new self.now
+            ≡ write_image (image_of ram.old self.now) (4096 * vpn + at) bytes.now }
         ensures in_place { WrittenInPlace ram.old ram.new self.now }
     {
         let Entry::Leaf(frame, ..) = entry_of_page(ram, self.root, vpn.number() as usize) else {

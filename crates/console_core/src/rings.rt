@@ -1,5 +1,7 @@
 //! A console's three rings of bytes.
-ghost use Rattle.std.specs.Prelude.{◌≡◌, ◌==◌, false, ◌+◌, ◌-◌, ◌<◌, ◌≤◌, ◌∷◌, ◌++◌, [], min, IfOk, IfErr, IfSome, length, take, drop, slice_get};
+ghost use Rattle.std.specs.Prelude.{◌≡◌, ◌==◌, false, ◌+◌, ◌-◌, ◌<◌};
+ghost use Rattle.std.specs.Prelude.{◌≤◌, ◌∷◌, ◌++◌, [], min, IfOk};
+ghost use Rattle.std.specs.Prelude.{IfErr, IfSome, length, take, drop, slice_get};
 ghost use Rattle.xk_base.specs.declared.limits.TheConstants.{CONSOLE_BYTES, SEND_BYTES};
 ghost use Rattle.xk_base.specs.declared.errors.BootError.TheVariants.{Memory};
 ghost use Rattle.console_core.specs.Lists.{IsWithinLimits, empty_console, held_bytes, list_of};
@@ -53,10 +55,19 @@ impl Model for Console {
 
     ghost Value = { Lists };
 
-    ghost view = { λ c. record { committed = c.committed.items; uncommitted = c.uncommitted.items; to_send = c.to_send.items } };
+    ghost view = { λ c. record {
+      committed = c.committed.items;
+      uncommitted = c.uncommitted.items;
+      to_send = c.to_send.items;
+    } };
 
-    ghost invariant = { λ c. IsWithinLimits record { committed = c.committed.items; uncommitted = c.uncommitted.items; to_send = c.to_send.items }
-        × (c.committed.capacity ≡ CONSOLE_BYTES) × (c.uncommitted.capacity ≡ CONSOLE_BYTES) × (c.to_send.capacity ≡ SEND_BYTES) };
+    ghost invariant = { λ c. IsWithinLimits record {
+      committed = c.committed.items;
+      uncommitted = c.uncommitted.items;
+      to_send = c.to_send.items;
+    }
+        × (c.committed.capacity ≡ CONSOLE_BYTES) × (c.uncommitted.capacity ≡ CONSOLE_BYTES)
+        × (c.to_send.capacity ≡ SEND_BYTES) };
 }
 
 impl Console {
@@ -146,8 +157,12 @@ impl Console {
     pub fn pull_line(&mut self, buf: &mut [u8], done: usize) -> Pull
         ensures count { result.taken ≡ length (pulled (done == 0) (length buf.old) self.old.committed).taken }
         ensures ended { result.ended ≡ (pulled (done == 0) (length buf.old) self.old.committed).ended }
-        ensures bytes { buf.new ≡ (pulled (done == 0) (length buf.old) self.old.committed).taken ++ drop result.taken buf.old }
-        ensures after { self.new ≡ record self.old { committed = (pulled (done == 0) (length buf.old) self.old.committed).left } }
+        ensures bytes { buf.new
+            ≡ (pulled (done == 0) (length buf.old) self.old.committed).taken
+            ++ drop result.taken buf.old }
+        ensures after { self.new ≡ record self.old {
+          committed = (pulled (done == 0) (length buf.old) self.old.committed).left;
+        } }
 
         // The kernel puts a read to sleep where it isn't over: nothing is left that could wake it.
         ensures waits { result.ended ≡ false → self.new.committed ≡ [] }
@@ -271,7 +286,10 @@ impl Console {
 
     // Commits all uncommitted bytes.
     fn commit(&mut self)
-        ensures after { self.new ≡ record self.old { committed = self.old.committed ++ self.old.uncommitted; uncommitted = [] } }
+        ensures after { self.new ≡ record self.old {
+          committed = self.old.committed ++ self.old.uncommitted;
+          uncommitted = [];
+        } }
         ensures limits { IsWithinLimits self.new }
     {
         let (front, back) = self.uncommitted.as_slices();

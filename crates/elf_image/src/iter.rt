@@ -1,5 +1,6 @@
 //! The segments of a file, one by one.
-ghost use Rattle.std.specs.Prelude.{◌≡◌, ◌≤◌, ◌+◌, ◌*◌, ◌-◌, ◌<◌, ◌∷◌, [], length, MatchOption};
+ghost use Rattle.std.specs.Prelude.{◌≡◌, ◌≤◌, ◌+◌, ◌*◌, ◌-◌};
+ghost use Rattle.std.specs.Prelude.{◌<◌, ◌∷◌, [], length, MatchOption};
 ghost use Rattle.std.specs.Iterator.{YieldsFirst, item_count};
 ghost use Rattle.xk_base.specs.ProgramFile.{segments_from};
 
@@ -48,7 +49,11 @@ impl Iterator for Segments<'_> {
 /// The first segment from program header `from` on, and the number of the header after it.
 fn first_segment(file: &[u8], header: &Header, from: u16) -> (Option<Segment>, u16)
     requires { from < header.now.phnum → header.now.phoff + 56 * header.now.phnum ≤ length file.now }
-    ensures found { MatchOption result.0 ((segments_from file.now header.now from (header.now.phnum - from) ≡ []) × (header.now.phnum ≤ result.1)) (λ s. segments_from file.now header.now from (header.now.phnum - from) ≡ s ∷ segments_from file.now header.now result.1 (header.now.phnum - result.1)) }
+    ensures found { MatchOption result.0
+        ((segments_from file.now header.now from (header.now.phnum - from) ≡ [])
+        × (header.now.phnum ≤ result.1))
+        (λ s. segments_from file.now header.now from (header.now.phnum - from)
+        ≡ s ∷ segments_from file.now header.now result.1 (header.now.phnum - result.1)) }
     ensures later { from ≤ result.1 }
 {
     for i in from..header.phnum {

@@ -1,6 +1,9 @@
 //! Program headers, and when one is refused (ELF-64 Object File Format, "Program Header Table").
-ghost use Rattle.std.specs.Prelude.{◌≡◌, ◌≤◌, ◌+◌, ◌*◌, ◌^◌, ◌/◌, ◌%◌, ◌==◌, length, true, OnSome, IfSome, Some, None, if◌then◌else◌};
-ghost use Rattle.xk_base.specs.ProgramFile.{page_up, program_header, program_header_at, segment, is_loaded, is_misplaced, is_bad, is_refused_after};
+ghost use Rattle.std.specs.Prelude.{◌≡◌, ◌≤◌, ◌+◌, ◌*◌, ◌^◌};
+ghost use Rattle.std.specs.Prelude.{◌/◌, ◌%◌, ◌==◌, length, true};
+ghost use Rattle.std.specs.Prelude.{OnSome, IfSome, Some, None, if◌then◌else◌};
+ghost use Rattle.xk_base.specs.ProgramFile.{page_up, program_header, program_header_at, segment};
+ghost use Rattle.xk_base.specs.ProgramFile.{is_loaded, is_misplaced, is_bad, is_refused_after};
 
 use crate::number::{u32_at, u64_at};
 use xk_base::limits::{PAGE_BYTES, SIZE_LIMIT};
@@ -100,7 +103,9 @@ pub(crate) fn tested_header(
     size: u64,
 ) -> Option<ProgramHeader>
     requires { size ≤ 2 ^ 38 }
-    ensures value { result ≡ (if is_refused_after file.now header.now size i then None else Some (program_header_at file.now header.now i)) }
+    ensures value { result
+        ≡ (if is_refused_after file.now header.now size i then None else Some
+        (program_header_at file.now header.now i)) }
     ensures within { OnSome result (header.now.phoff + 56 * (i + 1) ≤ length file.now) }
     ensures end { IfSome result (λ h. is_loaded h ≡ true → h.vaddr + h.memsz ≤ 2 ^ 38) }
 {

@@ -1,5 +1,6 @@
 //! The argument texts of a program.
-ghost use Rattle.std.specs.Prelude.{◌≡◌, ◌+◌, ◌<◌, ◌≤◌, ℕ, [], ◌∷◌, ◌++◌, length, Ok, Err, nat_lt, ◌==◌, if◌then◌else◌, OnOk, OnErr};
+ghost use Rattle.std.specs.Prelude.{◌≡◌, ◌+◌, ◌<◌, ◌≤◌, ℕ, [], ◌∷◌, ◌++◌};
+ghost use Rattle.std.specs.Prelude.{length, Ok, Err, nat_lt, ◌==◌, if◌then◌else◌, OnOk, OnErr};
 ghost use Rattle.xk_base.specs.declared.limits.TheConstants.{MAXARG, ARG_BYTES};
 ghost use Rattle.exec_core.specs.ArgTexts.{push_refusal, texts_of, IsSplit};
 

@@ -1,5 +1,6 @@
 //! Makes the memory of a planned program.
-ghost use Rattle.std.specs.Prelude.{◌≡◌, ◌+◌, ◌*◌, ◌/◌, ◌^◌, ◌<◌, ◌≤◌, ℕ, length, IfOk, IfErr, []};
+ghost use Rattle.std.specs.Prelude.{◌≡◌, ◌+◌, ◌*◌, ◌/◌, ◌^◌, ◌<◌};
+ghost use Rattle.std.specs.Prelude.{◌≤◌, ℕ, length, IfOk, IfErr, []};
 ghost use Rattle.xk_base.specs.declared.limits.TheConstants.{SIZE_LIMIT};
 ghost use Rattle.xk_base.specs.declared.errors.ExecError.TheVariants.{NoFrames};
 ghost use Rattle.xk_base.specs.Image.{price, page_count, no_pages};
@@ -9,7 +10,7 @@ ghost use Rattle.xk_base.specs.Loaded.{end_after, lowest, text_places};
 ghost use Rattle.frame_list.specs.declared.Pool.{Pool};
 ghost use Rattle.frame_list.specs.Pool.{free_in, Good};
 ghost use Rattle.addr_space.specs.Changes.{grown};
-ghost use Rattle.addr_space.specs.Space.{image_of, Belongs, Changed, Made, IsSpace, SparesOthers};
+ghost use Rattle.addr_space.specs.Space.{image_of, Belongs, Changed, Made, IsSpace, SparesOthers, Affords};
 ghost use Rattle.exec_core.specs.ArgTexts.{texts_of, IsSplit, pointers_by};
 ghost use Rattle.exec_core.specs.Building.{with_segments, with_stack, with_texts, price_first};
 ghost use Rattle.xk_base.specs.Access.{data_rights};
@@ -68,7 +69,8 @@ fn map_stack(space: &mut Space, pool: &mut Pool, ram: &mut Ram, guard: u64)
     requires belongs { Belongs pool.old ram.old space.old }
     requires behind { guard ≡ page_count (image_of ram.old space.old).size }
     requires limit { 4096 * (guard + 2) ≤ SIZE_LIMIT }
-    requires room { price (grown (image_of ram.old space.old) (4096 * (guard + 2)) data_rights) ≤ price (image_of ram.old space.old) + length (free_in pool.old ram.old) }
+    requires room { Affords pool.old ram.old space.old
+        (grown (image_of ram.old space.old) (4096 * (guard + 2)) data_rights) }
     ensures changed { Changed pool.old ram.old space.old pool.new ram.new space.new }
     ensures image { image_of ram.new space.new ≡ with_stack (image_of ram.old space.old) guard }
 {
@@ -84,10 +86,13 @@ fn lay_texts(space: &Space, ram: &mut Ram, lengths: &[usize], bytes: &[u8], page
     requires there { HasPage (image_of ram.old space.now) page }
     requires last { page < 2 ^ 26 }
     requires split { IsSplit lengths.now bytes.now }
-    requires room { 4096 * page ≤ lowest (4096 * (page + 1)) (text_places (4096 * (page + 1)) (texts_of lengths.now bytes.now)) }
+    requires room { 4096 * page
+        ≤ lowest (4096 * (page + 1)) (text_places (4096 * (page + 1)) (texts_of lengths.now bytes.now)) }
     requires some { 0 < page }
-    ensures changed { (pool : Pool) → Belongs pool ram.old space.now → Changed pool ram.old space.now pool ram.new space.now }
-    ensures image { image_of ram.new space.now ≡ with_texts (image_of ram.old space.now) (4096 * (page + 1)) (texts_of lengths.now bytes.now) }
+    ensures changed { (pool : Pool) → Belongs pool ram.old space.now
+        → Changed pool ram.old space.now pool ram.new space.now }
+    ensures image { image_of ram.new space.now
+        ≡ with_texts (image_of ram.old space.now) (4096 * (page + 1)) (texts_of lengths.now bytes.now) }
 {
     let mut place = PAGE_BYTES * (page + 1);
     let mut from = 0;
@@ -105,8 +110,10 @@ fn lay_pointers(space: &Space, ram: &mut Ram, lengths: &[usize], page: u64, sp: 
     requires last { page < 2 ^ 26 }
     requires low { 4096 * page ≤ sp }
     requires room { sp + 8 * (length lengths.now + 1) ≤ 4096 * (page + 1) }
-    ensures changed { (pool : Pool) → Belongs pool ram.old space.now → Changed pool ram.old space.now pool ram.new space.now }
-    ensures image { image_of ram.new space.now ≡ write_image (image_of ram.old space.now) sp (pointers_by (4096 * (page + 1)) lengths.now) }
+    ensures changed { (pool : Pool) → Belongs pool ram.old space.now
+        → Changed pool ram.old space.now pool ram.new space.now }
+    ensures image { image_of ram.new space.now
+        ≡ write_image (image_of ram.old space.now) sp (pointers_by (4096 * (page + 1)) lengths.now) }
 {
     let mut place = PAGE_BYTES * (page + 1);
     let mut at = sp;
@@ -144,10 +151,13 @@ pub fn build(
     ensures made { IfOk result (λ r. Made pool.old ram.old pool.new ram.new r.0) }
     ensures belongs { IfOk result (λ r. Belongs pool.new ram.new r.0) }
     ensures image { IfOk result (λ r. image_of ram.new r.0 ≡ plan.entry.image) }
-    ensures start { IfOk result (λ r. r.1 ≡ record { pc = plan.entry.pc; sp = plan.entry.sp; argc = plan.entry.argc }) }
+    ensures start { IfOk result (λ r.
+        r.1 ≡ record { pc = plan.entry.pc; sp = plan.entry.sp; argc = plan.entry.argc }) }
     ensures others { IfOk result (λ _. SparesOthers pool.old ram.old [] ram.new) }
     ensures fits { IfOk result (λ _. price plan.entry.image ≤ length (free_in pool.old ram.old)) }
-    ensures refused { IfErr result (λ e. (e ≡ NoFrames) × (length (free_in pool.old ram.old) < price plan.entry.image) × (pool.new ≡ pool.old) × (ram.new ≡ ram.old)) }
+    ensures refused { IfErr result (λ e.
+        (e ≡ NoFrames) × (length (free_in pool.old ram.old) < price plan.entry.image)
+        × (pool.new ≡ pool.old) × (ram.new ≡ ram.old)) }
 {
     let ExecPlan {
         file,

@@ -45,7 +45,12 @@ impl<'a> Model for ExecPlan<'a> {
 
     ghost coded = { loaded_code };
 
-    ghost view = { λ p. record { image = program_image p.file.now p.segments p.args.now; pc = p.start.pc; sp = p.start.sp; argc = p.start.argc } };
+    ghost view = { λ p. record {
+      image = program_image p.file.now p.segments p.args.now;
+      pc = p.start.pc;
+      sp = p.start.sp;
+      argc = p.start.argc;
+    } };
 
     ghost invariant = { λ p. IsPlan p.file.now p.segments p.guard p.args.now p.start.sp };
 }

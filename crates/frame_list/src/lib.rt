@@ -5,7 +5,8 @@
 //! free through every write to a frame that isn't.
 #![tactic(auto)]
 
-ghost use Rattle.std.specs.Prelude.{◌≡◌, ℕ, ◌<◌, ◌≤◌, List, [], length, IsOk, IfOk, IfErr, IfSome, IfNone};
+ghost use Rattle.std.specs.Prelude.{◌≡◌, ℕ, ◌<◌, ◌≤◌, List, []};
+ghost use Rattle.std.specs.Prelude.{length, IsOk, IfOk, IfErr, IfSome, IfNone};
 ghost use Rattle.xk_base.specs.declared.limits.TheConstants.{FRAMES_MAX};
 ghost use Rattle.xk_base.specs.declared.errors.BootError.TheVariants.{Memory};
 ghost use Rattle.xk_base.specs.Frames.{copies};
@@ -52,7 +53,8 @@ impl Pool {
     pub fn new(_alloc: Global, ram: &mut Ram) -> Result<Pool, BootError>
         ensures made { IsOk result }
         ensures good { IfOk result (λ pool. Good pool ram.new) }
-        ensures all_free { IfOk result (λ pool. (f : ℕ) → f < length ram.new → copies f (free_in pool ram.new) ≡ 1) }
+        ensures all_free { IfOk result (λ pool.
+            (f : ℕ) → f < length ram.new → copies f (free_in pool ram.new) ≡ 1) }
         ensures frames { length ram.new ≡ length ram.old }
         ensures refused { IfErr result (λ error. (error ≡ Memory) × (ram.new ≡ ram.old)) }
     {
@@ -70,7 +72,8 @@ impl Pool {
     /// Takes a free frame and makes it zeros. None exactly where no frame is free.
     pub fn take(&mut self, ram: &mut Ram) -> Option<Frame>
         requires { Good self.old ram.old }
-        ensures none { IfNone result ((free_in self.old ram.old ≡ []) × Untouched self.old ram.old self.new ram.new) }
+        ensures none { IfNone result
+            ((free_in self.old ram.old ≡ []) × Untouched self.old ram.old self.new ram.new) }
         ensures taken { IfSome result (Taken self.old ram.old self.new ram.new) }
     {
         let f = self.first?;

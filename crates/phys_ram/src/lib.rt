@@ -6,7 +6,8 @@
 //! behind it.
 #![tactic(auto)]
 
-ghost use Rattle.std.specs.Prelude.{◌≡◌, ◌≢◌, ◌+◌, ◌<◌, ◌≤◌, length, set, take, drop, replicate, IfOk, IfErr};
+ghost use Rattle.std.specs.Prelude.{◌≡◌, ◌≢◌, ◌+◌, ◌<◌, ◌≤◌, length};
+ghost use Rattle.std.specs.Prelude.{set, take, drop, replicate, IfOk, IfErr};
 ghost use Rattle.phys_ram.specs.Ram.{frame_at, word_at, with_bytes, zero_frame, IsFrameCount, IsRefused, WordWritten};
 
 use byteorder::{ByteOrder, LittleEndian};
@@ -125,7 +126,9 @@ impl Ram {
         requires start_in { start + count ≤ 4096 }
         requires at_in { at + count ≤ 4096 }
         ensures whole { (length (frame_at self.old from) ≡ 4096) × (length (frame_at self.old to) ≡ 4096) }
-        ensures copied { self.new ≡ set self.old to (with_bytes at (take count (drop start (frame_at self.old from))) (frame_at self.old to)) }
+        ensures copied { self.new
+            ≡ set self.old to
+            (with_bytes at (take count (drop start (frame_at self.old from))) (frame_at self.old to)) }
     {
         let source = from.index();
         let target = to.index();
@@ -143,7 +146,8 @@ impl Ram {
         requires frame_in { frame < length self.old }
         requires at_in { at + count ≤ 4096 }
         ensures whole { length (frame_at self.old frame) ≡ 4096 }
-        ensures cleared { self.new ≡ set self.old frame (with_bytes at (replicate count 0) (frame_at self.old frame)) }
+        ensures cleared { self.new
+            ≡ set self.old frame (with_bytes at (replicate count 0) (frame_at self.old frame)) }
     {
         self.frame_mut(frame)[at..at + count].fill(0);
     }

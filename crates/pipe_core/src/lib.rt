@@ -9,10 +9,12 @@
 //! a pipe by [`make`], and stays one until something else is written into it.
 #![tactic(auto)]
 
-ghost use Rattle.std.specs.Prelude.{◌≡◌, ◌+◌, ◌-◌, ◌<◌, ◌≤◌, ◌++◌, length, take, drop, min, slice_get};
+ghost use Rattle.std.specs.Prelude.{◌≡◌, ◌+◌, ◌-◌, ◌<◌, ◌≤◌, ◌++◌};
+ghost use Rattle.std.specs.Prelude.{length, take, drop, min, slice_get};
 ghost use Rattle.xk_base.specs.declared.limits.TheConstants.{PIPE_BYTES};
 ghost use Rattle.pipe_core.specs.declared.TheConstants.{END_COUNT_MAX};
-ghost use Rattle.pipe_core.specs.Pipe.{Becomes, IsPipe, IsPlaced, new_pipe, pipe_in, ring_byte, values_below, with_more, with_readers, with_writers, without_first};
+ghost use Rattle.pipe_core.specs.Pipe.{Becomes, IsPipe, IsPlaced, new_pipe, pipe_in, ring_byte};
+ghost use Rattle.pipe_core.specs.Pipe.{values_below, with_more, with_readers, with_writers, without_first};
 
 mod fast;
 

@@ -1,9 +1,14 @@
 //! Page-table entries.
-ghost use Rattle.std.specs.Prelude.{⊤, ℕ, ◌≡◌, ◌==◌, ◌&&◌, ◌||◌, not, ◌+◌, ◌-◌, ◌/◌, ◌^◌, ◌<◌, ◌≤◌, [], ◌∷◌, if◌then◌else◌, Some, None, IfSome, MatchOption, option_map, codes};
+ghost use Rattle.std.specs.Prelude.{⊤, ℕ, ◌≡◌, ◌==◌, ◌&&◌, ◌||◌};
+ghost use Rattle.std.specs.Prelude.{not, ◌+◌, ◌-◌, ◌/◌, ◌^◌, ◌<◌};
+ghost use Rattle.std.specs.Prelude.{◌≤◌, [], ◌∷◌, if◌then◌else◌, Some, None};
+ghost use Rattle.std.specs.Prelude.{IfSome, MatchOption, option_map, codes};
 ghost use Rattle.std.specs.Int.RustNames.{bit_and};
 ghost use Rattle.xk_base.specs.declared.access.Access.TheVariants.{Fetch, Load, Store};
 ghost use Rattle.xk_base.specs.declared.limits.TheConstants.{FRAMES_MAX};
-ghost use Rattle.sv39_core.specs.Sv39.{allowed, entry_of, entry_permits, flag, given, is_in_ram, is_usable, page_number, permits, rights_of, table_of, bit_if, leaf_word, table_word};
+ghost use Rattle.sv39_core.specs.Sv39.{allowed, entry_of, entry_permits, flag, given};
+ghost use Rattle.sv39_core.specs.Sv39.{is_in_ram, is_usable, page_number, permits, rights_of};
+ghost use Rattle.sv39_core.specs.Sv39.{table_of, bit_if, leaf_word, table_word};
 
 use bitflags::{Flag, Flags, bitflag_items};
 use std::marker::Model;
@@ -32,7 +37,8 @@ impl Flags for PteFlags {
 
     ghost exact = { ⊤ };
 
-    ghost table = { (codes "VALID", 1) ∷ (codes "READ", 2) ∷ (codes "WRITE", 4) ∷ (codes "EXECUTE", 8) ∷ (codes "USER", 16) ∷ (codes "GLOBAL", 32) ∷ (codes "ACCESSED", 64) ∷ (codes "DIRTY", 128) ∷ [] };
+    ghost table = { (codes "VALID", 1) ∷ (codes "READ", 2) ∷ (codes "WRITE", 4) ∷ (codes "EXECUTE", 8)
+        ∷ (codes "USER", 16) ∷ (codes "GLOBAL", 32) ∷ (codes "ACCESSED", 64) ∷ (codes "DIRTY", 128) ∷ [] };
 
     ghost set_of = { λ p. p.0 };
 
@@ -232,7 +238,9 @@ impl Pte {
     /// Whether the bits below the page number let user code make an access: its rights give it, A is set, and for a
     /// store D too.
     fn permits(self, access: Access) -> bool
-        ensures { result ≡ (flag self 0 && (not (flag self 2) || flag self 1) && permits access (given (rights_of self) (flag self 6) (flag self 7))) }
+        ensures { result
+            ≡ (flag self 0 && (not (flag self 2) || flag self 1)
+            && permits access (given (rights_of self) (flag self 6) (flag self 7))) }
     {
         let granted = self.has_right(access) & self.has(PteFlags::ACCESSED);
         match access {
@@ -245,7 +253,8 @@ impl Pte {
     /// frames; None where it is a page fault.
     pub(crate) fn reached(self, access: Access, frames: u32) -> Option<Frame>
         requires { frames ≤ FRAMES_MAX }
-        ensures allowed { (offset : ℕ) → allowed access (entry_of frames self) offset ≡ option_map (λ f. (f, offset)) result }
+        ensures allowed { (offset : ℕ)
+            → allowed access (entry_of frames self) offset ≡ option_map (λ f. (f, offset)) result }
         ensures inside { IfSome result (λ f. f < frames) }
     {
         if !self.permits(access) {
@@ -285,9 +294,18 @@ impl Pte {
     #[tactic(auto, using(crate::proofs::Words::allowed_outside, crate::proofs::Words::allowed_inside))]
     pub(crate) fn page(self, frames: u32) -> Option<Reached>
         requires { frames ≤ FRAMES_MAX }
-        ensures fetch { (offset : ℕ) → MatchOption result (allowed Fetch (entry_of frames self) offset ≡ None) (λ r. allowed Fetch (entry_of frames self) offset ≡ (if r.fetch then Some (r.frame, offset) else None)) }
-        ensures load { (offset : ℕ) → MatchOption result (allowed Load (entry_of frames self) offset ≡ None) (λ r. allowed Load (entry_of frames self) offset ≡ (if r.load then Some (r.frame, offset) else None)) }
-        ensures store { (offset : ℕ) → MatchOption result (allowed Store (entry_of frames self) offset ≡ None) (λ r. allowed Store (entry_of frames self) offset ≡ (if r.store then Some (r.frame, offset) else None)) }
+        ensures fetch { (offset : ℕ)
+            → MatchOption result (allowed Fetch (entry_of frames self) offset ≡ None) (λ r.
+            allowed Fetch (entry_of frames self) offset
+            ≡ (if r.fetch then Some (r.frame, offset) else None)) }
+        ensures load { (offset : ℕ)
+            → MatchOption result (allowed Load (entry_of frames self) offset ≡ None) (λ r.
+            allowed Load (entry_of frames self) offset
+            ≡ (if r.load then Some (r.frame, offset) else None)) }
+        ensures store { (offset : ℕ)
+            → MatchOption result (allowed Store (entry_of frames self) offset ≡ None) (λ r.
+            allowed Store (entry_of frames self) offset
+            ≡ (if r.store then Some (r.frame, offset) else None)) }
         ensures inside { IfSome result (λ r. r.frame < frames) }
     {
         if !self.is_in_ram(frames) {

@@ -2,7 +2,8 @@
 //! added. Where no page is absent, each of these calls is the one of the same name without `_lazily`.
 #![tactic(auto)]
 
-ghost use Rattle.std.specs.Prelude.{◌≡◌, ℕ, ◌<◌, ◌++◌, length, drop, true, false, Some, None, IfOk, IfErr};
+ghost use Rattle.std.specs.Prelude.{◌≡◌, ℕ, ◌<◌, ◌++◌, length, drop};
+ghost use Rattle.std.specs.Prelude.{true, false, Some, None, IfOk, IfErr};
 ghost use Rattle.xk_base.specs.Bytes.{image_bytes};
 ghost use Rattle.xk_base.specs.Words.{le};
 ghost use Rattle.xk_base.specs.declared.access.Access.TheVariants.{Load};
@@ -16,8 +17,8 @@ use byteorder::{ByteOrder, LittleEndian};
 use phys_ram::Ram;
 use xk_base::{Access, BadAddress};
 
-/// Tests a range of a process's memory as [`check_range`](crate::check_range) does, where absent pages are fine: user code may
-/// read and write them once they are touched.
+/// Tests a range of a process's memory as [`check_range`](crate::check_range) does, where absent pages are fine: user
+/// code may read and write them once they are touched.
 ///
 /// Errors: `BadAddress` exactly where one of the bytes lies in no absent page, and user code may not make
 /// the access to it.
@@ -50,9 +51,13 @@ pub fn copy_in_lazily(
     out: &mut [u8],
 ) -> Result<(), BadAddress>
     requires { IsSpace ram.now space.now }
-    ensures fine { IfOk result (λ _. reaches Load (whole (image_of ram.now space.now)) address (length out.old) ≡ true) }
-    ensures copied { IfOk result (λ _. out.new ≡ image_bytes (whole (image_of ram.now space.now)) address (length out.old)) }
-    ensures refused { IfErr result (λ _. (reaches Load (whole (image_of ram.now space.now)) address (length out.old) ≡ false) × (out.new ≡ out.old)) }
+    ensures fine { IfOk result (λ _.
+        reaches Load (whole (image_of ram.now space.now)) address (length out.old) ≡ true) }
+    ensures copied { IfOk result (λ _.
+        out.new ≡ image_bytes (whole (image_of ram.now space.now)) address (length out.old)) }
+    ensures refused { IfErr result (λ _.
+        (reaches Load (whole (image_of ram.now space.now)) address (length out.old) ≡ false)
+        × (out.new ≡ out.old)) }
 {
     check_range_lazily(space, ram, address, out.len(), Access::Load)?;
     space.read_across(ram, address, out);
@@ -74,8 +79,8 @@ pub fn fetch_u64_lazily(space: &Space, ram: &Ram, address: u64) -> Result<u64, B
     Ok(LittleEndian::read_u64(&bytes))
 }
 
-/// Copies a text from a process as [`fetch_text`](crate::fetch_text) does, and reads absent pages as zeros. So a text ends
-/// where an absent page begins.
+/// Copies a text from a process as [`fetch_text`](crate::fetch_text) does, and reads absent pages as zeros. So a text
+/// ends where an absent page begins.
 ///
 /// Errors: `BadAddress` exactly where no zero byte is among so many, or one of the bytes up to it lies in
 /// no absent page and the process may not read it; then `text` is as it was.
@@ -86,10 +91,14 @@ pub fn fetch_text_lazily(
     text: &mut [u8],
 ) -> Result<usize, BadAddress>
     requires { IsSpace ram.now space.now }
-    ensures found { IfOk result (λ n. text_length (whole (image_of ram.now space.now)) address (length text.old) ≡ Some n) }
+    ensures found { IfOk result (λ n.
+        text_length (whole (image_of ram.now space.now)) address (length text.old) ≡ Some n) }
     ensures short { IfOk result (λ n. n < length text.old) }
-    ensures copied { IfOk result (λ n. text.new ≡ image_bytes (whole (image_of ram.now space.now)) address n ++ drop n text.old) }
-    ensures refused { IfErr result (λ _. (text_length (whole (image_of ram.now space.now)) address (length text.old) ≡ None) × (text.new ≡ text.old)) }
+    ensures copied { IfOk result (λ n.
+        text.new ≡ image_bytes (whole (image_of ram.now space.now)) address n ++ drop n text.old) }
+    ensures refused { IfErr result (λ _.
+        (text_length (whole (image_of ram.now space.now)) address (length text.old) ≡ None)
+        × (text.new ≡ text.old)) }
 {
     let Some(count) = text_end(space, ram, address, text.len(), AbsentPages::Zeros) else {
         return Err(BadAddress);
@@ -102,5 +111,6 @@ pub fn fetch_text_lazily(
 /// does nothing.
 pub fn law_of_present_pages(space: &Space, ram: &Ram)
     requires { IsSpace ram.now space.now }
-    ensures { ((v : ℕ) → is_absent (image_of ram.now space.now) v ≡ false) → whole (image_of ram.now space.now) ≡ image_of ram.now space.now }
+    ensures { ((v : ℕ) → is_absent (image_of ram.now space.now) v ≡ false)
+        → whole (image_of ram.now space.now) ≡ image_of ram.now space.now }
 {}

@@ -7,7 +7,9 @@
 //! range of no bytes is always fine, whatever its address.
 #![tactic(auto)]
 
-ghost use Rattle.std.specs.Prelude.{◌≡◌, ◌≢◌, ℕ, ◌+◌, ◌*◌, ◌/◌, ◌%◌, ◌^◌, ◌<◌, ◌≤◌, ◌++◌, length, drop, true, false, slice_index, option_map, Some, None, IfOk, IfErr, IfSome, IfNone};
+ghost use Rattle.std.specs.Prelude.{◌≡◌, ◌≢◌, ℕ, ◌+◌, ◌*◌, ◌/◌, ◌%◌, ◌^◌};
+ghost use Rattle.std.specs.Prelude.{◌<◌, ◌≤◌, ◌++◌, length, drop, true, false, slice_index};
+ghost use Rattle.std.specs.Prelude.{option_map, Some, None, IfOk, IfErr, IfSome, IfNone};
 ghost use Rattle.xk_base.specs.Bytes.{image_bytes, write_image};
 ghost use Rattle.std.specs.FinMap.{get};
 ghost use Rattle.xk_base.specs.Words.{le};
@@ -41,7 +43,8 @@ struct Place {
 
 /// The place of the byte that lies so many bytes behind an address; none behind the last page.
 fn place_at(address: u64, done: usize) -> Option<Place>
-    ensures there { IfSome result (λ place. (place.page ≡ (address + done) / 4096) × (place.offset ≡ (address + done) % 4096)) }
+    ensures there { IfSome result (λ place.
+        (place.page ≡ (address + done) / 4096) × (place.offset ≡ (address + done) % 4096)) }
     ensures beyond { IfNone result (2 ^ 38 ≤ address + done) }
 {
     let at = address.checked_add(done as u64)?;
@@ -98,8 +101,14 @@ fn pages_reached(
 ) -> usize
     requires { IsSpace ram.now space.now }
     ensures few { result ≤ 512 }
-    ensures each { (k : ℕ) → k < result → allows access (option_map perm_of_page (get (image_seen absent (image_of ram.now space.now)).pages (page + k))) ≡ true }
-    ensures none { result ≡ 0 → allows access (option_map perm_of_page (get (image_seen absent (image_of ram.now space.now)).pages page)) ≡ false }
+    ensures each { (k : ℕ) → k < result
+        → allows access
+        (option_map perm_of_page (get (image_seen absent (image_of ram.now space.now)).pages (page + k)))
+        ≡ true }
+    ensures none { result ≡ 0
+        → allows access
+        (option_map perm_of_page (get (image_seen absent (image_of ram.now space.now)).pages page))
+        ≡ false }
 {
     let present = space.pages_permitting(ram, page, access, most);
     if present > 0 {
@@ -164,7 +173,9 @@ pub fn copy_in(space: &Space, ram: &Ram, address: u64, out: &mut [u8]) -> Result
     requires { IsSpace ram.now space.now }
     ensures fine { IfOk result (λ _. reaches Load (image_of ram.now space.now) address (length out.old) ≡ true) }
     ensures copied { IfOk result (λ _. out.new ≡ image_bytes (image_of ram.now space.now) address (length out.old)) }
-    ensures refused { IfErr result (λ _. (reaches Load (image_of ram.now space.now) address (length out.old) ≡ false) × (out.new ≡ out.old)) }
+    ensures refused { IfErr result (λ _.
+        (reaches Load (image_of ram.now space.now) address (length out.old) ≡ false)
+        × (out.new ≡ out.old)) }
 {
     check_range(space, ram, address, out.len(), Access::Load)?;
     space.read_across(ram, address, out);
@@ -178,12 +189,20 @@ pub fn copy_in(space: &Space, ram: &Ram, address: u64, out: &mut [u8]) -> Result
 pub fn copy_out(space: &Space, ram: &mut Ram, address: u64, bytes: &[u8]) -> Result<(), BadAddress>
     requires { IsSpace ram.old space.now }
     ensures fine { IfOk result (λ _. reaches Store (image_of ram.old space.now) address (length bytes.now) ≡ true) }
-    ensures copied { IfOk result (λ _. image_of ram.new space.now ≡ write_image (image_of ram.old space.now) address bytes.now) }
+    ensures copied { IfOk result (λ _.
+        image_of ram.new space.now ≡ write_image (image_of ram.old space.now) address bytes.now) }
     ensures in_place { IfOk result (λ _. WrittenInPlace ram.old ram.new space.now) }
-    ensures changed { IfOk result (λ _. (pool : Pool) → Belongs pool ram.old space.now → Changed pool ram.old space.now pool ram.new space.now) }
-    ensures belongs { IfOk result (λ _. (pool : Pool) → Belongs pool ram.old space.now → Belongs pool ram.new space.now) }
-    ensures others { IfOk result (λ _. (pool : Pool) → Belongs pool ram.old space.now → SparesOthers pool ram.old (frames_of ram.old space.now) ram.new) }
-    ensures refused { IfErr result (λ _. (reaches Store (image_of ram.old space.now) address (length bytes.now) ≡ false) × (ram.new ≡ ram.old)) }
+    ensures changed { IfOk result (λ _.
+        (pool : Pool) → Belongs pool ram.old space.now
+        → Changed pool ram.old space.now pool ram.new space.now) }
+    ensures belongs { IfOk result (λ _.
+        (pool : Pool) → Belongs pool ram.old space.now → Belongs pool ram.new space.now) }
+    ensures others { IfOk result (λ _.
+        (pool : Pool) → Belongs pool ram.old space.now
+        → SparesOthers pool ram.old (frames_of ram.old space.now) ram.new) }
+    ensures refused { IfErr result (λ _.
+        (reaches Store (image_of ram.old space.now) address (length bytes.now) ≡ false)
+        × (ram.new ≡ ram.old)) }
 {
     check_range(space, ram, address, bytes.len(), Access::Store)?;
     space.write_across(ram, address, bytes);
@@ -219,8 +238,11 @@ pub fn fetch_text(
     requires { IsSpace ram.now space.now }
     ensures found { IfOk result (λ n. text_length (image_of ram.now space.now) address (length text.old) ≡ Some n) }
     ensures short { IfOk result (λ n. n < length text.old) }
-    ensures copied { IfOk result (λ n. text.new ≡ image_bytes (image_of ram.now space.now) address n ++ drop n text.old) }
-    ensures refused { IfErr result (λ _. (text_length (image_of ram.now space.now) address (length text.old) ≡ None) × (text.new ≡ text.old)) }
+    ensures copied { IfOk result (λ n.
+        text.new ≡ image_bytes (image_of ram.now space.now) address n ++ drop n text.old) }
+    ensures refused { IfErr result (λ _.
+        (text_length (image_of ram.now space.now) address (length text.old) ≡ None)
+        × (text.new ≡ text.old)) }
 {
     let Some(count) = text_end(space, ram, address, text.len(), AbsentPages::Refused) else {
         return Err(BadAddress);

@@ -1,7 +1,8 @@
 //! Which accesses pages permit, many pages at a time: the lower table in which their entries stand is looked up once.
 #![tactic(auto)]
 
-ghost use Rattle.std.specs.Prelude.{◌≡◌, ℕ, ◌+◌, ◌%◌, ◌≤◌, ◌<◌, ◌⊎◌, length, true, false};
+ghost use Rattle.std.specs.Prelude.{◌≡◌, ℕ, ◌+◌, ◌%◌, ◌≤◌};
+ghost use Rattle.std.specs.Prelude.{◌<◌, ◌⊎◌, length, true, false};
 ghost use Rattle.std.specs.FinMap.{get};
 ghost use Rattle.sv39_core.specs.Sv39.{entry_at, entry_permits};
 ghost use Rattle.addr_space.specs.Space.{image_of, IsSpace};
@@ -21,7 +22,9 @@ fn count_permitting(ram: &Ram, table: Frame, from: usize, access: Access, most: 
     ensures few { result ≤ most }
     ensures inside { from + result ≤ 512 }
     ensures each { (k : ℕ) → k < result → entry_permits access (entry_at ram.now table (from + k)) ≡ true }
-    ensures ends { result < most → (from + result ≡ 512) ⊎ (entry_permits access (entry_at ram.now table (from + result)) ≡ false) }
+    ensures ends { result < most
+        → (from + result ≡ 512)
+        ⊎ (entry_permits access (entry_at ram.now table (from + result)) ≡ false) }
 {
     let count = most.min(TABLE_ENTRIES - from);
     for passed in 0..count {
@@ -39,7 +42,9 @@ fn entries_permitting(ram: &Ram, table: Frame, from: usize, access: Access, most
     ensures few { result ≤ most }
     ensures inside { from + result ≤ 512 }
     ensures each { (k : ℕ) → k < result → entry_permits access (entry_at ram.now table (from + k)) ≡ true }
-    ensures ends { result < most → (from + result ≡ 512) ⊎ (entry_permits access (entry_at ram.now table (from + result)) ≡ false) }
+    ensures ends { result < most
+        → (from + result ≡ 512)
+        ⊎ (entry_permits access (entry_at ram.now table (from + result)) ≡ false) }
 {
     match access {
         Access::Fetch => count_permitting(ram, table, from, Access::Fetch, most),
@@ -55,8 +60,11 @@ impl Space {
         requires { IsSpace ram.now self.now }
         ensures few { result ≤ most }
         ensures inside { vpn % 512 + result ≤ 512 }
-        ensures each { (k : ℕ) → k < result → page_permits access (get (image_of ram.now self.now).pages (vpn + k)) ≡ true }
-        ensures ends { result < most → (vpn % 512 + result ≡ 512) ⊎ (page_permits access (get (image_of ram.now self.now).pages (vpn + result)) ≡ false) }
+        ensures each { (k : ℕ) → k < result
+            → page_permits access (get (image_of ram.now self.now).pages (vpn + k)) ≡ true }
+        ensures ends { result < most
+            → (vpn % 512 + result ≡ 512)
+            ⊎ (page_permits access (get (image_of ram.now self.now).pages (vpn + result)) ≡ false) }
     {
         let number = vpn.number() as usize;
         let Some(lower) = lower_table(ram, self.root, number) else {

@@ -1,5 +1,6 @@
 //! Bytes between a pipe and other frames: from frame to frame, with no copy in between.
-ghost use Rattle.std.specs.Prelude.{◌≡◌, ◌≢◌, ◌+◌, ◌<◌, ◌≤◌, length, set, take, drop, replicate};
+ghost use Rattle.std.specs.Prelude.{◌≡◌, ◌≢◌, ◌+◌, ◌<◌, ◌≤◌};
+ghost use Rattle.std.specs.Prelude.{length, set, take, drop, replicate};
 ghost use Rattle.xk_base.specs.declared.limits.TheConstants.{PIPE_BYTES};
 ghost use Rattle.phys_ram.specs.Ram.{frame_at, with_bytes};
 ghost use Rattle.pipe_core.specs.Pipe.{Becomes, IsPipe, pipe_in, with_more, without_first};
@@ -18,7 +19,8 @@ pub fn push_part(ram: &mut Ram, frame: Frame, from: Frame, at: usize, size: usiz
     requires at_in { at + size ≤ 4096 }
     requires room { length (pipe_in ram.old frame).bytes + size ≤ PIPE_BYTES }
     ensures whole { length (frame_at ram.old from) ≡ 4096 }
-    ensures pushed { Becomes ram.old ram.new frame (with_more (take size (drop at (frame_at ram.old from))) (pipe_in ram.old frame)) }
+    ensures pushed { Becomes ram.old ram.new frame
+        (with_more (take size (drop at (frame_at ram.old from))) (pipe_in ram.old frame)) }
 {
     let oldest = ram.read_u64(frame, OLDEST) as usize;
     let count = len(ram, frame);
@@ -55,7 +57,9 @@ pub fn copy_bytes(ram: &mut Ram, frame: Frame, skip: usize, to: Frame, at: usize
     requires at_in { at + size ≤ 4096 }
     requires there { skip + size ≤ length (pipe_in ram.old frame).bytes }
     ensures whole { length (frame_at ram.old to) ≡ 4096 }
-    ensures copied { ram.new ≡ set ram.old to (with_bytes at (take size (drop skip (pipe_in ram.old frame).bytes)) (frame_at ram.old to)) }
+    ensures copied { ram.new
+        ≡ set ram.old to
+        (with_bytes at (take size (drop skip (pipe_in ram.old frame).bytes)) (frame_at ram.old to)) }
 {
     let oldest = ram.read_u64(frame, OLDEST) as usize;
     let place = (oldest + skip) % PIPE_BYTES;

@@ -24,7 +24,9 @@ fn push_page(space: &Space, ram: &mut Ram, pipe: Frame, page: Vpn, at: usize, si
     requires inside { at < 4096 }
     requires fits { at + size ≤ 4096 }
     requires room { length (pipe_in ram.old pipe).bytes + size ≤ PIPE_BYTES }
-    ensures { Becomes ram.old ram.new pipe (with_more (image_bytes (image_of ram.old space.now) (4096 * page + at) size) (pipe_in ram.old pipe)) }
+    ensures { Becomes ram.old ram.new pipe
+        (with_more (image_bytes (image_of ram.old space.now) (4096 * page + at) size)
+        (pipe_in ram.old pipe)) }
 {
     match space.page_frame(ram, page) {
         Some(from) => pipe_core::push_part(ram, pipe, from, at, size),
@@ -40,7 +42,8 @@ pub fn push_to_pipe(space: &Space, ram: &mut Ram, pipe: Frame, address: u64, siz
     requires apart { copies pipe (frames_of ram.old space.now) ≡ 0 }
     requires inside { (k : ℕ) → k < size → address + k < 2 ^ 38 }
     requires room { length (pipe_in ram.old pipe).bytes + size ≤ PIPE_BYTES }
-    ensures { Becomes ram.old ram.new pipe (with_more (image_bytes (image_of ram.old space.now) address size) (pipe_in ram.old pipe)) }
+    ensures { Becomes ram.old ram.new pipe
+        (with_more (image_bytes (image_of ram.old space.now) address size) (pipe_in ram.old pipe)) }
 {
     let mut done = 0;
     'parts: while done < size {
@@ -70,9 +73,12 @@ fn fill_page(
     requires there { HasPage (image_of ram.old space.now) page }
     requires fits { at + size ≤ 4096 }
     requires bytes { skip + size ≤ length (pipe_in ram.old pipe).bytes }
-    ensures image { image_of ram.new space.now ≡ write_image (image_of ram.old space.now) (4096 * page + at) (take size (drop skip (pipe_in ram.old pipe).bytes)) }
+    ensures image { image_of ram.new space.now
+        ≡ write_image (image_of ram.old space.now) (4096 * page + at)
+        (take size (drop skip (pipe_in ram.old pipe).bytes)) }
     ensures in_place { WrittenInPlace ram.old ram.new space.now }
-    ensures changed { (pool : Pool) → Belongs pool ram.old space.now → Changed pool ram.old space.now pool ram.new space.now }
+    ensures changed { (pool : Pool) → Belongs pool ram.old space.now
+        → Changed pool ram.old space.now pool ram.new space.now }
 {
     let Some(to) = space.page_frame(ram, page) else {
         unreachable!();
@@ -89,9 +95,11 @@ pub fn copy_from_pipe(space: &Space, ram: &mut Ram, pipe: Frame, address: u64, s
     requires apart { copies pipe (frames_of ram.old space.now) ≡ 0 }
     requires there { IsMapped (image_of ram.old space.now) address size }
     requires bytes { size ≤ length (pipe_in ram.old pipe).bytes }
-    ensures image { image_of ram.new space.now ≡ write_image (image_of ram.old space.now) address (take size (pipe_in ram.old pipe).bytes) }
+    ensures image { image_of ram.new space.now
+        ≡ write_image (image_of ram.old space.now) address (take size (pipe_in ram.old pipe).bytes) }
     ensures in_place { WrittenInPlace ram.old ram.new space.now }
-    ensures changed { (pool : Pool) → Belongs pool ram.old space.now → Changed pool ram.old space.now pool ram.new space.now }
+    ensures changed { (pool : Pool) → Belongs pool ram.old space.now
+        → Changed pool ram.old space.now pool ram.new space.now }
 {
     let mut done = 0;
     'parts: while done < size {
