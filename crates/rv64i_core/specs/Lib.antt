@@ -1,4 +1,6 @@
 pub mod Layout
+pub mod Numbers
+pub mod Instructions
 pub mod Table
 pub mod Memory
 pub mod Registers

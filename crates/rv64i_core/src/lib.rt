@@ -6,8 +6,9 @@
 //! The folder `fast` is there to save time alone, and what it promises is what [`execute`] promises:
 //! [`execute_cached`] keeps what words do in a [`DecodeCache`], and [`execute_kept`] does what the cache keeps, without
 //! a fetch, if the caller knows that it is the word at the pc.
-//! What an instruction means is written in `specs/`: the fields of a word in `Layout`, the table of
-//! instructions in `Table`, memory in `Memory`, registers in `Registers`, and the function `instr` in `Step`.
+//! What an instruction means is written in `specs/`: the table of instructions in `Instructions`, the fields of a word in
+//! `Layout`, its words in `Table`, memory in `Memory`, registers in `Registers`, and the function `instr` in `Step`.
+//! The code's table is `src/table.rt`; the assembler and the disassembler take the names from there.
 #![tactic(auto)]
 
 mod access_width;
@@ -20,6 +21,7 @@ mod instruction;
 mod layout;
 mod operands;
 mod registers;
+mod table;
 mod user_memory;
 mod values;
 

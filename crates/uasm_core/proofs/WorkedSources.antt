@@ -1,25 +1,24 @@
 -- Worked cases of what small sources ask for, computed.
 use Rattle.std.proofs.Common.{◌≡◌, [], ◌∷◌, Ok, Err, refl}
 use Rattle.std.specs.Prelude.{codes}
+use Rattle.rv64i_core.specs.Table.{imm_code}
 use Rattle.uasm_core.specs.declared.error.AsmErrorKind.TheVariants.{UnknownWord, DuplicateLabel, UnknownLabel}
 use Rattle.uasm_core.specs.Line.{label_end, form_of, register_of}
 use Rattle.uasm_core.specs.Written.{written}
 
 -- exit with 7: the number of the call, its argument, the call. No label names the entry, so it is 0
-exits : written (codes "li a7, 2\n li a0, 7 # the status\n\tecall\n")
-    ≡ Ok (record { text = 0x93 ∷ 0x08 ∷ 0x20 ∷ 0x00 ∷ 0x13 ∷ 0x05 ∷ 0x70 ∷ 0x00 ∷ 0x73 ∷ 0x00 ∷ 0x00 ∷ 0x00 ∷ []; data_bytes = []; entry = 0 })
-unfolding label_end form_of register_of
+exits : written (codes "li a7, 2\n li a0, 7 # the status\n\tecall\n") ≡ Ok (record { text = 0x93 ∷ 0x08 ∷ 0x20 ∷ 0x00 ∷ 0x13 ∷ 0x05 ∷ 0x70 ∷ 0x00 ∷ 0x73 ∷ 0x00 ∷ 0x00 ∷ 0x00 ∷ []; data_bytes = []; entry = 0 })
+unfolding label_end form_of register_of imm_code
 exits = refl
 
 -- the entry is the label _start; a jump leads to a label before it, and one behind it; bytes of data stand in order, whatever lies between them
-labels : written (codes "a: nop\n_start: j a\n.data\nx: .byte 7\n.text\nj b\nb:\n.data\n.byte -1")
-    ≡ Ok (record { text = 0x13 ∷ 0x00 ∷ 0x00 ∷ 0x00 ∷ 0x6F ∷ 0xF0 ∷ 0xDF ∷ 0xFF ∷ 0x6F ∷ 0x00 ∷ 0x40 ∷ 0x00 ∷ []; data_bytes = 7 ∷ 0xFF ∷ []; entry = 4 })
-unfolding label_end form_of register_of
+labels : written (codes "a: nop\n_start: j a\n.data\nx: .byte 7\n.text\nj b\nb:\n.data\n.byte -1") ≡ Ok (record { text = 0x13 ∷ 0x00 ∷ 0x00 ∷ 0x00 ∷ 0x6F ∷ 0xF0 ∷ 0xDF ∷ 0xFF ∷ 0x6F ∷ 0x00 ∷ 0x40 ∷ 0x00 ∷ []; data_bytes = 7 ∷ 0xFF ∷ []; entry = 4 })
+unfolding label_end form_of register_of imm_code
 labels = refl
 
 -- data lies on the page behind the text, so x has the address 4096 where its own bytes tell it
 address_of_data : written (codes "nop\n.data\nx: .dword x") ≡ Ok (record { text = 0x13 ∷ 0x00 ∷ 0x00 ∷ 0x00 ∷ []; data_bytes = 0 ∷ 0x10 ∷ 0 ∷ 0 ∷ 0 ∷ 0 ∷ 0 ∷ 0 ∷ []; entry = 0 })
-unfolding label_end form_of register_of
+unfolding label_end form_of register_of imm_code
 address_of_data = refl
 
 nothing : written [] ≡ Ok (record { text = []; data_bytes = []; entry = 0 })

@@ -209,24 +209,24 @@ values w (o ∷ os) = do
 
 -- what a word with these operands asks for
 abbrev pub statement_of : Form → List (List ℕ) → Result Statement AsmErrorKind
-statement_of (form.Register op) os = registers os >>= λ r. Ok (Code (Op op r.0 r.1 r.2 ∷ []))
-statement_of (form.RegisterWord op) os = registers os >>= λ r. Ok (Code (OpW op r.0 r.1 r.2 ∷ []))
-statement_of (form.Immediate op) os = immediate os >>= λ r. ranged 2048 2047 r.2 (Code (OpImm op r.0 r.1 (low_bits 12 r.2) ∷ []))
-statement_of form.AddImmediateWord os = immediate os >>= λ r. ranged 2048 2047 r.2 (Code (AddImmW r.0 r.1 (low_bits 12 r.2) ∷ []))
-statement_of (form.Shift op) os = immediate os >>= λ r. ranged 0 63 r.2 (Code (ShiftImm op r.0 r.1 (low_bits 6 r.2) ∷ []))
-statement_of (form.ShiftWord op) os = immediate os >>= λ r. ranged 0 31 r.2 (Code (ShiftImmW op r.0 r.1 (low_bits 5 r.2) ∷ []))
+statement_of (form.Op op) os = registers os >>= λ r. Ok (Code (Op op r.0 r.1 r.2 ∷ []))
+statement_of (form.OpW op) os = registers os >>= λ r. Ok (Code (OpW op r.0 r.1 r.2 ∷ []))
+statement_of (form.OpImm op) os = immediate os >>= λ r. ranged 2048 2047 r.2 (Code (OpImm op r.0 r.1 (low_bits 12 r.2) ∷ []))
+statement_of form.AddImmW os = immediate os >>= λ r. ranged 2048 2047 r.2 (Code (AddImmW r.0 r.1 (low_bits 12 r.2) ∷ []))
+statement_of (form.ShiftImm op) os = immediate os >>= λ r. ranged 0 63 r.2 (Code (ShiftImm op r.0 r.1 (low_bits 6 r.2) ∷ []))
+statement_of (form.ShiftImmW op) os = immediate os >>= λ r. ranged 0 31 r.2 (Code (ShiftImmW op r.0 r.1 (low_bits 5 r.2) ∷ []))
 statement_of (form.Load op) os = indirect os >>= λ r. ranged 2048 2047 r.2 (Code (Load op r.0 r.1 (low_bits 12 r.2) ∷ []))
 statement_of (form.Store op) os = indirect os >>= λ r. ranged 2048 2047 r.2 (Code (Store op r.1 r.0 (low_bits 12 r.2) ∷ []))
-statement_of form.JumpRegister os = indirect os >>= λ r. ranged 2048 2047 r.2 (Code (Jalr r.0 r.1 (low_bits 12 r.2) ∷ []))
+statement_of form.Jalr os = indirect os >>= λ r. ranged 2048 2047 r.2 (Code (Jalr r.0 r.1 (low_bits 12 r.2) ∷ []))
 statement_of (form.Branch op) os = do
   o ← three os
   s ← register o.0
   t ← register o.1
   l ← label o.2
   Ok (BranchTo op s t l)
-statement_of form.Jump os = register_label os >>= λ r. Ok (JumpTo r.0 r.1)
-statement_of form.LoadUpper os = register_number os >>= λ r. ranged 0 0xFFFFF r.1 (Code (Lui r.0 (low_bits 20 r.1) ∷ []))
-statement_of form.AddUpper os = register_number os >>= λ r. ranged 0 0xFFFFF r.1 (Code (Auipc r.0 (low_bits 20 r.1) ∷ []))
+statement_of form.Jal os = register_label os >>= λ r. Ok (JumpTo r.0 r.1)
+statement_of form.Lui os = register_number os >>= λ r. ranged 0 0xFFFFF r.1 (Code (Lui r.0 (low_bits 20 r.1) ∷ []))
+statement_of form.Auipc os = register_number os >>= λ r. ranged 0 0xFFFFF r.1 (Code (Auipc r.0 (low_bits 20 r.1) ∷ []))
 statement_of form.Fence os = alone os (Fence 0 0 0x0FF)
 statement_of form.Ecall os = alone os Ecall
 statement_of form.Ebreak os = alone os Ebreak

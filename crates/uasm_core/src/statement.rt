@@ -117,35 +117,35 @@ fn indirect_bits(operands: &[&[u8]]) -> Result<(Reg, Reg, Imm12), AsmErrorKind>
 }
 
 fn register_statement<'a>(op: RegOp, operands: &[&[u8]]) -> Result<Statement<'a>, Refusal>
-    ensures { Answers seen result (statement_of (form.Register op) (map (λ b. b.now) operands.now)) }
+    ensures { Answers seen result (statement_of (form.Op op) (map (λ b. b.now) operands.now)) }
 {
     let (rd, rs1, rs2) = registers(operands)?;
     Ok(Statement::One(Instr::Op { op, rd, rs1, rs2 }))
 }
 
 fn register_word_statement<'a>(op: WordOp, operands: &[&[u8]]) -> Result<Statement<'a>, Refusal>
-    ensures { Answers seen result (statement_of (form.RegisterWord op) (map (λ b. b.now) operands.now)) }
+    ensures { Answers seen result (statement_of (form.OpW op) (map (λ b. b.now) operands.now)) }
 {
     let (rd, rs1, rs2) = registers(operands)?;
     Ok(Statement::One(Instr::OpW { op, rd, rs1, rs2 }))
 }
 
 fn immediate_statement<'a>(op: ImmOp, operands: &[&[u8]]) -> Result<Statement<'a>, Refusal>
-    ensures { Answers seen result (statement_of (form.Immediate op) (map (λ b. b.now) operands.now)) }
+    ensures { Answers seen result (statement_of (form.OpImm op) (map (λ b. b.now) operands.now)) }
 {
     let (rd, rs1, imm) = immediate_bits(operands)?;
     Ok(Statement::One(Instr::OpImm { op, rd, rs1, imm }))
 }
 
 fn add_word_statement<'a>(operands: &[&[u8]]) -> Result<Statement<'a>, Refusal>
-    ensures { Answers seen result (statement_of form.AddImmediateWord (map (λ b. b.now) operands.now)) }
+    ensures { Answers seen result (statement_of form.AddImmW (map (λ b. b.now) operands.now)) }
 {
     let (rd, rs1, imm) = immediate_bits(operands)?;
     Ok(Statement::One(Instr::AddImmW { rd, rs1, imm }))
 }
 
 fn shift_statement<'a>(op: ShiftOp, operands: &[&[u8]]) -> Result<Statement<'a>, Refusal>
-    ensures { Answers seen result (statement_of (form.Shift op) (map (λ b. b.now) operands.now)) }
+    ensures { Answers seen result (statement_of (form.ShiftImm op) (map (λ b. b.now) operands.now)) }
 {
     let (rd, rs1, number) = immediate(operands)?;
     Ok(Statement::One(Instr::ShiftImm {
@@ -157,7 +157,7 @@ fn shift_statement<'a>(op: ShiftOp, operands: &[&[u8]]) -> Result<Statement<'a>,
 }
 
 fn shift_word_statement<'a>(op: ShiftOp, operands: &[&[u8]]) -> Result<Statement<'a>, Refusal>
-    ensures { Answers seen result (statement_of (form.ShiftWord op) (map (λ b. b.now) operands.now)) }
+    ensures { Answers seen result (statement_of (form.ShiftImmW op) (map (λ b. b.now) operands.now)) }
 {
     let (rd, rs1, number) = immediate(operands)?;
     Ok(Statement::One(Instr::ShiftImmW {
@@ -183,7 +183,7 @@ fn store_statement<'a>(op: StoreOp, operands: &[&[u8]]) -> Result<Statement<'a>,
 }
 
 fn jump_register_statement<'a>(operands: &[&[u8]]) -> Result<Statement<'a>, Refusal>
-    ensures { Answers seen result (statement_of form.JumpRegister (map (λ b. b.now) operands.now)) }
+    ensures { Answers seen result (statement_of form.Jalr (map (λ b. b.now) operands.now)) }
 {
     let (rd, rs1, imm) = indirect_bits(operands)?;
     Ok(Statement::One(Instr::Jalr { rd, rs1, imm }))
@@ -199,14 +199,14 @@ fn branch_statement<'a>(op: BranchOp, operands: &[&'a [u8]]) -> Result<Statement
 }
 
 fn jump_statement<'a>(operands: &[&'a [u8]]) -> Result<Statement<'a>, Refusal>
-    ensures { Answers seen result (statement_of form.Jump (map (λ b. b.now) operands.now)) }
+    ensures { Answers seen result (statement_of form.Jal (map (λ b. b.now) operands.now)) }
 {
     let (rd, target) = register_label(operands)?;
     Ok(Statement::JumpTo(rd, target))
 }
 
 fn load_upper_statement<'a>(operands: &[&[u8]]) -> Result<Statement<'a>, Refusal>
-    ensures { Answers seen result (statement_of form.LoadUpper (map (λ b. b.now) operands.now)) }
+    ensures { Answers seen result (statement_of form.Lui (map (λ b. b.now) operands.now)) }
 {
     let (rd, number) = register_number(operands)?;
     Ok(Statement::One(Instr::Lui {
@@ -216,7 +216,7 @@ fn load_upper_statement<'a>(operands: &[&[u8]]) -> Result<Statement<'a>, Refusal
 }
 
 fn add_upper_statement<'a>(operands: &[&[u8]]) -> Result<Statement<'a>, Refusal>
-    ensures { Answers seen result (statement_of form.AddUpper (map (λ b. b.now) operands.now)) }
+    ensures { Answers seen result (statement_of form.Auipc (map (λ b. b.now) operands.now)) }
 {
     let (rd, number) = register_number(operands)?;
     Ok(Statement::One(Instr::Auipc {
@@ -478,19 +478,19 @@ fn formed<'a>(alloc: Global, form: Form, operands: &[&'a [u8]]) -> Result<Statem
     ensures { Answers seen result (statement_of form (map (λ b. b.now) operands.now)) }
 {
     match form {
-        Form::Register(op) => register_statement(op, operands),
-        Form::RegisterWord(op) => register_word_statement(op, operands),
-        Form::Immediate(op) => immediate_statement(op, operands),
-        Form::AddImmediateWord => add_word_statement(operands),
-        Form::Shift(op) => shift_statement(op, operands),
-        Form::ShiftWord(op) => shift_word_statement(op, operands),
+        Form::Op(op) => register_statement(op, operands),
+        Form::OpW(op) => register_word_statement(op, operands),
+        Form::OpImm(op) => immediate_statement(op, operands),
+        Form::AddImmW => add_word_statement(operands),
+        Form::ShiftImm(op) => shift_statement(op, operands),
+        Form::ShiftImmW(op) => shift_word_statement(op, operands),
         Form::Load(op) => load_statement(op, operands),
         Form::Store(op) => store_statement(op, operands),
         Form::Branch(op) => branch_statement(op, operands),
-        Form::JumpRegister => jump_register_statement(operands),
-        Form::Jump => jump_statement(operands),
-        Form::LoadUpper => load_upper_statement(operands),
-        Form::AddUpper => add_upper_statement(operands),
+        Form::Jalr => jump_register_statement(operands),
+        Form::Jal => jump_statement(operands),
+        Form::Lui => load_upper_statement(operands),
+        Form::Auipc => add_upper_statement(operands),
         Form::Fence => fence_statement(operands),
         Form::Ecall => alone(operands, Instr::Ecall),
         Form::Ebreak => alone(operands, Instr::Ebreak),

@@ -2,7 +2,10 @@
 ghost use Rattle.std.specs.Prelude.{◌≡◌, map};
 ghost use Rattle.uasm_core.specs.Line.{looked_up as entry_of, form_of, register_of};
 
-use rv64i_core::{BranchOp, ImmOp, LoadOp, RegOp, ShiftOp, StoreOp, WordOp};
+use rv64i_core::{
+    BranchOp, ImmOp, LoadOp, RegOp, ShiftOp, StoreOp, WordOp, branch_rows, imm_rows, load_rows,
+    reg_rows, reg_w_rows, shift_rows, shift_w_rows, single_rows, store_rows,
+};
 use xk_base::Reg;
 
 /// A section of the program.
@@ -20,22 +23,22 @@ pub(crate) enum Width {
     Dword,
 }
 
-/// What a word asks for, and so which operands it takes.
+/// What a word asks for, and so which operands it takes: an instruction by its format, or what the language adds.
 #[derive(Clone, Copy)]
 pub(crate) enum Form {
-    Register(RegOp),
-    RegisterWord(WordOp),
-    Immediate(ImmOp),
-    AddImmediateWord,
-    Shift(ShiftOp),
-    ShiftWord(ShiftOp),
+    Op(RegOp),
+    OpW(WordOp),
+    OpImm(ImmOp),
+    ShiftImm(ShiftOp),
+    ShiftImmW(ShiftOp),
     Load(LoadOp),
     Store(StoreOp),
     Branch(BranchOp),
-    JumpRegister,
-    Jump,
-    LoadUpper,
-    AddUpper,
+    Lui,
+    Auipc,
+    Jal,
+    Jalr,
+    AddImmW,
     Fence,
     Ecall,
     Ebreak,
@@ -52,75 +55,34 @@ pub(crate) enum Form {
     Space,
 }
 
+// The words of all instructions, of their rows, and the words that the language adds.
+macro_rules! words {
+    ([] $({ $format:ident $ops:ident $($op:ident $name:literal $($code:literal)*,)* })* ( $($single:ident $single_name:literal,)* )) => {
+        [
+            $($(($name, Form::$format($ops::$op)),)*)*
+            $(($single_name, Form::$single),)*
+            ("nop", Form::Nothing),
+            ("mv", Form::Move),
+            ("j", Form::JumpAlways),
+            ("call", Form::Call),
+            ("ret", Form::Return),
+            ("la", Form::LoadAddress),
+            ("li", Form::LoadNumber),
+            (".text", Form::Switch(Section::Text)),
+            (".data", Form::Switch(Section::Data)),
+            (".byte", Form::Values(Width::Byte)),
+            (".word", Form::Values(Width::Word)),
+            (".dword", Form::Values(Width::Dword)),
+            (".asciz", Form::Text),
+            (".space", Form::Space),
+        ]
+    };
+}
+
 /// Each word with its form.
-const WORDS: [(&str, Form); 66] = [
-    ("add", Form::Register(RegOp::Add)),
-    ("sub", Form::Register(RegOp::Sub)),
-    ("sll", Form::Register(RegOp::Sll)),
-    ("slt", Form::Register(RegOp::Slt)),
-    ("sltu", Form::Register(RegOp::Sltu)),
-    ("xor", Form::Register(RegOp::Xor)),
-    ("srl", Form::Register(RegOp::Srl)),
-    ("sra", Form::Register(RegOp::Sra)),
-    ("or", Form::Register(RegOp::Or)),
-    ("and", Form::Register(RegOp::And)),
-    ("addw", Form::RegisterWord(WordOp::Addw)),
-    ("subw", Form::RegisterWord(WordOp::Subw)),
-    ("sllw", Form::RegisterWord(WordOp::Sllw)),
-    ("srlw", Form::RegisterWord(WordOp::Srlw)),
-    ("sraw", Form::RegisterWord(WordOp::Sraw)),
-    ("addi", Form::Immediate(ImmOp::Addi)),
-    ("slti", Form::Immediate(ImmOp::Slti)),
-    ("sltiu", Form::Immediate(ImmOp::Sltiu)),
-    ("xori", Form::Immediate(ImmOp::Xori)),
-    ("ori", Form::Immediate(ImmOp::Ori)),
-    ("andi", Form::Immediate(ImmOp::Andi)),
-    ("addiw", Form::AddImmediateWord),
-    ("slli", Form::Shift(ShiftOp::Left)),
-    ("srli", Form::Shift(ShiftOp::Right)),
-    ("srai", Form::Shift(ShiftOp::Arithmetic)),
-    ("slliw", Form::ShiftWord(ShiftOp::Left)),
-    ("srliw", Form::ShiftWord(ShiftOp::Right)),
-    ("sraiw", Form::ShiftWord(ShiftOp::Arithmetic)),
-    ("lb", Form::Load(LoadOp::Lb)),
-    ("lh", Form::Load(LoadOp::Lh)),
-    ("lw", Form::Load(LoadOp::Lw)),
-    ("ld", Form::Load(LoadOp::Ld)),
-    ("lbu", Form::Load(LoadOp::Lbu)),
-    ("lhu", Form::Load(LoadOp::Lhu)),
-    ("lwu", Form::Load(LoadOp::Lwu)),
-    ("sb", Form::Store(StoreOp::Sb)),
-    ("sh", Form::Store(StoreOp::Sh)),
-    ("sw", Form::Store(StoreOp::Sw)),
-    ("sd", Form::Store(StoreOp::Sd)),
-    ("beq", Form::Branch(BranchOp::Beq)),
-    ("bne", Form::Branch(BranchOp::Bne)),
-    ("blt", Form::Branch(BranchOp::Blt)),
-    ("bge", Form::Branch(BranchOp::Bge)),
-    ("bltu", Form::Branch(BranchOp::Bltu)),
-    ("bgeu", Form::Branch(BranchOp::Bgeu)),
-    ("jalr", Form::JumpRegister),
-    ("jal", Form::Jump),
-    ("lui", Form::LoadUpper),
-    ("auipc", Form::AddUpper),
-    ("fence", Form::Fence),
-    ("ecall", Form::Ecall),
-    ("ebreak", Form::Ebreak),
-    ("nop", Form::Nothing),
-    ("mv", Form::Move),
-    ("j", Form::JumpAlways),
-    ("call", Form::Call),
-    ("ret", Form::Return),
-    ("la", Form::LoadAddress),
-    ("li", Form::LoadNumber),
-    (".text", Form::Switch(Section::Text)),
-    (".data", Form::Switch(Section::Data)),
-    (".byte", Form::Values(Width::Byte)),
-    (".word", Form::Values(Width::Word)),
-    (".dword", Form::Values(Width::Dword)),
-    (".asciz", Form::Text),
-    (".space", Form::Space),
-];
+const WORDS: [(&str, Form); 66] = reg_rows!([
+    reg_w_rows imm_rows shift_rows shift_w_rows load_rows store_rows branch_rows single_rows words
+]);
 
 /// Each name of a register with its number.
 const REGISTERS: [(&str, u8); 65] = [

@@ -1,6 +1,7 @@
 -- What the line of an instruction asks for.
 use Rattle.std.proofs.Common.{◌≡◌, ℕ, ◌^◌, ◌<◌, Bool, true, false, cond, ◌&&◌, eqb, List, [], ◌∷◌, decimal, Some, Result, Ok, Err, refl, sym, ap, ◌∙◌, eqb-true}
 use Rattle.std.proofs.lemmas.Bool.{and_parts}
+use Rattle.rv64i_core.specs.Instructions.{branch_table, load_table, store_table, imm_table, shift_table, shift_w_table, reg_table, reg_w_table}
 use Rattle.rv64i_core.specs.Table.{IsInLayout}
 use Rattle.rv64i_core.specs.declared.instruction.Instr.{Instr}
 use Rattle.rv64i_core.specs.declared.instruction.Instr.TheVariants.{Lui, Auipc, Jal, Jalr, Branch, Load, Store, OpImm, ShiftImm, Op, AddImmW, ShiftImmW, OpW, Fence, Ecall, Ebreak}
@@ -84,7 +85,7 @@ by_word (Fence d s imm) os = meant.alone os (Fence 0 0 0x0FF)
 by_word Ecall os = meant.alone os Ecall
 by_word Ebreak os = meant.alone os Ebreak
 
-reg_asks : (op : RegOp) (os : List (List ℕ)) → asks (text.reg_name op) os ≡ by_registers (λ x y z. Op op x y z) os
+reg_asks : (op : RegOp) (os : List (List ℕ)) → asks (reg_table op).name os ≡ by_registers (λ x y z. Op op x y z) os
 unfolding form_of
 reg_asks Add os = refl
 reg_asks Sub os = refl
@@ -97,7 +98,7 @@ reg_asks Sra os = refl
 reg_asks Or os = refl
 reg_asks And os = refl
 
-word_asks : (op : WordOp) (os : List (List ℕ)) → asks (text.word_name op) os ≡ by_registers (λ x y z. OpW op x y z) os
+word_asks : (op : WordOp) (os : List (List ℕ)) → asks (reg_w_table op).name os ≡ by_registers (λ x y z. OpW op x y z) os
 unfolding form_of
 word_asks Addw os = refl
 word_asks Subw os = refl
@@ -105,7 +106,7 @@ word_asks Sllw os = refl
 word_asks Srlw os = refl
 word_asks Sraw os = refl
 
-imm_asks : (op : ImmOp) (os : List (List ℕ)) → asks (text.imm_name op) os ≡ by_immediate 2048 2047 12 (λ x y z. OpImm op x y z) os
+imm_asks : (op : ImmOp) (os : List (List ℕ)) → asks (imm_table op).name os ≡ by_immediate 2048 2047 12 (λ x y z. OpImm op x y z) os
 unfolding form_of
 imm_asks Addi os = refl
 imm_asks Slti os = refl
@@ -114,19 +115,19 @@ imm_asks Xori os = refl
 imm_asks Ori os = refl
 imm_asks Andi os = refl
 
-shift_asks : (op : ShiftOp) (os : List (List ℕ)) → asks (text.shift_name op) os ≡ by_immediate 0 63 6 (λ x y z. ShiftImm op x y z) os
+shift_asks : (op : ShiftOp) (os : List (List ℕ)) → asks (shift_table op).name os ≡ by_immediate 0 63 6 (λ x y z. ShiftImm op x y z) os
 unfolding form_of
 shift_asks Left os = refl
 shift_asks Right os = refl
 shift_asks Arithmetic os = refl
 
-shift_word_asks : (op : ShiftOp) (os : List (List ℕ)) → asks (text.shift_word_name op) os ≡ by_immediate 0 31 5 (λ x y z. ShiftImmW op x y z) os
+shift_word_asks : (op : ShiftOp) (os : List (List ℕ)) → asks (shift_w_table op).name os ≡ by_immediate 0 31 5 (λ x y z. ShiftImmW op x y z) os
 unfolding form_of
 shift_word_asks Left os = refl
 shift_word_asks Right os = refl
 shift_word_asks Arithmetic os = refl
 
-load_asks : (op : LoadOp) (os : List (List ℕ)) → asks (text.load_name op) os ≡ by_place (λ x y z. Load op x y z) os
+load_asks : (op : LoadOp) (os : List (List ℕ)) → asks (load_table op).name os ≡ by_place (λ x y z. Load op x y z) os
 unfolding form_of
 load_asks Lb os = refl
 load_asks Lh os = refl
@@ -136,14 +137,14 @@ load_asks Lbu os = refl
 load_asks Lhu os = refl
 load_asks Lwu os = refl
 
-store_asks : (op : StoreOp) (os : List (List ℕ)) → asks (text.store_name op) os ≡ by_place (λ x y z. Store op y x z) os
+store_asks : (op : StoreOp) (os : List (List ℕ)) → asks (store_table op).name os ≡ by_place (λ x y z. Store op y x z) os
 unfolding form_of
 store_asks Sb os = refl
 store_asks Sh os = refl
 store_asks Sw os = refl
 store_asks Sd os = refl
 
-branch_asks : (op : BranchOp) (os : List (List ℕ)) → asks (text.branch_name op) os ≡ by_branch op os
+branch_asks : (op : BranchOp) (os : List (List ℕ)) → asks (branch_table op).name os ≡ by_branch op os
 unfolding form_of
 branch_asks Beq os = refl
 branch_asks Bne os = refl
@@ -172,7 +173,7 @@ each_asks Ecall os = refl
 each_asks Ebreak os = refl
 
 -- and it is a word by its letters
-reg_word : (op : RegOp) → is_word (text.reg_name op) ≡ true
+reg_word : (op : RegOp) → is_word (reg_table op).name ≡ true
 reg_word Add = refl
 reg_word Sub = refl
 reg_word Sll = refl
@@ -184,14 +185,14 @@ reg_word Sra = refl
 reg_word Or = refl
 reg_word And = refl
 
-word_word : (op : WordOp) → is_word (text.word_name op) ≡ true
+word_word : (op : WordOp) → is_word (reg_w_table op).name ≡ true
 word_word Addw = refl
 word_word Subw = refl
 word_word Sllw = refl
 word_word Srlw = refl
 word_word Sraw = refl
 
-imm_word : (op : ImmOp) → is_word (text.imm_name op) ≡ true
+imm_word : (op : ImmOp) → is_word (imm_table op).name ≡ true
 imm_word Addi = refl
 imm_word Slti = refl
 imm_word Sltiu = refl
@@ -199,17 +200,17 @@ imm_word Xori = refl
 imm_word Ori = refl
 imm_word Andi = refl
 
-shift_word : (op : ShiftOp) → is_word (text.shift_name op) ≡ true
+shift_word : (op : ShiftOp) → is_word (shift_table op).name ≡ true
 shift_word Left = refl
 shift_word Right = refl
 shift_word Arithmetic = refl
 
-shift_word_word : (op : ShiftOp) → is_word (text.shift_word_name op) ≡ true
+shift_word_word : (op : ShiftOp) → is_word (shift_w_table op).name ≡ true
 shift_word_word Left = refl
 shift_word_word Right = refl
 shift_word_word Arithmetic = refl
 
-load_word : (op : LoadOp) → is_word (text.load_name op) ≡ true
+load_word : (op : LoadOp) → is_word (load_table op).name ≡ true
 load_word Lb = refl
 load_word Lh = refl
 load_word Lw = refl
@@ -218,13 +219,13 @@ load_word Lbu = refl
 load_word Lhu = refl
 load_word Lwu = refl
 
-store_word : (op : StoreOp) → is_word (text.store_name op) ≡ true
+store_word : (op : StoreOp) → is_word (store_table op).name ≡ true
 store_word Sb = refl
 store_word Sh = refl
 store_word Sw = refl
 store_word Sd = refl
 
-branch_word : (op : BranchOp) → is_word (text.branch_name op) ≡ true
+branch_word : (op : BranchOp) → is_word (branch_table op).name ≡ true
 branch_word Beq = refl
 branch_word Bne = refl
 branch_word Blt = refl

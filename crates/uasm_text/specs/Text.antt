@@ -4,24 +4,11 @@ use Rattle.std.specs.Prelude.{ℕ, ◌-◌, ◌*◌, ◌^◌, Bool, false, ◌&&
 use Rattle.std.specs.List.{join_by}
 use Rattle.std.specs.Fmt.{digits}
 use Rattle.rv64i_core.specs.Layout.{bits}
+use Rattle.rv64i_core.specs.Instructions.{branch_table, load_table, store_table, imm_table, shift_table, shift_w_table, reg_table, reg_w_table, lui, auipc, jal, jalr, addiw, fence, ecall, ebreak}
 use Rattle.rv64i_core.specs.Registers.{add}
 use Rattle.rv64i_core.specs.Step.{extended}
 use Rattle.rv64i_core.specs.declared.instruction.Instr.{Instr}
 use Rattle.rv64i_core.specs.declared.instruction.Instr.TheVariants.{Lui, Auipc, Jal, Jalr, Branch, Load, Store, OpImm, ShiftImm, Op, AddImmW, ShiftImmW, OpW, Fence, Ecall, Ebreak}
-use Rattle.rv64i_core.specs.declared.instruction.BranchOp.{BranchOp}
-use Rattle.rv64i_core.specs.declared.instruction.BranchOp.TheVariants.{Beq, Bne, Blt, Bge, Bltu, Bgeu}
-use Rattle.rv64i_core.specs.declared.instruction.LoadOp.{LoadOp}
-use Rattle.rv64i_core.specs.declared.instruction.LoadOp.TheVariants.{Lb, Lh, Lw, Ld, Lbu, Lhu, Lwu}
-use Rattle.rv64i_core.specs.declared.instruction.StoreOp.{StoreOp}
-use Rattle.rv64i_core.specs.declared.instruction.StoreOp.TheVariants.{Sb, Sh, Sw, Sd}
-use Rattle.rv64i_core.specs.declared.instruction.ImmOp.{ImmOp}
-use Rattle.rv64i_core.specs.declared.instruction.ImmOp.TheVariants.{Addi, Slti, Sltiu, Xori, Ori, Andi}
-use Rattle.rv64i_core.specs.declared.instruction.ShiftOp.{ShiftOp}
-use Rattle.rv64i_core.specs.declared.instruction.ShiftOp.TheVariants.{Left, Right, Arithmetic}
-use Rattle.rv64i_core.specs.declared.instruction.RegOp.{RegOp}
-use Rattle.rv64i_core.specs.declared.instruction.RegOp.TheVariants.{Add, Sub, Sll, Slt, Sltu, Xor, Srl, Sra, Or, And}
-use Rattle.rv64i_core.specs.declared.instruction.WordOp.{WordOp}
-use Rattle.rv64i_core.specs.declared.instruction.WordOp.TheVariants.{Addw, Subw, Sllw, Srlw, Sraw}
 
 -- Registers.
 
@@ -53,86 +40,24 @@ place n s = signed_number n ++ codes "(" ++ register s ++ codes ")"
 
 -- Words.
 
-abbrev pub branch_name : BranchOp → List ℕ
-branch_name Beq = codes "beq"
-branch_name Bne = codes "bne"
-branch_name Blt = codes "blt"
-branch_name Bge = codes "bge"
-branch_name Bltu = codes "bltu"
-branch_name Bgeu = codes "bgeu"
-
-abbrev pub load_name : LoadOp → List ℕ
-load_name Lb = codes "lb"
-load_name Lh = codes "lh"
-load_name Lw = codes "lw"
-load_name Ld = codes "ld"
-load_name Lbu = codes "lbu"
-load_name Lhu = codes "lhu"
-load_name Lwu = codes "lwu"
-
-abbrev pub store_name : StoreOp → List ℕ
-store_name Sb = codes "sb"
-store_name Sh = codes "sh"
-store_name Sw = codes "sw"
-store_name Sd = codes "sd"
-
-abbrev pub imm_name : ImmOp → List ℕ
-imm_name Addi = codes "addi"
-imm_name Slti = codes "slti"
-imm_name Sltiu = codes "sltiu"
-imm_name Xori = codes "xori"
-imm_name Ori = codes "ori"
-imm_name Andi = codes "andi"
-
--- a shift of 64 bits
-abbrev pub shift_name : ShiftOp → List ℕ
-shift_name Left = codes "slli"
-shift_name Right = codes "srli"
-shift_name Arithmetic = codes "srai"
-
--- a shift of 32 bits
-abbrev pub shift_word_name : ShiftOp → List ℕ
-shift_word_name Left = codes "slliw"
-shift_word_name Right = codes "srliw"
-shift_word_name Arithmetic = codes "sraiw"
-
-abbrev pub reg_name : RegOp → List ℕ
-reg_name Add = codes "add"
-reg_name Sub = codes "sub"
-reg_name Sll = codes "sll"
-reg_name Slt = codes "slt"
-reg_name Sltu = codes "sltu"
-reg_name Xor = codes "xor"
-reg_name Srl = codes "srl"
-reg_name Sra = codes "sra"
-reg_name Or = codes "or"
-reg_name And = codes "and"
-
-abbrev pub word_name : WordOp → List ℕ
-word_name Addw = codes "addw"
-word_name Subw = codes "subw"
-word_name Sllw = codes "sllw"
-word_name Srlw = codes "srlw"
-word_name Sraw = codes "sraw"
-
--- the word of an instruction
+-- the word of an instruction: its name in the table of instructions
 abbrev pub name : Instr → List ℕ
-name (Lui d imm) = codes "lui"
-name (Auipc d imm) = codes "auipc"
-name (Jal d offset) = codes "jal"
-name (Jalr d s imm) = codes "jalr"
-name (Branch op s t offset) = branch_name op
-name (Load op d s imm) = load_name op
-name (Store op s t imm) = store_name op
-name (OpImm op d s imm) = imm_name op
-name (ShiftImm op d s places) = shift_name op
-name (Op op d s t) = reg_name op
-name (AddImmW d s imm) = codes "addiw"
-name (ShiftImmW op d s places) = shift_word_name op
-name (OpW op d s t) = word_name op
-name (Fence d s imm) = codes "fence"
-name Ecall = codes "ecall"
-name Ebreak = codes "ebreak"
+name (Lui d imm) = lui.name
+name (Auipc d imm) = auipc.name
+name (Jal d offset) = jal.name
+name (Jalr d s imm) = jalr.name
+name (Branch op s t offset) = (branch_table op).name
+name (Load op d s imm) = (load_table op).name
+name (Store op s t imm) = (store_table op).name
+name (OpImm op d s imm) = (imm_table op).name
+name (ShiftImm op d s places) = (shift_table op).name
+name (Op op d s t) = (reg_table op).name
+name (AddImmW d s imm) = addiw.name
+name (ShiftImmW op d s places) = (shift_w_table op).name
+name (OpW op d s t) = (reg_w_table op).name
+name (Fence d s imm) = fence.name
+name Ecall = ecall.name
+name Ebreak = ebreak.name
 
 -- Fences. The language has one, whose word is 0FF0000F. Of any other the two sets of accesses are shown, as the
 -- manual writes them; a hart looks at no other field (RISC-V Unprivileged ISA, "RV32I Base Integer Instruction Set",

@@ -1,5 +1,6 @@
 //! The line of an instruction.
 ghost use Rattle.std.specs.Prelude.{◌≡◌, ◌≤◌, ◌*◌, [], ◌∷◌, length, map, codes, decimal as decimal_of};
+ghost use Rattle.rv64i_core.specs.Instructions.{branch_table};
 ghost use Rattle.rv64i_core.specs.Step.{extended};
 ghost use Rattle.rv64i_core.specs.declared.instruction.Instr.TheVariants.{Fence};
 ghost use Rattle.uasm_text.specs.Text as meant;
@@ -92,60 +93,63 @@ fn with_place(word: &str, register: Reg, imm: Imm12, base: Reg) -> InstructionTe
     line(word, register_name(register), &[place.as_str()])
 }
 
-fn fence(rd: Reg, rs1: Reg, imm: Imm12) -> InstructionText
-    ensures { result.bytes ≡ meant.line (codes "fence") (meant.operands [] (Fence rd rs1 imm)) }
+fn fence(word: &str, rd: Reg, rs1: Reg, imm: Imm12) -> InstructionText
+    requires { length word.now ≤ 5 }
+    ensures { result.bytes ≡ meant.line word.now (meant.operands [] (Fence rd rs1 imm)) }
 {
     let bits = imm.bits();
     if rd.number() == 0 && rs1.number() == 0 && bits == 0x0FF {
-        return alone("fence");
+        return alone(word);
     }
     let before = accesses(bits / 16 % 16);
     let behind = accesses(bits % 16);
-    line("fence", before.as_str(), &[behind.as_str()])
+    line(word, before.as_str(), &[behind.as_str()])
 }
 
 /// The line of an instruction, with this text for the target of a branch or a jump.
 pub(crate) fn text_with(target: Operand, instruction: &Instr) -> InstructionText
     ensures { result.bytes ≡ meant.text_with target.bytes instruction.now }
 {
+    let word = name(instruction);
     match *instruction {
-        Instr::Lui { rd, imm } => upper("lui", rd, imm),
-        Instr::Auipc { rd, imm } => upper("auipc", rd, imm),
-        Instr::Jal { rd, .. } => jump(rd, target),
-        Instr::Jalr { rd, rs1, imm } => with_place("jalr", rd, imm, rs1),
+        Instr::Lui { rd, imm } => upper(word, rd, imm),
+        Instr::Auipc { rd, imm } => upper(word, rd, imm),
+        Instr::Jal { rd, .. } => jump(word, rd, target),
+        Instr::Jalr { rd, rs1, imm } => with_place(word, rd, imm, rs1),
         Instr::Branch { op, rs1, rs2, .. } => branch(op, rs1, rs2, target),
-        Instr::Load { op, rd, rs1, imm } => with_place(load_name(op), rd, imm, rs1),
-        Instr::Store { op, rs1, rs2, imm } => with_place(store_name(op), rs2, imm, rs1),
-        Instr::OpImm { op, rd, rs1, imm } => with_immediate(imm_name(op), rd, rs1, imm),
+        Instr::Load { rd, rs1, imm, .. } => with_place(word, rd, imm, rs1),
+        Instr::Store { rs1, rs2, imm, .. } => with_place(word, rs2, imm, rs1),
+        Instr::OpImm { rd, rs1, imm, .. } => with_immediate(word, rd, rs1, imm),
         Instr::ShiftImm {
-            op,
             rd,
             rs1,
             places,
-        } => with_places(shift_name(op), rd, rs1, places.places()),
-        Instr::Op { op, rd, rs1, rs2 } => with_registers(reg_name(op), rd, rs1, rs2),
-        Instr::AddImmW { rd, rs1, imm } => with_immediate("addiw", rd, rs1, imm),
+            ..
+        } => with_places(word, rd, rs1, places.places()),
+        Instr::Op { rd, rs1, rs2, .. } => with_registers(word, rd, rs1, rs2),
+        Instr::AddImmW { rd, rs1, imm } => with_immediate(word, rd, rs1, imm),
         Instr::ShiftImmW {
-            op,
             rd,
             rs1,
             places,
-        } => with_places(shift_word_name(op), rd, rs1, places.places()),
-        Instr::OpW { op, rd, rs1, rs2 } => with_registers(word_name(op), rd, rs1, rs2),
-        Instr::Fence { rd, rs1, imm } => fence(rd, rs1, imm),
-        Instr::Ecall => alone("ecall"),
-        Instr::Ebreak => alone("ebreak"),
+            ..
+        } => with_places(word, rd, rs1, places.places()),
+        Instr::OpW { rd, rs1, rs2, .. } => with_registers(word, rd, rs1, rs2),
+        Instr::Fence { rd, rs1, imm } => fence(word, rd, rs1, imm),
+        Instr::Ecall => alone(word),
+        Instr::Ebreak => alone(word),
     }
 }
 
-fn jump(rd: Reg, target: Operand) -> InstructionText
-    ensures { result.bytes ≡ meant.line (codes "jal") (meant.register rd ∷ target.bytes ∷ []) }
+fn jump(word: &str, rd: Reg, target: Operand) -> InstructionText
+    requires { length word.now ≤ 5 }
+    ensures { result.bytes ≡ meant.line word.now (meant.register rd ∷ target.bytes ∷ []) }
 {
-    line("jal", register_name(rd), &[target.as_str()])
+    line(word, register_name(rd), &[target.as_str()])
 }
 
 fn branch(op: BranchOp, rs1: Reg, rs2: Reg, target: Operand) -> InstructionText
-    ensures { result.bytes ≡ meant.line (meant.branch_name op) (meant.register rs1 ∷ meant.register rs2 ∷ target.bytes ∷ []) }
+    ensures { result.bytes ≡ meant.line (branch_table op).name (meant.register rs1 ∷ meant.register rs2 ∷ target.bytes ∷ []) }
 {
     line(
         branch_name(op),

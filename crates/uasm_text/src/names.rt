@@ -1,8 +1,12 @@
-//! The names of registers, and the words of instructions.
+//! The names of registers, and those of instructions, from the rows of their table.
 ghost use Rattle.std.specs.Prelude.{◌≡◌, ◌≤◌, ◌<◌, [], length, map, slice_index_or};
+ghost use Rattle.rv64i_core.specs.Instructions.{branch_table, load_table, store_table, imm_table, shift_table, shift_w_table, reg_table, reg_w_table};
 ghost use Rattle.uasm_text.specs.Text as meant;
 
-use rv64i_core::{BranchOp, ImmOp, LoadOp, RegOp, ShiftOp, StoreOp, WordOp};
+use rv64i_core::{
+    BranchOp, ImmOp, LoadOp, RegOp, ShiftOp, StoreOp, WordOp, branch_rows, imm_rows, load_rows,
+    reg_rows, reg_w_rows, shift_rows, shift_w_rows, single_rows, store_rows,
+};
 use xk_base::Reg;
 
 /// The names of x0 to x31, in their order.
@@ -29,112 +33,94 @@ pub fn register_name(register: Reg) -> &'static str
     entry(&REGISTER_NAMES, usize::from(register.number()))
 }
 
+// The name of an operation.
+macro_rules! name_of {
+    ([] ($of:expr) { $format:ident $ops:ident $($op:ident $name:literal $($code:literal)*,)* }) => {
+        match $of {
+            $($ops::$op => $name,)*
+        }
+    };
+}
+
 pub(crate) fn branch_name(op: BranchOp) -> &'static str
-    ensures name { result.now ≡ meant.branch_name op }
+    ensures name { result.now ≡ (branch_table op).name }
     ensures short { length result.now ≤ 4 }
 {
-    match op {
-        BranchOp::Beq => "beq",
-        BranchOp::Bne => "bne",
-        BranchOp::Blt => "blt",
-        BranchOp::Bge => "bge",
-        BranchOp::Bltu => "bltu",
-        BranchOp::Bgeu => "bgeu",
-    }
+    branch_rows!([name_of](op))
 }
 
-pub(crate) fn load_name(op: LoadOp) -> &'static str
-    ensures name { result.now ≡ meant.load_name op }
+fn load_name(op: LoadOp) -> &'static str
+    ensures name { result.now ≡ (load_table op).name }
     ensures short { length result.now ≤ 5 }
 {
-    match op {
-        LoadOp::Lb => "lb",
-        LoadOp::Lh => "lh",
-        LoadOp::Lw => "lw",
-        LoadOp::Ld => "ld",
-        LoadOp::Lbu => "lbu",
-        LoadOp::Lhu => "lhu",
-        LoadOp::Lwu => "lwu",
-    }
+    load_rows!([name_of](op))
 }
 
-pub(crate) fn store_name(op: StoreOp) -> &'static str
-    ensures name { result.now ≡ meant.store_name op }
+fn store_name(op: StoreOp) -> &'static str
+    ensures name { result.now ≡ (store_table op).name }
     ensures short { length result.now ≤ 5 }
 {
-    match op {
-        StoreOp::Sb => "sb",
-        StoreOp::Sh => "sh",
-        StoreOp::Sw => "sw",
-        StoreOp::Sd => "sd",
-    }
+    store_rows!([name_of](op))
 }
 
-pub(crate) fn imm_name(op: ImmOp) -> &'static str
-    ensures name { result.now ≡ meant.imm_name op }
+fn imm_name(op: ImmOp) -> &'static str
+    ensures name { result.now ≡ (imm_table op).name }
     ensures short { length result.now ≤ 5 }
 {
-    match op {
-        ImmOp::Addi => "addi",
-        ImmOp::Slti => "slti",
-        ImmOp::Sltiu => "sltiu",
-        ImmOp::Xori => "xori",
-        ImmOp::Ori => "ori",
-        ImmOp::Andi => "andi",
-    }
+    imm_rows!([name_of](op))
 }
 
-/// The word of a shift of 64 bits.
-pub(crate) fn shift_name(op: ShiftOp) -> &'static str
-    ensures name { result.now ≡ meant.shift_name op }
+/// The name of a shift of 64 bits.
+fn shift_name(op: ShiftOp) -> &'static str
+    ensures name { result.now ≡ (shift_table op).name }
     ensures short { length result.now ≤ 5 }
 {
-    match op {
-        ShiftOp::Left => "slli",
-        ShiftOp::Right => "srli",
-        ShiftOp::Arithmetic => "srai",
-    }
+    shift_rows!([name_of](op))
 }
 
-/// The word of a shift of 32 bits.
-pub(crate) fn shift_word_name(op: ShiftOp) -> &'static str
-    ensures name { result.now ≡ meant.shift_word_name op }
+/// The name of a shift of 32 bits.
+fn shift_w_name(op: ShiftOp) -> &'static str
+    ensures name { result.now ≡ (shift_w_table op).name }
     ensures short { length result.now ≤ 5 }
 {
-    match op {
-        ShiftOp::Left => "slliw",
-        ShiftOp::Right => "srliw",
-        ShiftOp::Arithmetic => "sraiw",
-    }
+    shift_w_rows!([name_of](op))
 }
 
-pub(crate) fn reg_name(op: RegOp) -> &'static str
-    ensures name { result.now ≡ meant.reg_name op }
+fn reg_name(op: RegOp) -> &'static str
+    ensures name { result.now ≡ (reg_table op).name }
     ensures short { length result.now ≤ 5 }
 {
-    match op {
-        RegOp::Add => "add",
-        RegOp::Sub => "sub",
-        RegOp::Sll => "sll",
-        RegOp::Slt => "slt",
-        RegOp::Sltu => "sltu",
-        RegOp::Xor => "xor",
-        RegOp::Srl => "srl",
-        RegOp::Sra => "sra",
-        RegOp::Or => "or",
-        RegOp::And => "and",
-    }
+    reg_rows!([name_of](op))
 }
 
-pub(crate) fn word_name(op: WordOp) -> &'static str
-    ensures name { result.now ≡ meant.word_name op }
+fn reg_w_name(op: WordOp) -> &'static str
+    ensures name { result.now ≡ (reg_w_table op).name }
     ensures short { length result.now ≤ 5 }
 {
-    match op {
-        WordOp::Addw => "addw",
-        WordOp::Subw => "subw",
-        WordOp::Sllw => "sllw",
-        WordOp::Srlw => "srlw",
-        WordOp::Sraw => "sraw",
-    }
+    reg_w_rows!([name_of](op))
+}
+
+// The name of an instruction: that of its operation, or its own.
+macro_rules! name_of_each {
+    ([] ($of:expr) ($($single:ident $name:literal,)*)) => {
+        match $of {
+            Instr::Op { op, .. } => reg_name(op),
+            Instr::OpW { op, .. } => reg_w_name(op),
+            Instr::OpImm { op, .. } => imm_name(op),
+            Instr::ShiftImm { op, .. } => shift_name(op),
+            Instr::ShiftImmW { op, .. } => shift_w_name(op),
+            Instr::Load { op, .. } => load_name(op),
+            Instr::Store { op, .. } => store_name(op),
+            Instr::Branch { op, .. } => branch_name(op),
+            $(Instr::$single { .. } => $name,)*
+        }
+    };
+}
+
+/// The name of an instruction.
+pub(crate) fn name(instruction: &Instr) -> &'static str
+    ensures name { result.now ≡ meant.name instruction.now }
+    ensures short { length result.now ≤ 5 }
+{
+    single_rows!([name_of_each](*instruction))
 }
