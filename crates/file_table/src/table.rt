@@ -1,5 +1,6 @@
 //! The table of open files.
-ghost use Rattle.std.specs.Prelude.{◌≡◌, ◌<◌, ◌≤◌, length, Option, Some, None, option_map, IfSome, IfOk, IfErr, position, is_none};
+ghost use Rattle.std.specs.Prelude.{◌≡◌, ◌<◌, ◌≤◌, length, Option, Some, None};
+ghost use Rattle.std.specs.Prelude.{option_map, IfSome, IfOk, IfErr, position, is_none};
 ghost use Rattle.std.specs.Option.{ForSome};
 ghost use Rattle.xk_base.specs.declared.limits.TheConstants.{OPEN_FILES};
 ghost use Rattle.xk_base.specs.declared.errors.BootError.TheVariants.{Memory};
@@ -42,7 +43,11 @@ fn free_place(places: &[Option<CountedFile>]) -> Option<usize>
 }
 
 impl Files {
-    ghost use Rattle.file_table.specs.OpenFiles.{IsTable, IsOpen, none_open, open_count, lowest_place, with_opened, console_file, program_file, pipe_file, open_file_at, count_at, offset_of, with_sharer, with_offset, without_sharer, entry_at, is_last};
+    ghost use Rattle.file_table.specs.OpenFiles.{IsTable, IsOpen, none_open, open_count};
+    ghost use Rattle.file_table.specs.OpenFiles.{lowest_place, with_opened, console_file, program_file};
+    ghost use Rattle.file_table.specs.OpenFiles.{pipe_file, open_file_at, count_at, offset_of};
+    ghost use Rattle.file_table.specs.OpenFiles.{with_sharer, with_offset, without_sharer, entry_at};
+    ghost use Rattle.file_table.specs.OpenFiles.{is_last};
 
     /// A table without an open file.
     ///

@@ -1,7 +1,9 @@
 //! A process, as the table keeps it.
 ghost use Rattle.std.specs.Prelude.{◌≡◌, false};
 ghost use Rattle.proc_table.specs.Channels.{is_on};
-ghost use Rattle.proc_table.specs.Processes.{is_runnable, is_child_of, is_zombie, is_marked, is_asleep, status_of, call_of, has_pid, woken, killed, given, asleep, ended, in_call};
+ghost use Rattle.proc_table.specs.Processes.{is_runnable, is_child_of, is_zombie, is_marked, is_asleep};
+ghost use Rattle.proc_table.specs.Processes.{status_of, call_of, has_pid, woken, killed};
+ghost use Rattle.proc_table.specs.Processes.{given, asleep, ended, in_call};
 
 use crate::channel::Channel;
 use xk_base::Pid;
