@@ -14,7 +14,8 @@ pub fn save_registers(regs: &Regs, ram: &mut Ram, f: Frame)
     ensures saved { saved ram.new f ≡ regs.now }
     ensures aligned { word_at ram.new f 0 % 4 ≡ 0 }
     ensures stay { OthersStay ram.old ram.new f }
-    ensures rest { (k : ℕ) → 256 ≤ k → slice_index (frame_at ram.new f) k ≡ slice_index (frame_at ram.old f) k }
+    ensures rest { (k : ℕ) → 256 ≤ k
+        → slice_index (frame_at ram.new f) k ≡ slice_index (frame_at ram.old f) k }
 {
     ram.write_u64(f, 0, regs.pc());
     for i in 1..32 {
