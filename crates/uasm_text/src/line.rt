@@ -43,7 +43,7 @@ fn alone(word: &str) -> InstructionText
 }
 
 fn upper(word: &str, rd: Reg, imm: Imm20) -> InstructionText
-    requires { length word.now ≤ 5 }
+    requires { length word.now ≤ 6 }
     ensures { result.bytes ≡ meant.line word.now (meant.register rd ∷ meant.hexadecimal imm ∷ []) }
 {
     let number = hexadecimal(u64::from(imm.bits()));
@@ -51,7 +51,7 @@ fn upper(word: &str, rd: Reg, imm: Imm20) -> InstructionText
 }
 
 fn with_registers(word: &str, rd: Reg, rs1: Reg, rs2: Reg) -> InstructionText
-    requires { length word.now ≤ 5 }
+    requires { length word.now ≤ 6 }
     ensures { result.bytes ≡ meant.line word.now (meant.register rd ∷ meant.register rs1 ∷ meant.register rs2 ∷ []) }
 {
     line(
@@ -62,7 +62,7 @@ fn with_registers(word: &str, rd: Reg, rs1: Reg, rs2: Reg) -> InstructionText
 }
 
 fn with_immediate(word: &str, rd: Reg, rs1: Reg, imm: Imm12) -> InstructionText
-    requires { length word.now ≤ 5 }
+    requires { length word.now ≤ 6 }
     ensures { result.bytes ≡ meant.line word.now (meant.register rd ∷ meant.register rs1 ∷ meant.signed_number imm ∷ []) }
 {
     let number = signed_number(imm);
@@ -74,7 +74,7 @@ fn with_immediate(word: &str, rd: Reg, rs1: Reg, imm: Imm12) -> InstructionText
 }
 
 fn with_places(word: &str, rd: Reg, rs1: Reg, places: u8) -> InstructionText
-    requires { length word.now ≤ 5 }
+    requires { length word.now ≤ 6 }
     ensures { result.bytes ≡ meant.line word.now (meant.register rd ∷ meant.register rs1 ∷ decimal_of places ∷ []) }
 {
     let number = decimal(places);
@@ -86,24 +86,23 @@ fn with_places(word: &str, rd: Reg, rs1: Reg, places: u8) -> InstructionText
 }
 
 fn with_place(word: &str, register: Reg, imm: Imm12, base: Reg) -> InstructionText
-    requires { length word.now ≤ 5 }
+    requires { length word.now ≤ 6 }
     ensures { result.bytes ≡ meant.line word.now (meant.register register ∷ meant.place imm base ∷ []) }
 {
     let place = place(imm, base);
     line(word, register_name(register), &[place.as_str()])
 }
 
-fn fence(word: &str, rd: Reg, rs1: Reg, imm: Imm12) -> InstructionText
-    requires { length word.now ≤ 5 }
-    ensures { result.bytes ≡ meant.line word.now (meant.operands [] (Fence rd rs1 imm)) }
+fn fence(rd: Reg, rs1: Reg, imm: Imm12) -> InstructionText
+    ensures { result.bytes ≡ meant.line (codes "fence") (meant.operands [] (Fence rd rs1 imm)) }
 {
     let bits = imm.bits();
     if rd.number() == 0 && rs1.number() == 0 && bits == 0x0FF {
-        return alone(word);
+        return alone("fence");
     }
     let before = accesses(bits / 16 % 16);
     let behind = accesses(bits % 16);
-    line(word, before.as_str(), &[behind.as_str()])
+    line("fence", before.as_str(), &[behind.as_str()])
 }
 
 /// The line of an instruction, with this text for the target of a branch or a jump.
@@ -135,14 +134,14 @@ pub(crate) fn text_with(target: Operand, instruction: &Instr) -> InstructionText
             ..
         } => with_places(word, rd, rs1, places.places()),
         Instr::OpW { rd, rs1, rs2, .. } => with_registers(word, rd, rs1, rs2),
-        Instr::Fence { rd, rs1, imm } => fence(word, rd, rs1, imm),
+        Instr::Fence { rd, rs1, imm } => fence(rd, rs1, imm),
         Instr::Ecall => alone(word),
         Instr::Ebreak => alone(word),
     }
 }
 
 fn jump(word: &str, rd: Reg, target: Operand) -> InstructionText
-    requires { length word.now ≤ 5 }
+    requires { length word.now ≤ 6 }
     ensures { result.bytes ≡ meant.line word.now (meant.register rd ∷ target.bytes ∷ []) }
 {
     line(word, register_name(rd), &[target.as_str()])

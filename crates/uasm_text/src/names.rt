@@ -4,8 +4,8 @@ ghost use Rattle.rv64i_core.specs.Instructions.{branch_table, load_table, store_
 ghost use Rattle.uasm_text.specs.Text as meant;
 
 use rv64i_core::{
-    BranchOp, ImmOp, LoadOp, RegOp, ShiftOp, StoreOp, WordOp, branch_rows, imm_rows, load_rows,
-    reg_rows, reg_w_rows, shift_rows, shift_w_rows, single_rows, store_rows,
+    BranchOp, ImmOp, Instr, LoadOp, RegOp, ShiftOp, StoreOp, WordOp, branch_rows, imm_rows,
+    load_rows, reg_rows, reg_w_rows, shift_rows, shift_w_rows, single_rows, store_rows,
 };
 use xk_base::Reg;
 
@@ -120,7 +120,7 @@ macro_rules! name_of_each {
 /// The name of an instruction.
 pub(crate) fn name(instruction: &Instr) -> &'static str
     ensures name { result.now ≡ meant.name instruction.now }
-    ensures short { length result.now ≤ 5 }
+    ensures short { length result.now ≤ 6 }
 {
     single_rows!([name_of_each](*instruction))
 }
