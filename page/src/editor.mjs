@@ -11,7 +11,7 @@ const UNSEEN = 30; // lines that are drawn above and below those that are seen
 const WIDER = 32; // columns: by so many the paper grows
 const MANY = 1000, HIGHER = 50; // lines: a source of so many grows by so many, so that not each Enter lays it out anew
 const MOST_LETTERS = 2000; // of a line: a text with a longer one is shown without colours, as the browser does it
-const SETTLE = 120; // ms behind the last key, until a source is assembled
+const SETTLE = 120; // ms after the last key, until a source is assembled
 const state = { file: null, lines: [""], asked: 0, mistake: null, places: null, coded: null, pc: null, rows: { from: -1, to: -1 }, seen: { top: 0, height: 400 } };
 
 const escape = (text) => text.replace(/[&<>]/g, (it) => ({ "&": "&amp;", "<": "&lt;", ">": "&gt;" })[it]);

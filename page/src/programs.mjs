@@ -19,15 +19,18 @@ function file_button(file) {
   return element("button", { role: "option", "aria-selected": is_opened ? "true" : "false", class: file.text === undefined ? "plain" : "", title: file.text === undefined ? "a program, or another file of bytes" : "a text", onclick: () => { editor.open(file); show_files(); tell("opened", file); } }, file.name + (file.changed ? " *" : ""));
 }
 
-export function show_files() {
-  const last = app.work.gone.at(-1), focused = $("files").contains(document.activeElement) ? document.activeElement.getAttribute("aria-label") : null;
+const named = (button) => button.getAttribute("aria-label") ?? button.textContent.replace(/ \*$/, "");
+
+function show_files() {
+  const last = app.work.gone.at(-1), focused = $("files").contains(document.activeElement) ? named(document.activeElement) : null;
   $("files").replaceChildren(...app.files.map(file_button),
     element("button", { title: "A new source", "aria-label": "A new source", onclick: add_source }, "+"),
     element("button", { title: "Take this file away", "aria-label": "Take this file away", onclick: remove_opened }, "−"),
     ...(last ? [element("button", { id: "bring-back", title: `Bring ${last.name} back, as it was before it was taken away or another took its place`, "aria-label": `Bring ${last.name} back`, onclick: bring_last_back }, `↶ ${last.name}`)] : []),
     element("button", { id: "save", title: "Save this file on your host", "aria-label": "Save this file", onclick: save_opened }, "Save"),
     element("button", { title: "Program files, sources, texts, or the record of a run", onclick: ask_for_files }, "Open file.."));
-  if (focused) [...$("files").children].find((it) => it.getAttribute("aria-label") === focused)?.focus();
+  // The button that had the keys has them again.
+  if (focused) [...$("files").children].find((it) => named(it) === focused)?.focus();
   const { frames, order, quantum } = app.work.machine;
   $("config-words").textContent = `${frames} frames, ${order === "rounds" ? `in rounds of ${quantum} Runs` : "as a terminal"}`;
 }

@@ -25,7 +25,7 @@ export function files_refused(files) {
 
 export const too_large = (name, bytes) => `${name} has ${bytes > 2 * MOST_BYTES ? bytes_words(bytes) : `${grouped(bytes)} bytes`}: a file has ${bytes_words(MOST_BYTES)} at most, which is ${grouped(MOST_BYTES)} bytes`;
 
-/** A refusal of the kernel to boot, in words, with its own behind them. */
+/** A refusal of the kernel to boot, in words, and then its own word. */
 export function boot_words(refusal, { frames }) {
   const [kind, cause, segment] = refusal.split(" ");
   const words = {

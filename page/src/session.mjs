@@ -8,7 +8,7 @@ import * as editor from "./editor.mjs";
 import * as lessons from "./lessons.mjs";
 import * as programs from "./programs.mjs";
 
-const SETTLE = 1000; // ms behind a change, until it is kept
+const SETTLE = 1000; // ms after a change, until it is kept
 const TABS = ["tab-programs", "tab-lessons", "tab-instruction", "tab-pages", "tab-opened", "tab-why"];
 let timer = 0, is_restored = false;
 
@@ -41,9 +41,16 @@ function show_tabs(tabs) {
   for (const it of tabs ?? []) if (TABS.includes(it)) globalThis.show_tab(it.slice(4));
 }
 
-/** Shows what was kept; false if there is nothing. */
+/** Shows what was kept; false if there is nothing, or nothing that can be read. */
 export async function restore() {
   const told = kept_here("now") ?? kept("now");
+  try { return await restored(told); } catch {
+    say("What the browser kept of the last time can't be read. Your sources stand in the list of examples.");
+    return false;
+  }
+}
+
+async function restored(told) {
   if (!told || !programs.open_work(told.work, undefined, told.file)) return false;
   if ([...$("speed").options].some((it) => it.value === told.speed)) { $("speed").value = told.speed; ask("settings", { speed: Number(told.speed) }); }
   show_tabs(told.tabs);

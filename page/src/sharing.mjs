@@ -13,12 +13,14 @@ const MOST_STRETCHES = 1000000;
 
 // ---- the run that the page has, as a value that can be kept
 
-const events = { key: "", text: "" };
-/** The events of the record as a text: made anew only if there are others. */
+const events = { key: "", text: "", open: [], place: 0 }; // what was told of a record: its text, the span that may go on, and how many stretches these are
+/** The events of the record as a text. What was told of it before is not looked at again: a long record has millions. */
 function events_now() {
-  const { booted, view, line } = app, key = `${booted.id} ${view.edits} ${line.end}`;
-  if (events.key !== key) Object.assign(events, { key, text: text_of(line.spans()) });
-  return events.text;
+  const { booted, view, line } = app, key = `${booted.id} ${view.edits}`, settled = Math.max(0, line.length - 1);
+  if (events.key !== key || events.place > settled) Object.assign(events, { key, text: "", open: [], place: 0 });
+  const spans = line.spans(events.place, settled, events.open), open = spans.splice(-1);
+  Object.assign(events, { text: events.text + text_of(spans), open, place: settled });
+  return events.text + text_of(line.spans(settled, line.length, structuredClone(open)));
 }
 
 /** The run of the machine, up to where its record goes: its files, settings and events, and the place; null if there is none, or it is too long. `is_whole`: with all its files, also those of the list. */

@@ -17,7 +17,7 @@ export function nearest(lines, text, line, from = 1, to = lines.length + 1) {
 }
 
 /**
- * The break points of a source behind an edit. One in a line that stays moves with it. In the part that was edited it goes to the line
+ * The break points of a source after an edit. One in a line that stays moves with it. In the part that was edited it goes to the line
  * that has its text; or it stays in its line, if the part has as many lines as before; or it is gone with its line.
  */
 export function moved(stops, before, after) {

@@ -22,7 +22,7 @@ let next_whole = 0;
 let stopped = "";
 let made = new Made();
 let faults = [];
-let futures = []; // what keys that were typed in the past have cut off, the last one behind: {at, spans}
+let futures = []; // what keys that were typed in the past have cut off, in their order: {at, end, spans}
 let ended = null; // the last process as it ended, if none lives: what was told of it last
 
 // ---- the view that is sent to the page
@@ -399,7 +399,7 @@ function cut_off() {
   plan.find();
 }
 
-/** Sends the events of spans behind the first ones, so many. */
+/** Sends the events of spans, but for so many at their beginning. */
 function send_again(spans, skipped = 0) {
   let skip = skipped;
   for (const [event, byte, count] of spans) {

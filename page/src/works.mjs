@@ -5,7 +5,7 @@ import { forget, keep, kept, names_kept, on_other_tab } from "./kept.mjs";
 
 const DATA = globalThis.PAGE_DATA;
 const MOST_GONE = 12; // files that were taken away, and may be brought back
-const SETTLE = 300; // ms behind the last change, until it is kept
+const SETTLE = 300; // ms after the last change, until it is kept
 const opened = new Map(); // the works that were opened since the page began, by their names
 
 export const bytes_of_file = (file) => file.bytes || (file.bytes = base64.of(file.base64));

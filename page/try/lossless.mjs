@@ -109,6 +109,15 @@ async function chosen_ended(page) {
   holds(who.startsWith("2 (init), as it ended") && (await text_of(page, "registers")).includes("77"), `a process that was chosen and has ended: ${who}`);
 }
 
+async function bad_storage(page) {
+  await example(page, "hello");
+  await page.sleep(1600);
+  await page.eval("(() => { Storage.prototype.setItem = () => {}; for (const it of [localStorage, sessionStorage]) for (const name of Object.keys(it)) if (name.endsWith(' now')) Object.getPrototypeOf(it).removeItem.call(it, name); })()");
+  await page.eval("(() => { const frame = document.createElement('iframe'); document.body.append(frame); const put = frame.contentWindow.Storage.prototype.setItem; for (const it of [localStorage, sessionStorage]) put.call(it, 'nektavoly now', JSON.stringify({ work: 'hello', run: { built: page.app.booted && PAGE_DATA.built, files: 7, events: 5 } })); })()");
+  await page.go(`${url}?${Math.random()}`);
+  holds(await comes(page, "document.getElementById('screen').textContent.includes('$ ')"), "storage that can't be read doesn't keep the page from its shell");
+}
+
 async function saved(page) {
   await example(page, "hello");
   await page.eval("window.saved = []; HTMLAnchorElement.prototype.click = function () { fetch(this.href).then((it) => it.text()).then((text) => window.saved.push([this.download, text])); }");
@@ -385,15 +394,27 @@ async function contrast(page) {
   await example(page, "hang");
   await boot(page);
   await page.sleep(800);
+  await page.eval("open_lesson(2)");
+  await page.sleep(900);
+  for (const [k, given] of [[0, "1"], [1, "9"]]) {
+    await page.eval(`(() => { const it = document.querySelectorAll('#lessons .ask')[${k}]; it.querySelector('input').value = '${given}'; it.querySelector('button.main').click(); })()`);
+    await comes(page, `/^(Right|Not so)/.test(document.querySelectorAll('#lessons .ask')[${k}].querySelector('[role=status]').textContent)`);
+  }
+  await edit(page, "ecall", "beqz a0, again");
+  await page.sleep(600);
   for (const theme of ["light", "dark"]) {
     await page.eval(`if (document.documentElement.dataset.theme !== '${theme}') document.getElementById('theme').click()`);
     const faint = new Set();
     for (const tab of ["instruction", "pages", "opened", "why", "lessons", "programs"]) { await page.eval(`show_tab('${tab}')`); await page.sleep(300); for (const it of await page.eval(FAINT)) faint.add(it); }
+    await page.click("#share");
+    await page.sleep(400);
+    for (const it of await page.eval(FAINT)) faint.add(it);
+    await page.eval("document.getElementById('dialog').close()");
     holds(faint.size === 0, `${theme}: dim text has a contrast of 4.5 at least${[...faint].map((it) => `\n      ${it}`).join("")}`);
   }
 }
 
-const CHECKS = { work, two_tabs, run_kept, run_before, saved, lesson, ended, chosen_ended, only_this_boot, large, bytes, stops, share, deadlock, refusals, keys, rest, contrast, no_storage };
+const CHECKS = { work, two_tabs, run_kept, run_before, bad_storage, saved, lesson, ended, chosen_ended, only_this_boot, large, bytes, stops, share, deadlock, refusals, keys, rest, contrast, no_storage };
 for (const [name, check] of Object.entries(CHECKS)) {
   if (names.length && !names.includes(name)) continue;
   const page = await open(url, { width: 1400, height: 950 });
