@@ -109,14 +109,15 @@ def packed(value):
 
 
 page = text(os.path.join(here, "page.html"))
+sum_ = sources.sum_of(root, "--page")
 data = {
     "wasm": base64.b64encode(read(module)).decode(),
     "worker": joined("worker.mjs"),
     "programs": {name: base64.b64encode(read(f"{root}/programs/bin/{name}")).decode() for name in PROGRAMS},
     "examples": examples(),
     "help": helps(),
+    "built": sum_[:16],
 }
-sum_ = sources.sum_of(root, "--page")
 sum_of_module = "unproved" if note else sources.sum_of(root, "--module")
 parts = {
     "/*STYLE*/": text(os.path.join(here, "style.css")),

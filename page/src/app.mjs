@@ -10,10 +10,11 @@ export const app = {
   names: new Map(), // the program that each process of the run ran last, by its place among the files
   text: new Uint8Array(0), // the bytes that the console has shown
   faults: [], // the faults of the run
-  files: [], // {name, text} or {name, bytes}
-  booted: null, // {files: [{name, bytes, text}], config}, of the machine that runs
+  work: { name: "", files: [], gone: [], breaks: [] }, // the work that is open (works.mjs)
+  get files() { return this.work.files; }, // {name, text} or {name, bytes}
+  booted: null, // {files: [{name, bytes, text, from}], config, how, symbols}, of the machine that runs
   chosen: 0, // the process that is looked at; 0: the one that runs
-  symbols: [], // for each file of the machine, its names of places
+  get symbols() { return this.booted?.symbols ?? []; }, // for each file of the machine, its names of places
 };
 
 const listeners = new Map();
@@ -23,6 +24,16 @@ export function on(what, call) {
 }
 export function tell(what, it) {
   for (const call of listeners.get(what) || []) call(it);
+}
+/** The first of these that is told, as {name, it}. */
+export function once(...names) {
+  return new Promise((done) => {
+    for (const name of names) {
+      const call = (it) => { for (const other of names) listeners.set(other, listeners.get(other).filter((it) => it.promise !== done)); done({ name, it }); };
+      call.promise = done;
+      on(name, call);
+    }
+  });
 }
 export function ask(what, it = {}) {
   app.worker.postMessage({ do: what, ...it });

@@ -1,10 +1,18 @@
 // The editor of a source: lines with numbers, words coloured, the refused line marked, the line of the pc, and break points
-// beside the lines.
-import { $, app, ask, element, on, say, tell } from "./app.mjs";
+// beside the lines. Only the lines that are seen are coloured and numbered, so a key costs the same in a long source.
+import { $, app, ask, on, say, tell } from "./app.mjs";
 import { line_at, places_of } from "./symbols.mjs";
-import { hint_of } from "./words.mjs";
+import { is_elf, is_source } from "./kinds.mjs";
+import { mistake_words } from "./refused.mjs";
+import { moved } from "./stops.mjs";
 
-const state = { file: null, asked: 0, mistake: null, places: null, pc: null, breaks: [], stops: new Set() };
+const LINE = 18, ABOVE = 8; // pixels: the height of a line, and what is free above the first (style.css has both)
+const UNSEEN = 30; // lines that are drawn above and below those that are seen
+const WIDER = 32; // columns: by so many the paper grows
+const MANY = 1000, HIGHER = 50; // lines: a source of so many grows by so many, so that not each Enter lays it out anew
+const MOST_LETTERS = 2000; // of a line: a text with a longer one is shown without colours, as the browser does it
+const SETTLE = 120; // ms after the last key, until a source is assembled
+const state = { file: null, lines: [""], asked: 0, mistake: null, places: null, coded: null, pc: null, rows: { from: -1, to: -1 }, seen: { top: 0, height: 400 } };
 
 const escape = (text) => text.replace(/[&<>]/g, (it) => ({ "&": "&amp;", "<": "&lt;", ">": "&gt;" })[it]);
 const REGISTER = /\b(x[12]?\d|x3[01]|zero|ra|sp|gp|tp|t[0-6]|s\d|s1[01]|fp|a[0-7])\b|(-?\b(?:0x[0-9a-fA-F]+|\d+)\b)|("(?:[^"\\]|\\.)*"?)/g;
@@ -43,31 +51,87 @@ export function coloured(line) {
   return made + escape(rest.slice(last)) + (comment ? `<span class="c">${escape(comment)}</span>` : "");
 }
 
+const stops_of = (file) => file?.stops ?? [];
+
+/** How many columns of letters a line takes, at least: those that aren't ASCII may be wide. */
+const columns_of = (line) => (/^[ -~]*$/.test(line) ? line.length : [...line].reduce((sum, it) => sum + (it === "\t" ? 4 : it > "~" ? 2 : 1), 0));
+
+/** Gives the paper its size: that of all lines. */
+function measure() {
+  let longest = "";
+  for (const line of state.lines) if (line.length > longest.length) longest = line;
+  const { style } = $("editor").querySelector(".paper"), is_plain = longest.length > MOST_LETTERS;
+    const columns = Math.ceil((is_plain ? longest.length : columns_of(longest)) / WIDER) * WIDER;
+  const { length } = state.lines, lines = length < MANY ? length : Math.ceil(length / HIGHER) * HIGHER;
+  const height = `${2 * ABOVE + LINE * lines}px`, width = `calc(${columns}ch + ${2 * ABOVE + 2}px)`;
+  // (The browser lays out a long text anew for each size that it is given.)
+  if (state.size === height + width) return;
+  state.size = height + width;
+  $("editor").classList.toggle("is-plain", is_plain);
+  Object.assign(style, { height, minWidth: width });
+}
+
+/** Whether a line may have a break point. Which lines have instructions is known once the source is assembled: until then it is left open. */
+const may_stop = (line) => is_source(state.file) && !state.mistake && (state.coded === null || state.coded.has(line));
+
+const row_class = (line) => `row${line === state.pc ? " pc" : ""}${line === state.mistake?.line ? " bad" : ""}`;
+
+function number_of(line, stops) {
+  const name = [line === state.pc ? "pc" : "", line === state.mistake?.line ? "bad" : "", may_stop(line) ? "" : "no", stops.has(line) ? "stop" : ""].join(" ");
+  return `<div class="${name}" data-line="${line}">${line}</div>`;
+}
+
+/** The lines that are seen, by what the browser told last: to ask it would lay out the text. */
+function lines_seen() {
+  const { top, height } = state.seen;
+  return { first: Math.floor((top - ABOVE) / LINE), last: Math.ceil((top + height) / LINE) };
+}
+
+/** Draws the lines that are seen, and some above and below. */
 function draw() {
-  const { file } = state, is_source = file && file.text !== undefined && file.name.endsWith(".s");
-  const lines = $("source").value.split("\n"), bad = state.mistake ? state.mistake.line : 0;
-  $("editor").querySelector(".ink").innerHTML = lines.map((it, k) => `<span class="row${k + 1 === state.pc ? " pc" : ""}${k + 1 === bad ? " bad" : ""}">${(is_source ? coloured(it) : escape(it)) || " "}</span>`).join("");
-  const gutter = $("editor").querySelector(".gutter");
-  // Which lines have instructions is known once the source is assembled. Until then it is left open.
-  const coded = state.places && new Set(state.places.lines.map((it) => it.line)), may_stop = (line) => is_source && !state.mistake && (coded === null || coded.has(line));
-  gutter.replaceChildren(...lines.map((_, k) => element("div", { class: [k + 1 === state.pc ? "pc" : "", k + 1 === bad ? "bad" : "", may_stop(k + 1) ? "" : "no", state.stops.has(k + 1) ? "stop" : ""].join(" ") }, String(k + 1))));
-  $("source").style.height = "100%";
+  const box = $("editor"), { lines, file } = state, is_plain = box.classList.contains("is-plain"), stops = new Set(stops_of(file).map((it) => it.line));
+  const { first, last } = lines_seen(), from = Math.max(0, first - UNSEEN), to = Math.min(lines.length, last + UNSEEN);
+  const ink = box.querySelector(".ink"), gutter = box.querySelector(".gutter"), numbers = [];
+  const shown = is_source(file) ? coloured : escape;
+  let rows = "";
+  for (let k = from; k < to; k++) {
+    if (!is_plain) rows += `<span class="${row_class(k + 1)}">${shown(lines[k]) || " "}</span>`;
+    numbers.push(number_of(k + 1, stops));
+  }
+  state.rows = { from, to };
+  ink.innerHTML = rows;
+  gutter.innerHTML = numbers.join("");
+  for (const it of [ink, gutter]) it.style.paddingTop = `${ABOVE + LINE * from}px`;
+}
+
+/** Draws what has come into sight. */
+function scrolled() {
+  const box = $("editor"), { from, to } = state.rows;
+  state.seen = { top: box.scrollTop, height: box.clientHeight || state.seen.height };
+  const { first, last } = lines_seen();
+  if ((first < from && from > 0) || (last > to && to < state.lines.length)) draw();
 }
 
 /** Marks the line of the pc, and no other. */
 function mark(pc) {
   for (const of of [".ink", ".gutter"]) {
-    const lines = $("editor").querySelector(of).children;
-    lines[state.pc - 1]?.classList.remove("pc");
-    lines[pc - 1]?.classList.add("pc");
+    const lines = $("editor").querySelector(of).children, { from } = state.rows;
+    lines[state.pc - 1 - from]?.classList.remove("pc");
+    lines[pc - 1 - from]?.classList.add("pc");
   }
   state.pc = pc;
 }
 
+/** Scrolls to a line, if it isn't seen. */
+function reveal(line) {
+  const box = $("editor"), top = ABOVE + LINE * (line - 1);
+  if (top < box.scrollTop || top > box.scrollTop + box.clientHeight - 2 * LINE) box.scrollTop = top - box.clientHeight / 2;
+}
+
 function assemble() {
   const { file } = state;
+  if (!is_source(file)) { state.mistake = null; said("", ""); return; }
   state.asked++;
-  if (!file || !file.name.endsWith(".s")) { state.mistake = null; said("", ""); return; }
   ask("assemble", { text: file.text, id: state.asked });
 }
 
@@ -77,96 +141,119 @@ function said(text, kind) {
   it.className = kind;
 }
 
+/** Takes where the lines of the source lie; null while that isn't known. */
+function take_places(places) {
+  state.places = places;
+  state.coded = places && new Set(places.lines.map((it) => it.line));
+}
+
+// ---- break points at lines: each stands with its file, and goes with the text of its line
+
 /** Sets a break point at a line, or takes it away; false if the line has no instruction, or the source isn't assembled. */
 function toggle_break(line) {
-  const found = state.places?.lines.find((it) => it.line === line);
-  if (found) tell("toggle break", { line, address: found.start, file: state.file });
-  return !!found;
+  const { file, lines } = state, stops = stops_of(file);
+  const is_there = stops.some((it) => it.line === line);
+  if (!is_there && !state.coded?.has(line)) return false;
+  file.stops = is_there ? stops.filter((it) => it.line !== line) : [...stops, { line, text: lines[line - 1].trim() }];
+  tell("stops", file);
+  return true;
 }
 
 function break_at_caret() {
   const source = $("source"), line = source.value.slice(0, source.selectionStart).split("\n").length;
   if (!toggle_break(line)) say(state.places ? `Line ${line} has no instruction, so no break point` : "The source isn't assembled, so it has no break point");
-  else say(state.stops.has(line) ? `A break point at line ${line}` : `No break point at line ${line} any more`);
+  else say(stops_of(state.file).some((it) => it.line === line) ? `A break point at line ${line}` : `No break point at line ${line} any more`);
 }
 
-function find_stops() {
-  state.stops = new Set(state.breaks.filter((it) => it.file && it.file === state.file).map((it) => it.line));
-}
+// ---- a file
+
+const words_of_bytes = ({ name, bytes }) => (is_elf(bytes) ? `${name}: a program file of ${bytes.length} bytes, built from C.\n\nIts instructions and functions are shown at the right when it runs.` : `${name}: a file of ${bytes.length} bytes, which are no text.\n\nPrograms open it and read its bytes.`);
 
 /** Shows a file. */
 export function open(file) {
   state.file = file;
-  find_stops();
   state.mistake = null;
-  const is_text = file && file.text !== undefined;
-  $("source").value = is_text ? file.text : file ? `${file.name}: a program file of ${file.bytes.length} bytes, built from C.\n\nIts instructions and functions are shown at the right when it runs.` : "";
-  $("source").readOnly = !is_text;
+  const is_text = file && file.text !== undefined, source = $("source");
+  source.value = is_text ? file.text : file ? words_of_bytes(file) : "";
+  source.readOnly = !is_text;
+  state.ends = is_text && file.text.includes("\r\n") ? "\r\n" : "\n";
+  state.lines = source.value.split("\n");
   $("editor").classList.toggle("is-binary", !is_text);
-  state.places = null;
   state.pc = null;
+  take_places(null);
+  measure();
+  $("editor").scrollTop = $("editor").scrollLeft = state.seen.top = 0;
   draw();
+  clearTimeout(state.timer);
   assemble();
 }
 export const opened = () => state.file;
 
-/** Marks the line at which the process stands that is looked at, if this file is its program. */
-function follow_pc() {
-  const { view, booted } = app;
-  let pc = null;
-  if (view?.registers && booted && state.file && state.places) {
-    const process = view.processes.find((it) => it.pid === view.pid), running = process && booted.files[process.program];
-    if (running && running.from === state.file && running.text === state.file.text) {
-      pc = line_at(state.places, view.registers[0])?.line ?? null;
-    }
-  }
-  if (pc === state.pc || (view.playing && pc === null)) return;
+/** Takes what was typed: the file's text, and where its break points stand now. */
+function edited() {
+  const { file, lines: before } = state, source = $("source");
+  if (!file || file.text === undefined) return;
+  const { value } = source, is_first = !file.changed;
+  state.lines = value.split("\n");
+  file.text = state.ends === "\n" ? value : value.replace(/\n/g, state.ends);
+  file.changed = true;
+  state.pc = null;
+  state.mistake = null;
+  state.asked++;
+  const stops = stops_of(file);
+  if (stops.length) file.stops = moved(stops, before, state.lines);
+  measure();
+  draw();
+  tell("edited", file);
+  if (is_first) tell("marked", file);
+  clearTimeout(state.timer);
+  state.timer = setTimeout(() => {
+    if (state.file !== file) return;
+    if (stops.length) tell("stops", file);
+    assemble();
+  }, SETTLE);
+}
+
+/** Shows what came of assembling the source. */
+function told(it) {
+  if (it.id !== state.asked) return;
+  state.mistake = it.file ? null : it;
+  take_places(it.file ? places_of(state.file.text, it) : null);
+  if (it.file) said(`assembles: ${it.file.length} bytes`, "good");
+  else said(mistake_words(it, state.file.text ?? ""), "bad");
+  draw();
+  show_pc();
+}
+
+/** The line of the source at which the process stands that is looked at; null if it runs another one. */
+function line_of_pc() {
+  const { view, booted } = app, { file, places } = state;
+  if (!view?.registers || !booted || !file || !places) return null;
+  const place = view.ended ? view.ended.program : view.processes.find((it) => it.pid === view.pid)?.program, running = booted.files[place];
+  if (!running || running.from !== file || running.text !== file.text) return null;
+  return line_at(places, view.registers[0])?.line ?? null;
+}
+
+function show_pc() {
+  const pc = line_of_pc(), { view } = app;
+  if (pc === state.pc || (view?.playing && pc === null)) return;
   mark(pc);
-  if (pc !== null && !view.playing) {
-    const row = $("editor").querySelectorAll(".ink .row")[pc - 1], box = $("editor");
-    if (row && (row.offsetTop < box.scrollTop || row.offsetTop > box.scrollTop + box.clientHeight - 40)) box.scrollTop = row.offsetTop - box.clientHeight / 2;
-  }
+  if (pc !== null && !view.playing) reveal(pc);
 }
 
 export function start() {
-  const source = $("source");
-  source.addEventListener("input", () => {
-    if (!state.file || state.file.text === undefined) return;
-    state.file.text = source.value;
-    state.file.changed = true;
-    // What was asked before is of another text.
-    state.asked++;
-    state.places = null;
-    state.pc = null;
-    draw();
-    tell("edited", state.file);
-    clearTimeout(state.timer);
-    state.timer = setTimeout(assemble, 120);
-  });
+  const source = $("source"), box = $("editor");
+  source.addEventListener("input", edited);
   source.addEventListener("keydown", (event) => {
     if (event.key === "Enter" && (event.ctrlKey || event.metaKey)) { event.preventDefault(); $("boot").click(); }
     if (event.key === "Escape") $("boot").focus();
     if (event.key === "F9") { event.preventDefault(); break_at_caret(); }
   });
-  $("editor").querySelector(".gutter").addEventListener("click", (event) => {
-    toggle_break([...event.currentTarget.children].indexOf(event.target) + 1);
-  });
-  on("assembled", (it) => {
-    if (it.id !== state.asked) return;
-    state.mistake = it.file ? null : it;
-    state.places = it.file ? places_of(state.file.text, it) : null;
-    if (it.file) said(`assembles: ${it.file.length} bytes`, "good");
-    else {
-      const line = (state.file.text || "").split("\n")[it.line - 1] || "";
-      said(`line ${it.line}: ${it.kind}: ${hint_of(it.kind, line)}`, "bad");
-    }
-    draw();
-    follow_pc();
-  });
-  on("panels", follow_pc);
-  on("breaks", (list) => {
-    state.breaks = list;
-    find_stops();
-    draw();
-  });
+  box.addEventListener("scroll", scrolled, { passive: true });
+  box.querySelector(".gutter").addEventListener("click", ({ target }) => { if (target.dataset.line) toggle_break(Number(target.dataset.line)); });
+  on("assembled", told);
+  on("panels", show_pc);
+  on("booted", () => mark(null));
+  on("stops", (file) => { if (file === state.file) draw(); });
+  new ResizeObserver(scrolled).observe(box);
 }

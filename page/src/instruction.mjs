@@ -1,14 +1,33 @@
 // The instruction that is next, with those round it, the registers, and memory.
-import { $, app, ask, element, on, program_name, write } from "./app.mjs";
+import { $, app, ask, element, grouped, on, program_name, write } from "./app.mjs";
 import { line_at, name_at } from "./symbols.mjs";
 import { known_call } from "./calls.mjs";
 import { REGISTERS, hex, number } from "./words.mjs";
 
 let before = null, changed = new Set(), as = "bytes";
 
-function symbols_of(pid) {
-  const process = app.view.processes.find((it) => it.pid === pid);
-  return process ? app.symbols[process.program] : null;
+/** The program that a process runs, or ran as it ended. */
+function program_of(pid) {
+  const { ended, processes } = app.view;
+  return ended ? ended.program : processes.find((it) => it.pid === pid)?.program;
+}
+const symbols_of = (pid) => app.symbols[program_of(pid)] ?? null;
+
+/** Which process is shown, and whether it has ended. */
+function who() {
+  const { pid, ended } = app.view;
+  if (!pid) return "";
+  const name = `${pid} (${program_name(program_of(pid))})`;
+  return ended ? `${name}, as it ended at event ${grouped(ended.at)}${ended.is_fault ? ", by a fault" : ` with ${ended.number}`}` : name;
+}
+
+/** Shows nothing: there is no process, or another machine. */
+function clear() {
+  code_rows = [];
+  cells = [];
+  before = null;
+  scrolled = memory_told = "";
+  for (const it of ["code", "registers", "memory"]) $(it).replaceChildren();
 }
 
 /** The row of an instruction, and above it the name of what begins there. */
@@ -112,14 +131,15 @@ function meant(text) {
 
 export function start() {
   on("panels", () => {
-    const { view } = app, process = view.processes.find((it) => it.pid === view.pid);
-    for (const it of document.querySelectorAll(".who")) write(it, process ? `${view.pid} (${program_name(process.program)})` : "");
-    if ($("instruction").hidden || !view.registers) return;
+    const { view } = app;
+    for (const it of document.querySelectorAll(".who")) write(it, who());
+    if ($("instruction").hidden) return;
+    if (!view.registers) { clear(); return; }
     if (view.code) draw_code();
     draw_registers();
     draw_memory();
   });
-  on("boot", () => { before = null; });
+  on("booted", clear);
   on("resized", () => { is_narrow = null; });
   $("address").addEventListener("change", () => {
     const at = meant($("address").value);

@@ -17,6 +17,7 @@ const MISTAKES = ["", "Memory", "UnknownWord", "BadOperand", "OutOfRange", "Dupl
 const ROOM = 65536;
 const ECHO = 384n;
 const FILE = 1048576 + 65536;
+const TYPED = 128; // bytes that the console holds of what was typed
 
 /** A refusal to boot, as `xv_page_boot` tells it, in xv_run's words; null where there is a machine. */
 export function boot_refusal({ kind, cause, place }) {
@@ -91,9 +92,22 @@ export class Machine {
     this.view();
   }
 
-  /** Boots a machine; files: [{name, bytes}]. Answers null, or why there is none. */
-  boot({ frames, trace }, files) {
-    this.fresh();
+  /** Boots a machine; files: [{name, bytes}]. Answers null, or why there is none: then the machine before stays. */
+  boot(config, files) {
+    const { calls, bytes, data, session, programs, told, room, at, room_at } = this;
+    const put_back = () => Object.assign(this, { calls, bytes, data, session, programs, told, room, at, room_at });
+    try {
+      this.fresh();
+      const refusal = this.boot_fresh(config, files);
+      if (refusal !== null) put_back();
+      return refusal;
+    } catch (error) {
+      put_back();
+      throw error;
+    }
+  }
+
+  boot_fresh({ frames, trace }, files) {
     for (const { name, bytes } of files) {
       const words = this.put(new TextEncoder().encode(name)), file = this.put(bytes);
       const length = BigInt(new TextEncoder().encode(name).length);
@@ -247,6 +261,11 @@ export class Machine {
   }
   pipe_bytes(frame) { return this.listed((place) => this.calls.xv_page_pipe_byte(this.session, whole(frame), place, this.told)); }
   console(list) { return this.listed((place) => this.calls.xv_page_console(this.session, whole(list), place, this.told)); }
+  /** Whether the console has room for one more key: 128 bytes that were typed may be held. */
+  has_room_for_key() {
+    const held = (list) => { let count = 0; while (count < TYPED && this.word(this.calls.xv_page_console(this.session, list, BigInt(count), this.told)) !== null) count++; return count; };
+    return held(0) + held(1) < TYPED;
+  }
   /** Whether a byte waits to be sent. */
   has_output() { return this.word(this.calls.xv_page_console(this.session, 2, 0n, this.told)) !== null; }
 

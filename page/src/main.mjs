@@ -1,17 +1,21 @@
 // The page: begins the worker and the panels, and hands what the worker tells to them.
-import { $, app, ask, element, hush, on, say, set_theme, tell } from "./app.mjs";
+import { $, app, ask, element, hush, on, set_theme, tell } from "./app.mjs";
 import { learn_calls } from "./calls.mjs";
 import { Listed } from "./listed.mjs";
 import * as terminal from "./terminal.mjs";
 import * as editor from "./editor.mjs";
+import * as works from "./works.mjs";
 import * as programs from "./programs.mjs";
+import * as sharing from "./sharing.mjs";
 import * as time from "./time.mjs";
+import * as breaks from "./breaks.mjs";
 import * as processes from "./processes.mjs";
 import * as instruction from "./instruction.mjs";
 import * as pages from "./pages.mjs";
 import * as opened from "./opened.mjs";
 import * as why from "./why.mjs";
 import * as lessons from "./lessons.mjs";
+import * as session from "./session.mjs";
 import { base64 } from "./app.mjs";
 
 const DATA = globalThis.PAGE_DATA;
@@ -56,6 +60,8 @@ function take_view(view) {
   const draw = () => {
     if (!waits) return;
     waits = false;
+    // Behind a boot there is nothing to draw, until its machine is told.
+    if (!app.view) return;
     drawn++;
     tell("view");
     if (is_whole) tell("panels");
@@ -64,16 +70,25 @@ function take_view(view) {
   if (document.hidden) setTimeout(draw, 100); else requestAnimationFrame(draw);
 }
 
+/** Another machine: nothing of the one before is drawn any more. */
+function take_boot({ id, took }) {
+  app.booted = { ...programs.booting(id), id, took };
+  Object.assign(app, { view: null, line: new Listed(), names: new Map(), text: text_room.subarray(0, 0), faults: [], chosen: 0 });
+  tell("booted");
+  look();
+}
+
 function heard({ data }) {
   if (data.view) take_view(data.view);
-  else if (data.booted) { app.booted = { ...app.booting, took: data.booted.took }; programs.show_files(); tell("booted"); }
-  else if (data.refusal) { $("mistake").textContent = `boot: ${data.refusal}`; $("mistake").className = "bad"; say(`boot: ${data.refusal}`); tell("refused", data.refusal); }
+  else if (data.booted) take_boot(data.booted);
+  else if (data.refused) programs.refused(data.refused);
+  else if (data.replayed) tell("replayed", data.replayed);
   else if (data.assembled) tell("assembled", data.assembled);
   else if (data.record) app.on_record?.(data.record);
   else if (data.finished) requestAnimationFrame(() => requestAnimationFrame(() => tell("finished")));
   else if (data.bench) tell("bench", data.bench);
   else if (data.back_bench) tell("back_bench", data.back_bench);
-  else if (data.error) { say(data.message); $("mistake").textContent = data.message; $("mistake").className = "bad"; console.error(data.error); }
+  else if (data.error) { programs.refuse(data.message); console.error(data.error); }
   else if (data.ready) { learn_calls(data.ready); tell("ready"); }
 }
 
@@ -87,6 +102,7 @@ export function show_tab(tab) {
     $(it.getAttribute("aria-controls")).hidden = !chosen;
   }
   look();
+  tell("tab");
 }
 globalThis.show_tab = (name) => show_tab($("tab-" + name));
 
@@ -131,27 +147,33 @@ function theme() {
   });
 }
 
+/** What is scrolled to doesn't stand below the bar that stays at the top. */
+function keep_clear() {
+  const bar = $("time"), root = document.documentElement;
+  new ResizeObserver(() => { root.style.scrollPaddingTop = getComputedStyle(bar).position === "sticky" ? `${bar.offsetHeight + 6}px` : "6px"; }).observe(bar);
+}
+
 function begin() {
   const began = performance.now();
   theme();
   app.worker = new Worker(URL.createObjectURL(new Blob([DATA.worker], { type: "text/javascript" })));
   app.worker.onmessage = heard;
-  app.worker.onerror = (event) => { say(event.message); console.error(event.message); };
-  for (const part of [terminal, editor, time, processes, instruction, pages, opened, why, programs, lessons]) part.start();
+  app.worker.onerror = (event) => { programs.refuse(event.message); console.error(event.message); };
+  for (const part of [terminal, editor, works, time, breaks, processes, instruction, pages, opened, why, programs, sharing, lessons, session]) part.start();
   tabs();
   help();
+  keep_clear();
   on("ready", async () => {
     look();
-    if (!(await programs.follow(location.hash, "Here is the shell in its place."))) programs.choose("shell");
-    await programs.boot();
+    if (!(await sharing.follow(location.hash, "Here is what you had, or the shell, in its place.")) && !(await session.restore())) { programs.choose("shell"); await programs.boot(); }
     if (!matchMedia("(max-width: 820px)").matches) $("screen").focus({ preventScroll: true });
   });
-  addEventListener("hashchange", async () => { if (await programs.follow(location.hash, "The programs stay as they are.")) programs.boot(); });
+  addEventListener("hashchange", () => sharing.follow(location.hash, "The programs stay as they are."));
   for (const action of ["keydown", "pointerdown"]) addEventListener(action, hush, true);
   on("taken", () => show_tab($("tab-programs")));
   on("resized", redraw);
   ask("module", { bytes: base64.of(DATA.wasm) });
   on("view", () => { if (!globalThis.ready) { globalThis.ready = true; globalThis.took = { page: began, boot: app.booted?.took, shown: performance.now() }; } });
-  globalThis.page = { app, ask, on, time, programs, drawn: () => drawn };
+  globalThis.page = { app, ask, on, time, programs, sharing, works, drawn: () => drawn };
 }
 begin();

@@ -40,4 +40,5 @@ function draw() {
 
 export function start() {
   on("panels", () => { if (!$("opened").hidden) draw(); });
+  on("booted", () => { drawn = ""; $("opened-told").replaceChildren(); });
 }

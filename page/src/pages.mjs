@@ -1,5 +1,5 @@
 // The page table of a process, three levels as a tree (RISC-V Privileged ISA, "Sv39"), and the map of all frames of RAM.
-import { $, app, ask, color_of, element, fresh, on, style_of } from "./app.mjs";
+import { $, app, ask, color_of, element, fresh, on, style_of, write } from "./app.mjs";
 import { USES, hex } from "./words.mjs";
 
 const RAM = 0x80000000n, PAGE = 4096;
@@ -116,25 +116,30 @@ function tell_point() {
   $("frame-told").textContent = `frame ${frame} at ${address_of(frame)}: ${what}${changed.has(frame) ? "; the last step changed it" : ""}`;
 }
 
+/** Takes a view: what changed since the last one is marked. */
+function show() {
+  const { view } = app;
+  if ($("pages").hidden || !view.frames) return;
+  write($("frames-of"), view.ended ? `Frames of RAM, as process ${view.pid} ended` : "Frames of RAM");
+  if (!view.pages) $("table").replaceChildren();
+  const now = view.frames, key = `${view.at} ${view.edits}`;
+  if (before && before.key !== key && before.frames.count === now.count) {
+    changed = new Set();
+    for (let frame = 0; frame < now.count; frame++) if (now.kinds[frame] !== before.frames.kinds[frame] || now.pids[frame] !== before.frames.pids[frame] || now.places[frame] !== before.frames.places[frame]) changed.add(frame);
+  }
+  if (view.pages) {
+    const pages = new Map(view.pages.found.map((it) => [it.page, `${it.rights} ${it.frame}`]));
+    if (last_pages && last_pages.pid === view.pid && last_pages.key !== key) new_pages = new Set([...pages].filter(([page, told]) => last_pages.pages.get(page) !== told).map(([page]) => page));
+    else if (last_pages && last_pages.pid !== view.pid) new_pages = new Set();
+    last_pages = { pid: view.pid, key, pages };
+    draw_table();
+  }
+  before = { key, frames: now };
+  draw_map();
+}
+
 export function start() {
-  on("panels", () => {
-    const { view } = app;
-    if ($("pages").hidden || !view.frames) return;
-    const now = view.frames, key = `${view.at} ${view.edits}`;
-    if (before && before.key !== key && before.frames.count === now.count) {
-      changed = new Set();
-      for (let frame = 0; frame < now.count; frame++) if (now.kinds[frame] !== before.frames.kinds[frame] || now.pids[frame] !== before.frames.pids[frame] || now.places[frame] !== before.frames.places[frame]) changed.add(frame);
-    }
-    if (view.pages) {
-      const pages = new Map(view.pages.found.map((it) => [it.page, `${it.rights} ${it.frame}`]));
-      if (last_pages && last_pages.pid === view.pid && last_pages.key !== key) new_pages = new Set([...pages].filter(([page, told]) => last_pages.pages.get(page) !== told).map(([page]) => page));
-      else if (last_pages && last_pages.pid !== view.pid) new_pages = new Set();
-      last_pages = { pid: view.pid, key, pages };
-      draw_table();
-    }
-    before = { key, frames: now };
-    draw_map();
-  });
+  on("panels", show);
   const canvas = $("frame-map");
   const at_pointer = (event) => {
     const box = canvas.getBoundingClientRect(), { side, columns } = cells(), column = Math.floor((event.clientX - box.left) / side);
@@ -157,5 +162,13 @@ export function start() {
     draw_map();
   });
   for (const it of ["focus", "blur"]) canvas.addEventListener(it, () => { if (app.view?.frames) draw_map(); });
-  on("boot", () => { before = null; last_pages = null; changed = new Set(); new_pages = new Set(); });
+  on("booted", () => {
+    before = null;
+    last_pages = null;
+    changed = new Set();
+    new_pages = new Set();
+    opened = new Map();
+    for (const it of ["table", "frame-key", "frame-told"]) $(it).replaceChildren();
+    fresh(canvas);
+  });
 }

@@ -210,7 +210,14 @@ export function start() {
   const show_turns = in_time(draw_turns);
   on("panels", () => { draw(); show_turns(); });
   on("zoom", () => { if (app.view) show_turns(); });
-  on("boot", () => { lives.edits = undefined; rows = new Map(); order = ""; });
+  on("booted", () => {
+    lives.edits = undefined;
+    rows = new Map();
+    order = "";
+    $("process-rows").replaceChildren();
+    $("turns-told").replaceChildren();
+    fresh($("turns"));
+  });
   $("turns").addEventListener("click", (event) => {
     const box = event.currentTarget.getBoundingClientRect(), { from, to } = range(), x = event.clientX - box.left - 74;
     if (x >= 0) ask("go", { place: Math.round(from + (x / (box.width - 78)) * (to - from)) });

@@ -1,29 +1,38 @@
-// The files of the machine: examples by name, sources that are edited, files that are dropped; boot; sharing.
-import { $, app, ask, base64, element, on, say, tell } from "./app.mjs";
+// The files of the machine: the list of a work's files, examples by name, files that are opened or dropped, the machine's settings; boot.
+import { $, app, ask, element, on, say, tell } from "./app.mjs";
 import { functions_of, places_of } from "./symbols.mjs";
+import { is_elf, is_source } from "./kinds.mjs";
+import { MOST_BYTES, boot_words, files_refused, mistake_words, too_large } from "./refused.mjs";
+import { add, bring_back, bytes_of_file, forget_work, is_changed, own_names, put, put_away, ship_anew, title_of, touch, work_of } from "./works.mjs";
+import { counting } from "./breaks.mjs";
 import * as editor from "./editor.mjs";
 
 const DATA = globalThis.PAGE_DATA;
-const waiting = new Map();
+const MOST_BYTES_OF_RECORD = 16 * MOST_BYTES; // a record, or a work that was saved, is no file of the machine
+const waiting = new Map(); // who waits for a source to be assembled
+const SETTINGS = ["frames", "order", "quantum", "keys"];
 
-const bytes_of_file = (file) => file.bytes || (file.bytes = base64.of(file.base64));
-const copy_of = (file) => (file.text !== undefined ? { name: file.name, text: file.text } : { name: file.name, bytes: bytes_of_file(file), built_in: file.built_in });
+// ---- the list of files
 
-/** The files of an example, of which sources may be edited. */
-function files_of(example) {
-  const own = example.files.map((it) => ({ ...it }));
-  const programs = (example.programs || []).map((name) => ({ name, bytes: base64.of(DATA.programs[name]), built_in: true }));
-  return [...own, ...programs];
+function file_button(file) {
+  const is_opened = file === editor.opened();
+  return element("button", { role: "option", "aria-selected": is_opened ? "true" : "false", class: file.text === undefined ? "plain" : "", title: file.text === undefined ? "a program, or another file of bytes" : "a text", onclick: () => { editor.open(file); show_files(); tell("opened", file); } }, file.name + (file.changed ? " *" : ""));
 }
 
-export function show_files() {
-  const list = $("files"), opened = editor.opened();
-  list.replaceChildren(...app.files.map((file) => element("button", { role: "option", "aria-selected": file === opened ? "true" : "false", class: file.text === undefined ? "plain" : "", title: file.text === undefined ? "a program file" : "a text", onclick: () => { editor.open(file); show_files(); tell("opened", file); } }, file.name + (file.changed ? " *" : ""))),
+const named = (button) => button.getAttribute("aria-label") ?? button.textContent.replace(/ \*$/, "");
+
+function show_files() {
+  const last = app.work.gone.at(-1), focused = $("files").contains(document.activeElement) ? named(document.activeElement) : null;
+  $("files").replaceChildren(...app.files.map(file_button),
     element("button", { title: "A new source", "aria-label": "A new source", onclick: add_source }, "+"),
     element("button", { title: "Take this file away", "aria-label": "Take this file away", onclick: remove_opened }, "−"),
+    ...(last ? [element("button", { id: "bring-back", title: `Bring ${last.name} back, as it was before it was taken away or another took its place`, "aria-label": `Bring ${last.name} back`, onclick: bring_last_back }, `↶ ${last.name}`)] : []),
+    element("button", { id: "save", title: "Save this file on your host", "aria-label": "Save this file", onclick: save_opened }, "Save"),
     element("button", { title: "Program files, sources, texts, or the record of a run", onclick: ask_for_files }, "Open file.."));
-  const order = $("order").value === "rounds" ? `in rounds of ${$("quantum").value} Runs` : "as a terminal";
-  $("config-words").textContent = `${$("frames").value} frames, ${order}`;
+  // The button that had the keys has them again.
+  if (focused) [...$("files").children].find((it) => named(it) === focused)?.focus();
+  const { frames, order, quantum } = app.work.machine;
+  $("config-words").textContent = `${frames} frames, ${order === "rounds" ? `in rounds of ${quantum} Runs` : "as a terminal"}`;
 }
 
 /** Asks the host for files, which are taken as if they were dropped. */
@@ -42,37 +51,108 @@ async function take_asked() {
 function add_source() {
   let name = "prog.s";
   for (let k = 2; app.files.some((it) => it.name === name); k++) name = `prog${k}.s`;
-  const asked = prompt("Name of the source (a program's name and .s), or of a text", name);
+  const asked = prompt("Name of the source (a program's name and .s), or of a text", name)?.trim();
   if (!asked) return;
-  const file = { name: asked, text: asked.endsWith(".s") ? "  li a0, 0\n  li a7, 2          # exit\n  ecall\n" : "" };
-  app.files = [...app.files.filter((it) => it.name !== asked), file];
+  if (app.files.some((it) => it.name === asked)) { say(`There is a file ${asked} already: it stays as it is. Choose another name`); return; }
+  add_and_open({ name: asked, text: asked.endsWith(".s") ? "  li a0, 0\n  li a7, 2          # exit\n  ecall\n" : "" });
+}
+
+function add_and_open(file) {
+  add(file);
   editor.open(file);
   show_files();
 }
 
 function remove_opened() {
   const file = editor.opened();
-  app.files = app.files.filter((it) => it !== file);
+  if (!file) return;
+  put_away(file);
+  touch();
   editor.open(app.files[0] || null);
   show_files();
+  say(`${file.name} is taken away: the button ↶ ${file.name} brings it back`);
 }
 
-export function set_files(files, how = {}) {
-  app.files = files;
-  $("frames").value = how.frames || 4096;
-  $("order").value = how.rounds ? "rounds" : "live";
-  $("quantum").value = how.quantum || 1000;
-  $("keys").value = (how.keys || "").replace(/\\/g, "\\\\").replace(/\n/g, "\\n").replace(/\x04/g, "\\x04");
-  editor.open(app.files.find((it) => it.text !== undefined && it.name.endsWith(".s")) || app.files[0] || null);
+function bring_last_back() {
+  const file = bring_back();
+  editor.open(file);
   show_files();
+  say(`${file.name} is back`);
 }
 
-export function choose(name) {
-  const example = DATA.examples[name];
-  if (!example) return;
-  $("example").value = name;
-  set_files(files_of(example), example);
+/** Hands a file to the host, which saves it. */
+export function save(name, content) {
+  const made = element("a", { href: URL.createObjectURL(new Blob([content], { type: typeof content === "string" ? "text/plain" : "application/octet-stream" })), download: name });
+  made.click();
+  setTimeout(() => URL.revokeObjectURL(made.href), 60000);
 }
+
+function save_opened() {
+  const file = editor.opened();
+  if (file) save(file.name, file.text ?? bytes_of_file(file));
+}
+
+// ---- works
+
+/** Shows the work that is open: its files, and the machine's settings. */
+function show_work() {
+  const { work } = app;
+  for (const it of SETTINGS) $(it).value = work.machine[it];
+  editor.open(app.files.find((it) => it.name === work.shown) || app.files.find((it) => it.text !== undefined && it.name.endsWith(".s")) || app.files[0] || null);
+  show_files();
+  show_works();
+  tell("work", work);
+}
+
+/** Opens the work of a name, with the file that was shown last; false where there is none. `fresh` tells what it is if nothing of it is kept. */
+export function open_work(name, fresh, shown) {
+  const work = work_of(name, fresh);
+  if (!work) return false;
+  app.work = work;
+  if (shown) work.shown = shown;
+  show_work();
+  return true;
+}
+
+/** Opens an example as it was left, or another work that was kept. */
+export const choose = (name) => open_work(name);
+
+/** Opens files that are no example, as a work of their own. */
+export function set_files(files, how = {}, name = "own") {
+  app.work = put(name, { files, how });
+  show_work();
+}
+
+const words_of_example = (name) => (DATA.examples[name].title ? `${name}: ${DATA.examples[name].title}` : name);
+
+/** Lists the examples, those that were changed with a star, and the works of lessons and links. */
+function show_works() {
+  const chosen = $("example"), own = own_names(), { name } = app.work;
+  if (!DATA.examples[name] && !own.includes(name)) own.push(name);
+  const option = (it, words) => element("option", { value: it }, words + (is_changed(it) ? " *" : ""));
+  chosen.replaceChildren(...Object.keys(DATA.examples).map((it) => option(it, words_of_example(it))), ...(own.length ? [element("optgroup", { label: "lessons, links, your own" }, ...own.map((it) => option(it, title_of(it))))] : []));
+  chosen.value = name;
+  $("as-shipped").hidden = !(app.work.example && app.work.is_touched);
+  $("forget").hidden = !(!app.work.example && app.work.is_touched);
+}
+
+/** Makes the work as it was shipped: what was changed may be brought back, file by file. */
+async function as_shipped() {
+  ship_anew();
+  show_work();
+  say(app.work.gone.length ? "As it was shipped. What you had changed is brought back by ↶" : "As it was shipped");
+  await boot();
+}
+
+/** Forgets files that are no example's. */
+async function forget() {
+  if (!confirm("These files are taken away for good. Save what you want to keep first. Forget them?")) return;
+  forget_work();
+  choose("shell");
+  await boot();
+}
+
+// ---- boot
 
 /** The keys that are written as text: \n, \t, \\ and \x04 stand for bytes. */
 export function keys_of(text) {
@@ -87,186 +167,138 @@ function assembled(text) {
   });
 }
 
-const is_source = (file) => file.text !== undefined && file.name.endsWith(".s");
 
-/** A file that is handed to the machine as it stands. */
-function plain(file) {
-  const bytes = file.text === undefined ? bytes_of_file(file) : new TextEncoder().encode(file.text);
-  return { name: file.name, bytes, from: file, text: file.text, symbols: functions_of(bytes) };
+const of_bytes = (name, bytes, from) => ({ name, bytes, from, text: from.text, symbols: functions_of(bytes) });
+
+/** The file of the machine that a file of the list is: {name, bytes, from, text, symbols}. `mistake`: what is wrong with its source. */
+export async function made_of(file) {
+  if (file.text === undefined) return of_bytes(file.name, bytes_of_file(file), file);
+  if (!is_source(file)) return of_bytes(file.name, new TextEncoder().encode(file.text), file);
+  const { text } = file, made = await assembled(text);
+  return made.file ? { name: file.name.slice(0, -2), bytes: made.file, from: file, text, symbols: places_of(text, made) } : { from: file, mistake: mistake_words(made, text) };
 }
 
-/** The program that the assembler made of a source. */
-function program_of(file, made) {
-  return { name: file.name.slice(0, -2), bytes: made.file, from: file, text: file.text, symbols: places_of(file.text, made) };
+/** If no file is called init, the only program is. It tells the words for that, or nothing. */
+function name_init(files) {
+  if (files.some((it) => it.name === "init")) return "";
+  const programs = files.filter((it) => is_elf(it.bytes));
+  if (programs.length !== 1) return "";
+  const [only] = programs, { name } = only;
+  only.name = "init";
+  return `No file is called init: ${only.from.name} runs as init, the only program that there is${name.length > 14 ? ". In a list with others its name would be too long" : ""}`;
 }
 
-/** Assembles the sources, and boots a machine of all files. */
-export async function boot({ play = true } = {}) {
-  const files = [];
-  for (const file of app.files) {
-    if (!is_source(file)) { files.push(plain(file)); continue; }
-    const made = await assembled(file.text);
-    if (!made.file) {
-      editor.open(file);
-      show_files();
-      say(`${file.name}, line ${made.line}: ${made.kind}`);
-      return false;
-    }
-    files.push(program_of(file, made));
-  }
-  const config = { frames: Number($("frames").value) || 4096, trace: 0 };
-  const how = { rounds: $("order").value === "rounds", quantum: Math.max(1, Number($("quantum").value) || 1000) };
-  app.booting = { files, config, how };
-  app.symbols = files.map((it) => it.symbols);
-  tell("boot");
-  ask("boot", { config, how, files: files.map(({ name, bytes }) => ({ name, bytes })), keys: [...keys_of($("keys").value)], play });
-  return true;
-}
-
-// ---- sharing
-
-async function pressed(bytes, stream) {
-  return new Uint8Array(await new Response(new Blob([bytes]).stream().pipeThrough(stream)).arrayBuffer());
-}
-
-/** The run as a record's text. */
-export const record_text = () => new Promise((done) => { app.on_record = async (record) => done((await recorded(record)).text); ask("record"); });
-
-/** A link that has the sources, the names of the built-in programs, the machine and the keys. */
-export async function link() {
-  const files = app.files.map((file) => (file.text !== undefined ? [file.name, file.text] : file.built_in ? [file.name] : [file.name, null, base64.to(file.bytes)]));
-  const it = { files, frames: Number($("frames").value), rounds: $("order").value === "rounds", quantum: Number($("quantum").value), keys: new TextDecoder().decode(keys_of($("keys").value)) };
-  const packed = await pressed(new TextEncoder().encode(JSON.stringify(it)), new CompressionStream("deflate-raw"));
-  return location.href.split("#")[0] + "#run=" + base64.to(packed).replace(/\+/g, "-").replace(/\//g, "_").replace(/=+$/, "");
-}
-
-/** Follows a link: true if the address has a whole one. If it is damaged, that is said, and what comes in its place. */
-export async function follow(hash, in_its_place) {
-  const example = /^#example=([\w-]+)$/.exec(hash);
-  if (example && DATA.examples[example[1]]) { choose(example[1]); return true; }
-  if (!hash.startsWith("#run=")) return false;
-  try {
-    const it = JSON.parse(new TextDecoder().decode(await pressed(base64.of(hash.slice(5).replace(/-/g, "+").replace(/_/g, "/")), new DecompressionStream("deflate-raw"))));
-    const files = it.files.map(([name, text, packed]) => (text !== undefined && text !== null ? { name, text } : packed ? { name, bytes: base64.of(packed) } : { name, bytes: base64.of(DATA.programs[name]), built_in: true }));
-    set_files(files, it);
-    return true;
-  } catch {
-    say(`The link is damaged: copy the whole of it once more. ${in_its_place}`);
-    return false;
-  }
-}
-
-async function share() {
-  const dialog = $("dialog"), body = dialog.querySelector("div"), text = element("textarea", { readonly: true, "aria-label": "Link" }), put = (file) => {
-    const made = element("a", { href: URL.createObjectURL(new Blob([file.text], { type: "text/plain" })), download: file.name });
-    made.click();
-  };
-  text.value = await link();
-  body.replaceChildren(element("h2", {}, "Share"), element("p", {}, `This link has the programs, the machine and the keys (${text.value.length} characters). Who opens it has the same run.`), text,
-    element("p", {}, element("button", { class: "main", onclick: () => { text.select(); navigator.clipboard?.writeText(text.value); } }, "Copy"), " ",
-      element("button", { onclick: () => { app.on_record = async (record) => put(await recorded(record)); ask("record"); } }, "Save the run as a file")),
-    element("p", {}, "The file has each event of the run, and the sums of its programs. Drop it on the page, or choose it by Open file.., to have the run again."));
-  dialog.showModal();
-  text.select();
-}
-
-// ---- records: the text of a run, as the terminal's --record writes it and its --replay reads it (docs/manual/terminal.md)
-
-async function sum_of(bytes) {
-  return [...new Uint8Array(await crypto.subtle.digest("SHA-256", bytes))].map((it) => it.toString(16).padStart(2, "0")).join("");
-}
-
-const EVENTS = ["run", "tick", "key", "send"];
-
-async function recorded({ config, files, spans }) {
-  const lines = ["xv record 1", `frames ${config.frames}`];
-  for (const { name, bytes } of files) lines.push(`program ${await sum_of(bytes)} ${bytes.length} ${name}`);
-  lines.push("events");
-  for (const [event, byte, count] of spans) for (let k = event === 2 ? count : 1; k > 0; k--) lines.push(`${EVENTS[event]} ${event === 2 ? byte : count}`);
-  return { name: "run.txt", text: lines.join("\n") + "\nend\n" };
-}
-
-/** The files that a record may mean, by their sums: those of the machine, those of the list, and the programs of the page. */
-async function files_by_sum() {
-  const found = new Map();
-  const add = async (file) => found.set(await sum_of(file.bytes), file);
-  for (const [name, packed] of Object.entries(DATA.programs)) await add(plain({ name, bytes: base64.of(packed), built_in: true }));
-  for (const file of app.files) {
-    if (!is_source(file)) { await add(plain(file)); continue; }
-    const made = await assembled(file.text);
-    if (made.file) await add(program_of(file, made));
-  }
+let boots = 0;
+const bootings = new Map(); // machines that are to be booted, by the numbers of their boots
+export function booting(id) {
+  const found = bootings.get(id);
+  for (const it of bootings.keys()) if (it <= id) bootings.delete(it);
   return found;
 }
 
-const MOST_EVENTS = 1e12; // of one line of a record: hours of play
-
-/** What a record says: {frames, programs: [{sum, name}], spans}. It throws what is wrong with which line. */
-export function record_of(text) {
-  const lines = text.split("\n"), said = { frames: 0, programs: [], spans: [] };
-  const number = (word, most, line) => {
-    if (!/^\d{1,13}$/.test(word || "") || Number(word) > most) throw new Error(`the record's line ${line} has no number from 0 to ${most}`);
-    return Number(word);
-  };
-  for (let k = 1; k < lines.length; k++) {
-    const [word, ...rest] = lines[k].split(" "), event = EVENTS.indexOf(word);
-    if (word === "end") return said;
-    if (word === "frames") said.frames = number(rest[0], 32768, k + 1);
-    else if (word === "program") said.programs.push({ sum: rest[0], name: rest.slice(2).join(" ") });
-    else if (word === "key") said.spans.push([event, number(rest[0], 255, k + 1), 1]);
-    else if (event >= 0) said.spans.push([event, 0, number(rest[0], MOST_EVENTS, k + 1)]);
-    else if (word !== "events") throw new Error(`the record's line ${k + 1} begins with no word of a record`);
-  }
-  throw new Error("the record is cut off: its last line, end, is missing");
-}
-
-function refuse(words) {
+/** Tells that something is refused, beside the editor and as a message. */
+export function refuse(words) {
   say(words);
   $("mistake").textContent = words;
   $("mistake").className = "bad";
 }
 
-async function play_record(text) {
-  let said;
-  try { said = record_of(text); } catch (error) { refuse(error.message); return; }
-  const known = await files_by_sum(), files = [], { spans } = said, config = { frames: said.frames, trace: 0 };
-  for (const { sum, name } of said.programs) {
-    const file = known.get(sum);
-    if (!file) { refuse(`the record wants another file ${name}: add it first`); return; }
-    files.push({ ...file, name });
+/** Asks for a machine of files: to boot it, or to play a record of it. */
+export function begin(what, { files, config, how, ...more }) {
+  const id = ++boots;
+  const booted = { files, config, how, work: app.work.name, symbols: files.map((it) => it.symbols) };
+  bootings.set(id, booted);
+  ask(what, { id, config, how, files: files.map(({ name, bytes }) => ({ name, bytes })), breaks: counting(booted), ...more });
+}
+
+/** A boot that the kernel refuses: the machine before stays. */
+export function refused({ id, refusal }) {
+  const { config } = booting(id), words = boot_words(refusal, config);
+  refuse(`boot: ${words}`);
+  tell("refused", words);
+}
+
+/** The machine that settings mean: {config, how, keys}. */
+export function meant({ frames, order, quantum, keys }) {
+  return { config: { frames: Number(frames) || 0, trace: 0 }, how: { rounds: order === "rounds", quantum: Math.max(1, Number(quantum) || 1000) }, keys: [...keys_of(keys)] };
+}
+
+/** The files of the machine, of those of the list; null if one is refused, which is told. */
+export async function made_of_all(list) {
+  const files = await Promise.all(list.map(made_of)), wrong = files.find((it) => it.mistake);
+  if (wrong) {
+    if (app.files.includes(wrong.from)) editor.open(wrong.from);
+    show_files();
+    refuse(`${wrong.from.name}, ${wrong.mistake}`);
+    return null;
   }
-  app.booting = { files, config, how: {} };
-  app.symbols = files.map((it) => it.symbols);
-  tell("boot");
-  ask("replay", { config, files: files.map(({ name, bytes }) => ({ name, bytes })), spans });
+  const told = name_init(files), words = files_refused(files);
+  if (words) { refuse(`boot: ${words}`); return null; }
+  if (told) say(told);
+  return files;
+}
+
+/** Assembles the sources, and boots a machine of all files: of the work's, or of others. Tells whether it was asked for. */
+export async function boot({ play = true, files = app.files, machine = app.work.machine } = {}) {
+  const made = await made_of_all(files);
+  if (made) tell("leave");
+  if (made) begin("boot", { files: made, ...meant(machine), play });
+  else tell("refused", $("mistake").textContent);
+  return made !== null;
+}
+
+// ---- files that are opened or dropped
+
+/** A file of the host: its bytes, and its text, if they are one, and the same when they are written again. */
+function file_of(name, bytes) {
+  if (is_elf(bytes)) return { name, bytes };
+  try {
+    const text = new TextDecoder("utf-8", { fatal: true, ignoreBOM: true }).decode(bytes);
+    const is_mixed = /\r(?!\n)/.test(text) || (text.includes("\r") && /(?<!\r)\n/.test(text));
+    if (text.includes("\0") || (is_mixed && !name.endsWith(".s"))) return { name, bytes };
+    return { name, text };
+  } catch {
+    return { name, bytes };
+  }
+}
+
+/** What some files are besides files of the machine, by how they begin: who takes their texts. */
+const kinds = new Map();
+export const take_texts = (beginning, taker) => kinds.set(beginning, taker);
+
+async function taker_of(it) {
+  const head = await it.slice(0, 16).text();
+  return [...kinds].find(([beginning]) => head.startsWith(beginning))?.[1] ?? null;
 }
 
 /** Takes files that were dropped or chosen: programs, sources, texts, or a run. */
 export async function take(list) {
+  const taken = [], refusals = [];
   for (const it of list) {
+    const taker = await taker_of(it), most = taker ? MOST_BYTES_OF_RECORD : MOST_BYTES;
+    if (it.size > most) { refusals.push(too_large(it.name, it.size)); continue; }
     const bytes = new Uint8Array(await it.arrayBuffer());
-    const is_elf = bytes[0] === 127 && bytes[1] === 69 && bytes[2] === 76 && bytes[3] === 70;
-    const text = is_elf ? "" : new TextDecoder().decode(bytes);
-    if (text.startsWith("xv record 1\n")) { await play_record(text); return; }
-    const name = it.name.slice(0, 40), file = is_elf ? { name, bytes } : { name, text };
-    app.files = [...app.files.filter((old) => old.name !== name), file];
-    editor.open(file);
+    if (taker) { await taker(new TextDecoder().decode(bytes)); tell("taken"); return; }
+    const file = { ...file_of(it.name, bytes), changed: true };
+    add(file);
+    taken.push(file);
   }
-  show_files();
-  say(`${list.length} file${list.length > 1 ? "s" : ""} taken. Boot runs the machine with ${list.length > 1 ? "them" : "it"}.`);
-  tell("taken");
+  if (taken.length) { editor.open(taken.at(-1)); show_files(); tell("taken"); }
+  const words = taken.length ? `${taken.length} file${taken.length > 1 ? "s" : ""} taken. Boot runs the machine with ${taken.length > 1 ? "them" : "it"}.` : "";
+  if (refusals.length) refuse([`Not taken: ${refusals.join("; ")}.`, words].join(" ").trim()); else say(words);
 }
 
 export function start() {
-  const chosen = $("example");
-  for (const [name, example] of Object.entries(DATA.examples)) chosen.append(element("option", { value: name }, example.title ? `${name}: ${example.title}` : name));
-  chosen.addEventListener("change", () => { choose(chosen.value); boot(); });
+  $("example").addEventListener("change", () => { if (choose($("example").value)) boot(); });
+  $("as-shipped").addEventListener("click", as_shipped);
+  $("forget").addEventListener("click", forget);
   $("boot").addEventListener("click", () => boot());
-  $("share").addEventListener("click", share);
   $("open-file").addEventListener("click", ask_for_files);
   $("file").addEventListener("change", take_asked);
-  for (const it of ["frames", "order", "quantum", "keys"]) $(it).addEventListener("change", show_files);
-  on("edited", show_files);
+  for (const it of SETTINGS) $(it).addEventListener("change", () => { app.work.machine[it] = $(it).value; touch(); show_files(); });
+  on("touched", show_works);
+  on("marked", show_files);
+  on("opened", (file) => { app.work.shown = file.name; });
   on("assembled", (it) => { const done = waiting.get(it.id); if (done) { waiting.delete(it.id); done(it); } });
   let depth = 0;
   const has_files = (event) => [...(event.dataTransfer?.types || [])].includes("Files");

@@ -18,8 +18,8 @@ export class Run {
   /** Boots; null, or the refusal. */
   boot(config, files) {
     const refusal = this.machine.boot(config, files);
-    this.booted = refusal === null;
     if (refusal !== null) return refusal;
+    this.booted = true;
     this.config = config;
     this.files = files;
     this.at = 0;
@@ -27,6 +27,7 @@ export class Run {
     this.shown = { at: new Float64Array(4096), bytes: new Uint8Array(4096), length: 0 };
     this.names = [];
     this.names_of = new Map();
+    this.ends = []; // the ends of processes, in their order: {at, pid, is_fault, number}
     this.name(1);
     this.edits = 0;
     this.copies.begin();
@@ -44,6 +45,7 @@ export class Run {
     this.line.add(event, told, count);
     this.at += count;
     if (told.kind === KIND.CALL && told.value >= 0) this.heard_call(this.machine.kernel_calls.get(told.number), told);
+    if (told.kind === KIND.EXIT || told.kind === KIND.FAULT) this.ends.push({ at: this.at - 1, pid: told.pid, is_fault: told.kind === KIND.FAULT, number: told.number });
     if (told.kind === KIND.HALTED || (told.pid === 1 && (told.kind === KIND.EXIT || told.kind === KIND.FAULT))) this.halted = true;
   }
 
@@ -95,6 +97,7 @@ export class Run {
     this.shown.length = this.shown_count();
     this.line.cut(this.at);
     while (this.names.length && this.names.at(-1).at > this.at) this.names_of.get(this.names.pop().pid).pop();
+    while (this.ends.length && this.ends.at(-1).at >= this.at) this.ends.pop();
     this.copies.cut(this.at);
     this.edits++;
     this.halted = this.machine.facts().halted;
@@ -200,11 +203,12 @@ export class Plan {
    * `quantum` Runs make a round, then comes a Tick and 32 Sends (`rounds`), or bytes are sent as soon as they wait
    * (`live`), where a tick comes after so many Runs, or when nobody may run.
    */
-  constructor(run, { rounds, quantum }) {
+  constructor(run, { rounds, quantum }, keys = []) {
     this.run = run;
     this.rounds = rounds;
     this.quantum = quantum;
-    this.keys = [];
+    this.keys = [...keys];
+    this.given = this.keys.length; // those that come whether there is room for them or not, as xv_run hands them over
     this.is_idle = false;
     this.find();
   }
@@ -228,6 +232,22 @@ export class Plan {
     this.is_idle = line.length > 0 && line.kind[line.length - 1] === KIND.IDLE;
   }
 
+  /** Keys that are typed: each is handed over once the console has room for it. */
+  type(bytes) {
+    this.keys = this.keys.concat(bytes);
+    this.is_idle = false;
+  }
+
+  /** Whether a key waits that may be handed over. */
+  get has_key() {
+    return this.keys.length > 0 && (this.given > 0 || this.run.machine.has_room_for_key());
+  }
+
+  next_key() {
+    this.given = Math.max(0, this.given - 1);
+    return this.run.send(EVENT.KEY, this.keys.shift());
+  }
+
   /** Sends what comes next, at most so many Runs; tells the outcome. */
   next(most) {
     return this.rounds ? this.next_of_round(most) : this.next_of_terminal(most, true);
@@ -240,9 +260,9 @@ export class Plan {
       if (++this.sends >= 32) { this.ticked = false; this.sends = 0; this.runs = 0; this.keyed = false; }
       return told;
     }
-    if (this.runs === 0 && !this.keyed && this.keys.length) {
+    if (this.runs === 0 && !this.keyed && this.has_key) {
       this.keyed = true;
-      return run.send(EVENT.KEY, this.keys.shift());
+      return this.next_key();
     }
     if (this.runs >= this.quantum) {
       this.ticked = true;
@@ -258,9 +278,9 @@ export class Plan {
   /** What a terminal does. `ticks` says whether a tick comes by the number of Runs; else the caller sends ticks. */
   next_of_terminal(most, ticks) {
     const { run } = this;
-    if (this.keys.length) {
+    if (this.has_key) {
       this.is_idle = false;
-      return run.send(EVENT.KEY, this.keys.shift());
+      return this.next_key();
     }
     if (run.machine.has_output()) {
       this.is_idle = false;

@@ -78,6 +78,7 @@ function tell_lines() {
 export function type(bytes) {
   if (!app.booted) return;
   ask("keys", { bytes: [...bytes] });
+  tell("typed", bytes);
   if (!app.view?.playing) tell("play");
 }
 
@@ -130,7 +131,10 @@ export function start() {
   }
   screen.addEventListener("click", () => { if (!String(getSelection()) && matchMedia("(pointer: coarse)").matches) typed.focus(); });
   on("view", () => { draw(); tell_lines(); });
-  on("boot", clear);
-  // (A view of the machine before may come behind `boot`, and none behind `booted`.)
-  on("booted", () => { heard = 0; $("heard").replaceChildren(); });
+  on("booted", () => {
+    clear();
+    for (const it of [drawn.left, drawn.caret, drawn.right]) write(it, "");
+    heard = 0;
+    $("heard").replaceChildren();
+  });
 }

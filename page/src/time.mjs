@@ -1,13 +1,12 @@
-// Time: play and pause, steps forward and back, the slider over the whole run, zoom, break points.
+// Time: play and pause, steps forward and back, the slider over the whole run, zoom.
 import { $, app, ask, color_of, element, fresh, grouped, in_time, on, program_name, say, style_of, tell, write } from "./app.mjs";
 import { KIND } from "./machine.mjs";
-import { all_calls, call_name, call_number } from "./calls.mjs";
-import { hex } from "./words.mjs";
+import { call_name } from "./calls.mjs";
+import { stuck, stuck_words } from "./stuck.mjs";
 import { type } from "./terminal.mjs";
 
 /** The part of the run that the slider and the picture of turns show. */
 export const window_ = { from: 0, to: 0, whole: true };
-let breaks = [];
 let dragging = false;
 
 export function range() {
@@ -154,7 +153,7 @@ export function step(what, back) {
   if (app.booted) ask("step", { what, back });
 }
 
-const clock = { words: document.createTextNode(""), last: element("span"), between: document.createTextNode(""), stopped: element("b") };
+const clock = { words: document.createTextNode(""), stuck: element("button", { id: "stuck", hidden: true, title: "To the call that sleeps, and to its line", onclick: () => tell("see stuck") }), last: element("span"), between: document.createTextNode(""), stopped: element("b") };
 
 function told() {
   const { view } = app, { facts } = view;
@@ -167,46 +166,31 @@ function told() {
   write(clock.stopped, stopped);
 }
 
+let said_of = "";
+/** Tells that nobody can go on, if it is so; once as a message too. */
+function tell_stuck() {
+  const list = stuck(), words = list ? stuck_words(list) : "";
+  write(clock.stuck, words);
+  clock.stuck.hidden = !words;
+  if (words && words !== said_of) say(`${words[0].toUpperCase()}${words.slice(1)}. The tab Why tells who could wake whom.`);
+  said_of = words;
+}
+
+let futures = 0;
+/** Offers to take back what a key in the past has cut off. */
+function tell_futures() {
+  const list = app.view.futures, last = list.at(-1), button = $("take-back");
+  button.hidden = !last;
+  if (last) write(button, `↶ ${grouped(last.count)} events, cut off at ${grouped(last.at)}`);
+  if (list.length > futures) say(`The key has cut off the ${grouped(last.count)} events that came here before. The button ↶ takes them back.`);
+  futures = list.length;
+}
+
 function tell_slider() {
   const { at, end } = app.view, slider = $("slider");
   slider.setAttribute("aria-valuemax", end);
   slider.setAttribute("aria-valuenow", at);
   slider.setAttribute("aria-valuetext", `event ${at} of ${end}`);
-}
-
-// ---- break points
-
-function send_breaks() {
-  ask("breaks", { list: breaks.map(({ kind, address, number, name, program }) => ({ kind, address, number, name, program: program ?? null })) });
-  $("break-count").textContent = breaks.length || "";
-  $("break-list").replaceChildren(...breaks.map((it) => element("li", {}, it.words, element("button", { "aria-label": `Take away: ${it.words}`, onclick: () => { breaks = breaks.filter((other) => other !== it); send_breaks(); } }, "✕"))));
-  tell("breaks", breaks);
-}
-
-function program_of_file(file) {
-  const place = app.booted ? app.booted.files.findIndex((it) => it.from === file) : -1;
-  return place < 0 ? null : place;
-}
-
-function add_break() {
-  const kind = $("break-kind").value, where = $("break-where").value.trim();
-  if (!where) return;
-  if (kind === "call") {
-    const number = call_number(where) ?? where;
-    if (!/^\d+$/.test(number)) { say(`No such call: ${where}. Write its name, as write, or its number`); return; }
-    breaks.push({ kind, number: Number(number), name: where, words: `call ${call_name(Number(number))}` });
-  } else {
-    let address = null, program = null, name = where;
-    if (/^(0x[0-9a-f]+|\d+)$/i.test(where)) address = BigInt(where);
-    else app.symbols.forEach((symbols, place) => {
-      const found = symbols.names.find((it) => it.name === where);
-      if (found && address === null) { address = found.address; program = place; }
-    });
-    if (address === null) { say(`No such label: ${where}. Write a label of a program, or an address, as 0x10`); return; }
-    breaks.push({ kind, address, program: kind === "store" ? null : program, name, words: `${kind === "store" ? "store to" : "at"} ${name}${/^\d|^0x/.test(name) ? "" : " " + hex(address)}` });
-  }
-  $("break-where").value = "";
-  send_breaks();
 }
 
 // ---- keys of the page
@@ -220,17 +204,7 @@ function key(event) {
   if (what) { event.preventDefault(); step(what, event.shiftKey); }
 }
 
-export function start() {
-  $("clock").append(...Object.values(clock));
-  $("play").addEventListener("click", toggle);
-  for (const it of document.querySelectorAll("[data-step]")) it.addEventListener("click", () => step(it.dataset.step, false));
-  for (const it of document.querySelectorAll("[data-back]")) it.addEventListener("click", () => step(it.dataset.back, true));
-  $("speed").addEventListener("change", () => ask("settings", { speed: Number($("speed").value) }));
-  $("zoom-in").addEventListener("click", () => zoom(0.25));
-  $("zoom-out").addEventListener("click", () => zoom(4));
-  $("zoom-all").addEventListener("click", () => { window_.whole = true; tell("zoom"); });
-  $("break-add").addEventListener("click", add_break);
-  $("break-where").addEventListener("keydown", (event) => { if (event.key === "Enter") add_break(); });
+function start_slider() {
   const slider = $("slider");
   slider.addEventListener("pointerdown", (event) => { dragging = true; slider.setPointerCapture(event.pointerId); go(at_pointer(event)); });
   slider.addEventListener("pointermove", (event) => {
@@ -244,13 +218,26 @@ export function start() {
     if (event.key === "Home") go(0);
     else if (event.key === "End") go(app.line.end);
     else if (by === -1 || by === 1) step("one", by < 0);
-    else if (by) go(app.view.at + by);
+    else if (by) go((app.view?.at ?? 0) + by);
     else if (event.key === "+") zoom(0.25);
     else if (event.key === "-") zoom(4);
     else return;
     event.preventDefault();
     event.stopPropagation();
   });
+}
+
+export function start() {
+  $("clock").append(...Object.values(clock));
+  $("play").addEventListener("click", toggle);
+  for (const it of document.querySelectorAll("[data-step]")) it.addEventListener("click", () => step(it.dataset.step, false));
+  for (const it of document.querySelectorAll("[data-back]")) it.addEventListener("click", () => step(it.dataset.back, true));
+  $("speed").addEventListener("change", () => ask("settings", { speed: Number($("speed").value) }));
+  $("take-back").addEventListener("click", () => { futures = Infinity; ask("take_back"); say("What the key had cut off is back."); });
+  $("zoom-in").addEventListener("click", () => zoom(0.25));
+  $("zoom-out").addEventListener("click", () => zoom(4));
+  $("zoom-all").addEventListener("click", () => { window_.whole = true; tell("zoom"); });
+  start_slider();
   addEventListener("keydown", key);
   on("view", () => {
     const { from, to } = range(), { at } = app.view;
@@ -259,20 +246,14 @@ export function start() {
     told();
     show_slider();
   });
-  on("panels", tell_slider);
+  on("panels", () => { tell_slider(); tell_stuck(); tell_futures(); });
   on("zoom", () => { if (app.view) show_slider(); });
   on("play", () => ask("play"));
-  on("boot", () => { window_.whole = true; });
   on("booted", () => {
-    $("labels").replaceChildren(...app.symbols.flatMap((it) => it.names.map(({ name }) => element("option", { value: name }))), ...all_calls().map((name) => element("option", { value: name })));
-    for (const it of breaks) if (it.file) it.program = program_of_file(it.file);
-    send_breaks();
-  });
-  on("toggle break", ({ line, address, file }) => {
-    const there = breaks.find((it) => it.file === file && it.line === line);
-    if (there) breaks = breaks.filter((it) => it !== there);
-    else breaks.push({ kind: "address", address, file, line, program: program_of_file(file), name: `line ${line}`, words: `${file.name}, line ${line}` });
-    send_breaks();
+    Object.assign(go, { busy: false, wanted: -1 });
+    window_.whole = true;
+    futures = 0;
+    said_of = "";
   });
   globalThis.type_keys = (text) => type(new TextEncoder().encode(text));
 }

@@ -82,10 +82,9 @@ export class Timeline {
     this.end = place;
   }
 
-  /** The spans of events, as [event, byte, count]: what a session keeps. */
-  spans() {
-    const found = [];
-    for (let place = 0; place < this.length; place++) {
+  /** The spans of events of some stretches, as [event, byte, count], added to others, of which the last one may go on: what a session keeps. */
+  spans(from = 0, to = this.length, found = []) {
+    for (let place = from; place < to; place++) {
       const event = this.event[place], byte = event === EVENT.KEY ? this.number[place] : 0, count = this.end_of(place) - this.at[place], last = found[found.length - 1];
       if (last && last[0] === event && last[1] === byte) last[2] += count;
       else found.push([event, byte, count]);

@@ -10,6 +10,8 @@ const WHOLE_REST = 4; // and at least so many times as long as such a view takes
 const TICK = 100; // ms: a tick of the terminal is a tenth of a second
 const MOST = 30000000; // Runs that a search makes before it gives up
 const PAGE = 4096;
+const MOST_FUTURES = 8;
+const MOST_WAITING = 20000; // keys that wait, of which the page is told
 
 let machine = null, run = null, plan = null;
 let settings = { rounds: false, quantum: 1000, speed: 0 };
@@ -20,6 +22,8 @@ let next_whole = 0;
 let stopped = "";
 let made = new Made();
 let faults = [];
+let futures = []; // what keys that were typed in the past have cut off, in their order: {at, end, spans}
+let ended = null; // the last process as it ended, if none lives: what was told of it last
 
 // ---- the view that is sent to the page
 
@@ -127,11 +131,31 @@ function process_panels(pid, { instruction, pages: table }) {
   return told;
 }
 
+/** A process as it ended, with what the panels show of it, and the frames as they were then; of pid 0 that which ended last. */
+function as_it_ended(of_pid, { panels, memory }) {
+  const end = run.ends.findLast((it) => it.at < run.at && (of_pid === 0 || it.pid === of_pid));
+  if (!end) return null;
+  const { at, pid } = end, key = JSON.stringify([run.edits, at, pid, panels, String(memory)]);
+  if (ended?.key === key) return ended.told;
+  const program = run.names_of.get(pid)?.findLast((it) => it.at <= at)?.place ?? null;
+  const told = run.look(at, () => ({ pid, ended: { ...end, program }, ...process_panels(pid, panels), ...(panels.pages ? { frames: frames() } : {}) }));
+  ended = { key, told };
+  return told;
+}
+
+/** What is shown of the process that is looked at: of one that was chosen and has ended, or if none lives, as it ended. */
+function of_process(current, list) {
+  const { follow, pid: chosen, panels } = wanted, lives = (pid) => list.some((it) => it.lives && it.pid === pid);
+  const told = !list.some((it) => it.lives) ? as_it_ended(0, wanted) : !follow && !lives(chosen) ? as_it_ended(chosen, wanted) : null;
+  if (told !== null) return told;
+  const pid = looked_at(current, list);
+  return { pid, ended: null, ...process_panels(pid, panels), ...(panels.pages ? { frames: frames() } : {}) };
+}
+
 /** What a whole view has beside: the processes, and what the panels show. */
 function whole(current) {
-  const { panels } = wanted, list = processes(), pid = looked_at(current, list);
-  const told = { processes: list, current, pid, ...process_panels(pid, panels) };
-  if (panels.pages) told.frames = frames();
+  const { panels } = wanted, list = processes();
+  const told = { processes: list, current, waiting_keys: plan ? plan.keys.slice(0, MOST_WAITING) : [], futures: futures.map(({ at, end }) => ({ at, count: end - at })), ...of_process(current, list) };
   if (panels.files) told.files = files(list);
   return { ...told, copies: run.copies.along.length, copies_bytes: run.copies.bytes, memory_bytes: machine.memory().length };
 }
@@ -185,7 +209,8 @@ function breaks_here() {
   if (!pid) return null;
   const pc = machine.register(pid, 0);
   for (const it of breaks) {
-    if (it.kind === "address" && (it.program === null || it.program === run.program_of(pid)) && it.address === pc) return `at ${it.name}`;
+    if (it.program !== null && it.program !== run.program_of(pid)) continue;
+    if (it.kind === "address" && it.address === pc) return `at ${it.name}`;
     if (it.kind === "store") {
       const to = machine.address(pid), word = to === null ? null : word_at(pid, pc), width = word === null ? 0 : store_width(word);
       if (width && it.address >= to && it.address < to + BigInt(width)) return `before a store to ${it.name}`;
@@ -272,12 +297,12 @@ function play() {
         if (!halted()) plan.tick();
       }
       if (!piece(200000)) return;
-      if (is_terminal && plan.is_idle && !plan.keys.length && !machine.has_output()) break;
+      if (is_terminal && plan.is_idle && !plan.has_key && !machine.has_output()) break;
     }
   }
   if (!playing) return;
   view();
-  if (is_terminal && plan.is_idle && !plan.keys.length) {
+  if (is_terminal && plan.is_idle && !plan.has_key) {
     run.copies.prepare();
     play_on(Math.min(TICK, next_tick - performance.now()));
   } else play_on(settings.speed ? 16 : 0);
@@ -365,7 +390,66 @@ function finish(rounds) {
   view();
 }
 
+// ---- futures that are cut off
+
+/** Cuts off what the record has beyond this place. It can be taken back. */
+function cut_off() {
+  futures = [...futures.slice(1 - MOST_FUTURES), { at: run.at, end: run.end, spans: run.line.spans() }];
+  run.cut();
+  plan.find();
+}
+
+/** Sends the events of spans, but for so many at their beginning. */
+function send_again(spans, skipped = 0) {
+  let skip = skipped;
+  for (const [event, byte, count] of spans) {
+    const passed = Math.min(skip, count);
+    skip -= passed;
+    if (event === EVENT.RUN) for (let left = count - passed; left > 0; ) { const { sent, last } = run.run(Math.min(left, MOST)); heard(last); left -= sent; }
+    else for (let k = passed; k < count; k++) run.send(event, byte);
+  }
+}
+
+/** Takes the last cut back: the record goes on as it did, and the machine stands where it was cut. What came of the cut is a future in its place. */
+function take_back() {
+  const future = futures.pop();
+  if (!future) return;
+  playing = false;
+  no_more();
+  stopped = "";
+  const typed = run.end > future.at ? [{ at: future.at, end: run.end, spans: run.line.spans() }] : [];
+  plan.keys = [];
+  run.go(future.at);
+  run.cut();
+  send_again(future.spans, future.at);
+  futures.push(...typed);
+  plan.find();
+  run.go(future.at);
+  view();
+}
+
 // ---- messages
+
+/** Boots a machine, and tells the page; false if it is refused. */
+function boot({ id, config, files, how = {}, keys = [], breaks: list }) {
+  const before = performance.now(), refusal = run.boot(config, files);
+  if (refusal !== null) {
+    postMessage({ refused: { id, refusal } });
+    view();
+    return false;
+  }
+  faults = [];
+  futures = [];
+  ended = null;
+  breaks = list;
+  made = new Made();
+  Object.assign(wanted, { edits: -1, pid: 1 });
+  settings = { ...settings, ...how };
+  plan = new Plan(run, settings, keys);
+  stopped = "";
+  postMessage({ booted: { id, took: performance.now() - before } });
+  return true;
+}
 
 const obey = {
   module({ bytes }) {
@@ -373,19 +457,11 @@ const obey = {
     run = new Run(machine);
     postMessage({ ready: [...machine.kernel_calls] });
   },
-  boot({ config, files, how, play: plays, keys }) {
+  /** Boots a machine; `id` tells the page of which of its boots it hears. The machine before stays if this one is refused. */
+  boot({ play: plays, ...asked }) {
     playing = false;
     no_more();
-    faults = [];
-    made = new Made();
-    Object.assign(wanted, { edits: -1, pid: 1 });
-    const before = performance.now(), refusal = run.boot(config, files);
-    if (refusal !== null) { postMessage({ refusal }); return; }
-    if (how) settings = { ...settings, ...how };
-    plan = new Plan(run, settings);
-    plan.keys = keys ? [...keys] : [];
-    stopped = "";
-    postMessage({ booted: { files: files.map((it) => it.name), config, took: performance.now() - before, settings } });
+    if (!boot(asked)) return;
     if (plays) begin_play();
     view();
   },
@@ -396,29 +472,32 @@ const obey = {
   finish({ rounds }) { finish(rounds); postMessage({ finished: true }); },
   keys({ bytes }) {
     if (!run || !run.booted) return;
-    if (run.is_past) { run.cut(); plan.find(); }
-    plan.keys.push(...bytes);
-    plan.is_idle = false;
-    if (playing) { no_more(); play(); }
+    if (run.is_past) cut_off();
+    plan.type(bytes);
+    if (playing) { no_more(); play(); } else view();
   },
+  take_back,
   look(it) { Object.assign(wanted, it); next_whole = 0; if (!playing) view(); },
   settings(it) {
     settings = { ...settings, ...it };
-    if (plan) { const { keys } = plan; plan = new Plan(run, settings); plan.keys = keys; }
+    if (plan) { const { keys, given } = plan; plan = new Plan(run, settings, keys); plan.given = given; }
     slice_from = performance.now();
     owed = 0;
   },
   breaks({ list }) { breaks = list; },
   assemble({ text, id }) { postMessage({ assembled: { id, ...machine.assemble(text) } }); },
   record() { postMessage({ record: { config: run.config, files: run.files.map(({ name, bytes }) => ({ name, bytes })), spans: run.line.spans() } }); },
-  /** Plays a record: its events, one by one. */
-  replay({ config, files, spans }) {
-    obey.boot({ config, files, how: {} });
-    for (const [event, byte, count] of spans) {
-      if (event === EVENT.RUN) for (let left = count; left > 0; ) { const { sent, last } = run.run(Math.min(left, MOST)); heard(last); left -= sent; }
-      else for (let k = 0; k < count; k++) run.send(event, byte);
-    }
+  /** Plays a record: its events, one by one. Then it goes to a place of it, and plays on, if that is wanted. */
+  replay({ spans, keys = [], at = null, play: plays = false, ...asked }) {
+    playing = false;
+    no_more();
+    if (!boot(asked)) return;
+    send_again(spans);
     plan.find();
+    plan.type(keys);
+    if (at !== null) run.go(at);
+    postMessage({ replayed: { end: run.end, stretches: run.line.length, shown: run.shown.length } });
+    if (plays) begin_play();
     view();
   },
   bench({ rounds, quantum }) {

@@ -1,12 +1,12 @@
 // Exercises 13 and 14 of the course, done in an open page by its buttons and read off its panels, as a student does
 // them. What comes out is compared with the numbers of docs/COURSE-ANSWERS.md.
 const text = (page, id) => page.eval(`document.getElementById('${id}').textContent`);
-const at = (page) => page.eval("page.app.view.at");
+const at = (page) => page.eval("page.app.view?.at");
 
 async function press(page, button) {
   const before = await at(page);
   await page.click(button);
-  await page.until(`page.app.view.at !== ${before} && !page.app.view.playing`);
+  await page.until(`page.app.view?.at !== ${before} && !page.app.view?.playing`);
   await page.sleep(60);
 }
 const call = (page) => press(page, "[data-step=call]");
@@ -20,14 +20,14 @@ async function choose(page, id, value) {
 }
 
 async function pause(page) {
-  if (await page.eval("page.app.view.playing")) await page.click("#play");
-  await page.until("!page.app.view.playing");
+  if (await page.eval("page.app.view?.playing")) await page.click("#play");
+  await page.until("!page.app.view?.playing");
 }
 
 async function to_the_beginning(page) {
   await page.eval("document.getElementById('slider').focus()");
   await page.key("Home");
-  await page.until("page.app.view.at === 0");
+  await page.until("page.app.view?.at === 0");
   await page.sleep(150);
 }
 
@@ -50,7 +50,7 @@ const in_pipe = async (page) => Number(/(\d+) of 2048 bytes/.exec(await text(pag
 async function boots_and_ends(page, status) {
   await page.eval("window.is_booted = false; page.on('booted', () => { window.is_booted = true; })");
   await page.click("#boot");
-  const ended = `window.is_booted && page.app.view.facts.halted && page.app.view.facts.status === ${status}`;
+  const ended = `window.is_booted && page.app.view?.facts.halted && page.app.view?.facts.status === ${status}`;
   await page.until(ended, 10000).catch(() => {});
   await pause(page);
   return page.eval(ended);
@@ -100,7 +100,7 @@ async function edit(page, from, to) {
 /** Exercise 13; it answers the link that is handed in. */
 export async function full(page, holds, folder) {
   await choose(page, "example", "full");
-  await page.until("page.app.view.facts.halted && page.app.view.facts.status === 12");
+  await page.until("page.app.view?.facts.halted && page.app.view?.facts.status === 12");
   await pause(page);
   holds(true, "exercise 13: twelve reads bring bytes");
   await to_the_beginning(page);
@@ -152,9 +152,9 @@ async function no_stops(page) {
 async function next_cost(page, before) {
   const here = await at(page);
   await page.click("#play");
-  await page.until(`page.app.view.at > ${here} && !page.app.view.playing`);
+  await page.until(`page.app.view?.at > ${here} && !page.app.view?.playing`);
   // The view is there before it is drawn.
-  await page.until("document.getElementById('clock').textContent.startsWith(`event ${page.app.view.at.toLocaleString('en')} `)");
+  await page.until("document.getElementById('clock').textContent.startsWith(`event ${page.app.view?.at.toLocaleString('en')} `)");
   const [, name] = /last: process \d+: (\w+) answers/.exec(await text(page, "clock"));
   return `${name} ${(await in_use(page)) - before}`;
 }

@@ -11,7 +11,7 @@ mkdirSync(folder, { recursive: true });
 let bad = 0;
 const holds = (is, what) => { console.log(`${is ? "  " : "NOT"} ${what}`); if (!is) bad++; };
 const screen = (page) => page.eval("document.getElementById('screen').textContent");
-const at = (page) => page.eval("page.app.view.at");
+const at = (page) => page.eval("page.app.view?.at");
 const shows = (page, text) => page.until(`document.getElementById('screen').textContent.includes(${JSON.stringify(text)})`).then(() => holds(true, `the terminal shows ${JSON.stringify(text)}`), () => holds(false, `the terminal shows ${JSON.stringify(text)}`));
 
 async function session(page) {
@@ -30,26 +30,26 @@ async function session(page) {
 
 async function time(page) {
   await page.key("c", { control: true });
-  await page.until("!page.app.view.playing");
+  await page.until("!page.app.view?.playing");
   const end = await at(page);
   await page.eval("document.getElementById('play').focus()");
   await page.key("S", { shift: true });
-  await page.until(`page.app.view.at < ${end}`);
+  await page.until(`page.app.view?.at < ${end}`);
   holds(true, "a step back");
-  for (let k = 0; k < 5; k++) { const before = await at(page); await page.key("C", { shift: true }); await page.until(`page.app.view.at < ${before}`); }
+  for (let k = 0; k < 5; k++) { const before = await at(page); await page.key("C", { shift: true }); await page.until(`page.app.view?.at < ${before}`); }
   const back = await at(page);
   holds(back < end, `five calls back: from ${end} to ${back}`);
   await page.key("c");
-  await page.until(`page.app.view.at > ${back}`);
+  await page.until(`page.app.view?.at > ${back}`);
   holds(true, "a call forward");
   await page.eval("page.ask('go', { place: Math.floor(page.app.line.end / 3) })");
   await page.sleep(500);
-  const regs = await page.eval("String(page.app.view.registers)");
+  const regs = await page.eval("String(page.app.view?.registers)");
   await page.eval("page.ask('step', { what: 'one', back: false })");
   await page.sleep(400);
   await page.eval("page.ask('step', { what: 'one', back: true })");
   await page.sleep(400);
-  holds((await page.eval("String(page.app.view.registers)")) === regs, "forward and back gives the same registers");
+  holds((await page.eval("String(page.app.view?.registers)")) === regs, "forward and back gives the same registers");
   await page.picture(`${folder}/past.png`);
 }
 
@@ -59,7 +59,7 @@ async function panels(page, name) {
 
 async function programs(page) {
   await page.eval("page.programs.choose('pipeline'); page.programs.boot({ play: false })");
-  await page.until("page.app.booted.files[0].text && page.app.view.at === 0");
+  await page.until("page.app.booted.files[0].text && page.app.view?.at === 0");
   for (let k = 0; k < 12; k++) { await page.eval("page.ask('step', { what: 'event', back: false })"); await page.sleep(60); }
   await panels(page, "pipeline");
   await page.eval("(() => { const it = document.getElementById('source'); it.value = it.value.replace('ecall', 'beqz a0, x'); it.dispatchEvent(new Event('input')); })()");
@@ -81,8 +81,8 @@ async function keys(page) {
   await page.eval("(() => { const data = new DataTransfer(), it = document.getElementById('file'); data.items.add(new File(['# none\\n  li a0, 5\\n  li a7, 2\\n  ecall\\n'], 'init.s')); it.files = data.files; it.dispatchEvent(new Event('change')); })()");
   await page.until("page.app.files.some((it) => it.text?.includes('li a0, 5'))");
   await page.click("#boot");
-  await page.until("page.app.view.facts.halted && page.app.view.facts.status === 5").catch(() => {});
-  holds(await page.eval("page.app.view.facts.status === 5"), "a source that was chosen runs");
+  await page.until("page.app.view?.facts.halted && page.app.view?.facts.status === 5").catch(() => {});
+  holds(await page.eval("page.app.view?.facts.status === 5"), "a source that was chosen runs");
   await page.eval("document.getElementById('source').focus(); document.getElementById('source').setSelectionRange(9, 9)");
   await page.key("F9");
   holds((await message(page)) === "A break point at line 2" && (await page.eval("document.getElementById('break-list').childElementCount === 1 && document.querySelectorAll('.gutter .stop').length === 1")), "F9 sets a break point at a line");
@@ -100,7 +100,7 @@ async function keys(page) {
   await page.key("ArrowLeft");
 }
 
-const boots = (page, words) => page.eval(`${words}; page.programs.boot({ play: false })`).then(() => page.until("page.app.view.at === 0 && page.app.booted.files[0].from === page.app.files[0]"));
+const boots = (page, words) => page.eval(`${words}; page.programs.boot({ play: false })`).then(() => page.until("page.app.view?.at === 0 && page.app.booted.files[0].from === page.app.files[0]"));
 
 /** Goes on by an event, and waits until it is drawn. */
 async function one(page) {
@@ -119,8 +119,8 @@ async function signs(page, name) {
   await page.picture(`${folder}/${name}-sign-pages.png`, { full: true });
   await page.eval("show_tab('instruction')");
   await boots(page, "page.programs.set_files([{ name: 'init.s', text: '  li a0, 5\\n  sb a0, -8(sp)\\n' }])");
-  for (let k = 0; k < 9 && (await page.eval("page.app.view.next == null")); k++) await one(page);
-  await page.eval("page.ask('look', { memory: page.app.view.next & ~15n })");
+  for (let k = 0; k < 9 && (await page.eval("page.app.view?.next == null")); k++) await one(page);
+  await page.eval("page.ask('look', { memory: page.app.view?.next & ~15n })");
   await page.until("document.querySelector('#memory i')?.textContent.includes('>')").catch(() => {});
   holds(await page.eval("!!document.querySelector('#memory i')?.textContent.includes('>')"), `${name}: the memory that is next has a sign`);
   await page.picture(`${folder}/${name}-sign-memory.png`, { full: true });
@@ -130,7 +130,7 @@ async function signs(page, name) {
 async function share(page) {
   await page.eval("page.programs.choose('hello'); page.programs.boot()");
   await shows(page, "hi\n");
-  const link = await page.eval("page.programs.link()");
+  const link = await page.eval("page.sharing.link()");
   await page.eval("document.getElementById('share').click()");
   await page.sleep(400);
   await page.picture(`${folder}/share.png`);
@@ -140,13 +140,13 @@ async function share(page) {
   await other.eval("(() => { const data = new DataTransfer(); data.items.add(new File(['  li a0, 7\\n  li a7, 2\\n  ecall\\n'], 'init.s')); document.body.dispatchEvent(new DragEvent('drop', { dataTransfer: data, bubbles: true, cancelable: true })); })()");
   await other.until("page.app.files.some((it) => it.text?.includes('li a0, 7'))");
   await other.click("#boot");
-  await other.until("page.app.view.facts.halted && page.app.view.facts.status === 7").catch(() => {});
-  holds(await other.eval("page.app.view.facts.status === 7"), "a dropped source runs");
-  const record = await other.eval("page.programs.record_text()"), end = await other.eval("page.app.line.end");
+  await other.until("page.app.view?.facts.halted && page.app.view?.facts.status === 7").catch(() => {});
+  holds(await other.eval("page.app.view?.facts.status === 7"), "a dropped source runs");
+  const record = await other.eval("page.sharing.record_text()"), end = await other.eval("page.app.line.end");
   await other.eval("page.ask('go', { place: 0 })");
   await other.eval(`page.programs.take([new File([${JSON.stringify(record)}], 'run.txt')])`);
   await other.sleep(600);
-  holds(record.startsWith("xv record 1\nframes 4096\nprogram ") && (await other.eval("page.app.line.end")) === end && (await other.eval("page.app.view.at")) === end, "a record is played again");
+  holds(record.startsWith("xv record 1\nframes 4096\nprogram ") && (await other.eval("page.app.line.end")) === end && (await other.eval("page.app.view?.at")) === end, "a record is played again");
   await other.close();
 }
 
@@ -206,8 +206,8 @@ try {
   await signs(page, "light");
   await lessons(page);
   const other = await open(await full(page, holds, folder));
-  await other.until("page.app.view.facts.halted && page.app.view.facts.status === -1").catch(() => {});
-  holds(await other.eval("page.app.view.facts.status === -1"), "exercise 13: who follows its link has the changed program");
+  await other.until("page.app.view?.facts.halted && page.app.view?.facts.status === -1").catch(() => {});
+  holds(await other.eval("page.app.view?.facts.status === -1"), "exercise 13: who follows its link has the changed program");
   await other.close();
   await sieve(page, holds, folder);
   await share(page);

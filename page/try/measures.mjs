@@ -11,7 +11,7 @@ export async function first(page) {
 async function boots(page, source) {
   const files = JSON.stringify([{ name: "init.s", text: source }]);
   await page.eval(`page.programs.set_files(${files}); page.programs.boot({ play: false })`);
-  await page.until("page.app.view.at === 0 && page.app.booted.files.length === 1");
+  await page.until("page.app.view?.at === 0 && page.app.booted.files.length === 1");
 }
 
 const LOOP = `  lui t0, 0x8000
@@ -82,7 +82,7 @@ export async function crowd(page, seconds = 5) {
   await page.sleep(seconds * 1000);
   const seen = await page.eval(`({
     frames: window.frames_seen, longest: window.longest, stretches: page.app.line.length,
-    processes: page.app.view.processes.length, events: page.app.line.end,
+    processes: page.app.view?.processes.length, events: page.app.line.end,
   })`);
   seen.frames = (seen.frames * 1000) / (Date.now() - began);
   await page.eval("window.no_more_frames = true; page.ask('pause')");

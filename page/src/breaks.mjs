@@ -1,0 +1,86 @@
+// Break points: those at lines stand with their files, and the others, at labels, addresses, calls and stores, with the work. Each belongs
+// to a program, and counts while the machine has it.
+import { $, app, ask, element, on, say, tell } from "./app.mjs";
+import { is_source } from "./kinds.mjs";
+import { nearest } from "./stops.mjs";
+import { all_calls, call_name, call_number } from "./calls.mjs";
+import { hex } from "./words.mjs";
+import { touch } from "./works.mjs";
+
+const ADDRESS = /^(0x[0-9a-f]+|\d+)$/i;
+
+const place_of = (booted, program) => booted?.files.findIndex((it) => it.name === program) ?? -1;
+const label_of = (booted, place, name) => booted?.symbols[place]?.names.find((it) => it.name === name)?.address ?? null;
+
+/** The address of a line of a file in a machine, which may have the file as it was before it was edited. */
+function address_of_line(booted, file, { line, text }) {
+  const place = booted?.files.findIndex((it) => it.from === file) ?? -1, had = booted?.files[place]?.text;
+  if (had === undefined) return null;
+  const there = had === file.text ? line : nearest(had.split("\n"), text, line);
+  const address = booted.symbols[place].lines.find((it) => it.line === there)?.start;
+  return address === undefined ? null : { place, address };
+}
+
+/** A break point as it is shown and as the worker takes it; `sent` is null while it doesn't count. */
+function of_line(booted, file, stop) {
+  const found = address_of_line(booted, file, stop), words = `${file.name}, line ${stop.line}`;
+  return { words, sent: found && { kind: "address", address: found.address, program: found.place, name: `line ${stop.line} of ${file.name}` }, gone: () => { file.stops = file.stops.filter((it) => it !== stop); tell("stops", file); } };
+}
+
+function of_work(booted, it) {
+  const { kind, name, program } = it, gone = () => { app.work.breaks = app.work.breaks.filter((other) => other !== it); touch(); show(); };
+  if (kind === "call") { const number = number_of_call(name); return { words: `call ${call_name(number)}`, sent: { kind, number, name, program: null }, gone }; }
+  const place = program === null ? null : place_of(booted, program), address = ADDRESS.test(name) ? BigInt(name) : label_of(booted, place, name);
+  const words = `${kind === "store" ? "store to" : "at"} ${name}${address === null || ADDRESS.test(name) ? "" : " " + hex(address)}${program === null ? "" : ` in ${program}`}`;
+  return { words, sent: address === null || place === -1 ? null : { kind, address, name, program: place }, gone };
+}
+
+const all = (booted) => [...app.files.filter(is_source).flatMap((file) => (file.stops ?? []).map((stop) => of_line(booted, file, stop))), ...app.work.breaks.map((it) => of_work(booted, it))];
+/** Those that count in a machine, as the worker takes them. */
+export const counting = (booted) => all(booted).flatMap((it) => it.sent ?? []);
+
+/** Lists the break points, and sends those that count. */
+function show() {
+  const found = all(app.booted);
+  if (app.booted) ask("breaks", { list: counting(app.booted) });
+  $("break-count").textContent = found.length || "";
+  $("break-list").replaceChildren(...found.map((it) => element("li", {}, element("span", { class: it.sent ? "" : "dim" }, it.words, it.sent ? "" : ": not in this machine"), element("button", { "aria-label": `Take away: ${it.words}`, onclick: it.gone }, "✕"))));
+}
+
+const number_of_call = (name) => Number(call_number(name) ?? name);
+
+/** The programs of the machine, by their places: first the one that is looked at. */
+function places() {
+  const { view } = app, looked_at = view?.ended?.program ?? view?.processes?.find((it) => it.pid === view.pid)?.program;
+  return [...new Set([...(looked_at ?? null) === null ? [] : [looked_at], ...(app.booted?.files.keys() ?? [])])];
+}
+
+/** The break point that is asked for: {kind, name, program}; or words that say what is wrong. */
+function meant(kind, name) {
+  if (kind === "call") return number_of_call(name) >= 0 ? { kind, name, program: null } : `No such call: ${name}. Write its name, as write, or its number`;
+  const place = places().find((it) => ADDRESS.test(name) || label_of(app.booted, it, name) !== null);
+  if (place === undefined) return `No such label: ${name}. Write a label of a program, or an address, as 0x10`;
+  return { kind, name, program: app.booted.files[place].name };
+}
+
+function add() {
+  const name = $("break-where").value.trim();
+  if (!name) return;
+  const it = meant($("break-kind").value, name);
+  if (typeof it === "string") { say(it); return; }
+  app.work.breaks = [...app.work.breaks, it];
+  $("break-where").value = "";
+  touch();
+  show();
+}
+
+export function start() {
+  $("break-add").addEventListener("click", add);
+  $("break-where").addEventListener("keydown", (event) => { if (event.key === "Enter") add(); });
+  on("booted", () => {
+    $("labels").replaceChildren(...app.symbols.flatMap((it) => it.names.map(({ name }) => element("option", { value: name }))), ...all_calls().map((name) => element("option", { value: name })));
+    show();
+  });
+  on("work", show);
+  on("stops", () => { touch(); show(); });
+}

@@ -1,0 +1,35 @@
+// A deadlock: whether nobody can go on, and in which calls all of them sleep.
+import { app, program_name } from "./app.mjs";
+import { KIND } from "./machine.mjs";
+import { call_name } from "./calls.mjs";
+
+const ENDS = { read: 3, write: 4 }; // the kind of a descriptor that a call waits for, if that is a pipe's end
+
+/** Whether a process can be woken by other processes alone: it waits for a child, or for an end of a pipe. */
+function needs_others({ pid, asleep, marked, call }, { descriptors }) {
+  if (!asleep || marked || !call) return false;
+  const name = call_name(call.number), end = ENDS[name];
+  if (name === "wait") return true;
+  const fd = Number(call.words[0] & 0xffffffffn);
+  return end !== undefined && descriptors.some((it) => it.pid === pid && it.fd === fd && it.kind === end);
+}
+
+/** The processes that live, if each of them sleeps until another one does something: nobody can go on. Else null. */
+export function stuck() {
+  const { view } = app, live = view?.processes?.filter((it) => it.lives) ?? [];
+  if (!view?.files || !live.length || view.facts.halted) return null;
+  return live.every((it) => needs_others(it, view.files)) ? live : null;
+}
+
+/** `process 2 (sh) sleeps in read` of each, in words. */
+export const stuck_words = (list) => `nobody can go on: ${list.slice(0, 4).map((it) => `${it.pid} (${program_name(it.program)}) sleeps in ${call_name(it.call.number)}`).join(", ")}${list.length > 4 ? `, and ${list.length - 4} more` : ""}`;
+
+/** The process whose sleep tells most: one that waits for a pipe, before those that wait for children. */
+export const first_of = (list) => list.find((it) => call_name(it.call.number) !== "wait") ?? list[0];
+
+/** The place of the event by which a process fell asleep; null where the record doesn't have it. */
+export function place_of_sleep(pid) {
+  const { line, view } = app, own = line.work_of.get(pid) ?? [];
+  for (let k = own.length - 1; k >= 0; k--) if (line.kind[own[k]] === KIND.WAIT && line.at[own[k]] < view.at) return line.at[own[k]];
+  return null;
+}
