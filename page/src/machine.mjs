@@ -94,8 +94,8 @@ export class Machine {
 
   /** Boots a machine; files: [{name, bytes}]. Answers null, or why there is none: then the machine before stays. */
   boot(config, files) {
-    const { calls, bytes, data, session, programs, told, room, at, room_at } = this;
-    const put_back = () => Object.assign(this, { calls, bytes, data, session, programs, told, room, at, room_at });
+    const { calls, bytes, data, session, programs, table, told, room, at, room_at } = this;
+    const put_back = () => Object.assign(this, { calls, bytes, data, session, programs, table, told, room, at, room_at });
     try {
       this.fresh();
       const refusal = this.boot_fresh(config, files);
