@@ -109,11 +109,10 @@ export RELEASE=$room/$name
 TEACHER=$room/teacher/$name
 mkdir -p "$RELEASE" "$TEACHER"
 
-# What the commit holds of it, and of the page's own files those that the programs for Node share.
-mapfile -t shared < <(git grep -hoE 'page/src/[a-z_]+\.mjs' HEAD -- xv.mjs 'anywhere/*.mjs' | sort -u)
+# What the commit holds of it.
 git archive HEAD xv xv.mjs xv.cmd package.json anywhere README.md CONTRIBUTING.md LICENSE VERSION CHANGELOG.md docs programs \
-    page/nektavoly.html "${shared[@]}" checks/sessions checks/why checks/terminal checks/debugger checks/gdb checks/gdb.sh checks/grading \
-    checks/programs.sh |
+    page/nektavoly.html checks/sessions checks/why checks/terminal checks/debugger checks/gdb checks/gdb.sh checks/grading \
+    checks/programs.sh checks/parts.sh |
     tar -x -C "$RELEASE"
 mv "$RELEASE/docs/html" "$room/html"
 # What makes and tries the modules is of no use without the crates.

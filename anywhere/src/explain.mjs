@@ -1,9 +1,13 @@
 // --explain: reads a trace from standard input and says its lines in words, as programs/host/explain.sh does. Instructions one
 // behind another are one line, and so are Runs in which nobody may run; a Send that finds no byte is left out. Lines that are
 // none of a trace are handed on. With words it runs programs and tells each event: xv_why --explain.
+import { readFileSync } from "node:fs";
 import { why } from "./reports.mjs";
 import { by_lines, read_some, write_all } from "./streams.mjs";
-import { call_name } from "../../page/src/words.mjs";
+
+/** The names of the calls by their numbers, as texts. */
+const CALLS = new Map(readFileSync(new URL("../../programs/host/calls.txt", import.meta.url), "latin1").trim().split("\n").map((line) => line.trim().split(" ")));
+const call_name = (number) => CALLS.get(number) ?? `call ${number}`;
 
 const CAUSES = {
   0: "a jump to an address that is no multiple of 4",

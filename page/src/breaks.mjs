@@ -3,7 +3,8 @@
 import { $, app, ask, element, on, say, tell } from "./app.mjs";
 import { is_source } from "./kinds.mjs";
 import { nearest } from "./stops.mjs";
-import { CALLS, call_name, hex } from "./words.mjs";
+import { all_calls, call_name, call_number } from "./calls.mjs";
+import { hex } from "./words.mjs";
 import { touch } from "./works.mjs";
 
 const ADDRESS = /^(0x[0-9a-f]+|\d+)$/i;
@@ -16,7 +17,7 @@ function address_of_line(booted, file, { line, text }) {
   const place = booted?.files.findIndex((it) => it.from === file) ?? -1, had = booted?.files[place]?.text;
   if (had === undefined) return null;
   const there = had === file.text ? line : nearest(had.split("\n"), text, line);
-  const address = booted.symbols[place].lines.find((it) => it.line === there)?.address;
+  const address = booted.symbols[place].lines.find((it) => it.line === there)?.start;
   return address === undefined ? null : { place, address };
 }
 
@@ -46,7 +47,7 @@ function show() {
   $("break-list").replaceChildren(...found.map((it) => element("li", {}, element("span", { class: it.sent ? "" : "dim" }, it.words, it.sent ? "" : ": not in this machine"), element("button", { "aria-label": `Take away: ${it.words}`, onclick: it.gone }, "✕"))));
 }
 
-const number_of_call = (name) => Number(Object.entries(CALLS).find(([, it]) => it === name)?.[0] ?? name);
+const number_of_call = (name) => Number(call_number(name) ?? name);
 
 /** The programs of the machine, by their places: first the one that is looked at. */
 function places() {
@@ -77,7 +78,7 @@ export function start() {
   $("break-add").addEventListener("click", add);
   $("break-where").addEventListener("keydown", (event) => { if (event.key === "Enter") add(); });
   on("booted", () => {
-    $("labels").replaceChildren(...app.symbols.flatMap((it) => it.names.map(({ name }) => element("option", { value: name }))), ...Object.values(CALLS).map((name) => element("option", { value: name })));
+    $("labels").replaceChildren(...app.symbols.flatMap((it) => it.names.map(({ name }) => element("option", { value: name }))), ...all_calls().map((name) => element("option", { value: name })));
     show();
   });
   on("work", show);

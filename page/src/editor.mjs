@@ -1,7 +1,7 @@
 // The editor of a source: lines with numbers, words coloured, the refused line marked, the line of the pc, and break points
 // beside the lines. Only the lines that are seen are coloured and numbered, so a key costs the same in a long source.
 import { $, app, ask, on, say, tell } from "./app.mjs";
-import { layout_of, line_at, parts_of } from "./symbols.mjs";
+import { line_at, places_of } from "./symbols.mjs";
 import { is_elf, is_source } from "./kinds.mjs";
 import { mistake_words } from "./refused.mjs";
 import { moved } from "./stops.mjs";
@@ -16,6 +16,18 @@ const state = { file: null, lines: [""], asked: 0, mistake: null, places: null, 
 
 const escape = (text) => text.replace(/[&<>]/g, (it) => ({ "&": "&amp;", "<": "&lt;", ">": "&gt;" })[it]);
 const REGISTER = /\b(x[12]?\d|x3[01]|zero|ra|sp|gp|tp|t[0-6]|s\d|s1[01]|fp|a[0-7])\b|(-?\b(?:0x[0-9a-fA-F]+|\d+)\b)|("(?:[^"\\]|\\.)*"?)/g;
+
+/** A line's parts: its label, its word and where the comment begins. */
+function parts_of(line) {
+  let end = line.length, quoted = false;
+  for (let k = 0; k < line.length; k++) {
+    if (quoted && line[k] === "\\") k++;
+    else if (line[k] === '"') quoted = !quoted;
+    else if (line[k] === "#" && !quoted) { end = k; break; }
+  }
+  const [, label = "", word = ""] = /^\s*(?:([A-Za-z_]\w*):)?\s*([\w.]*)/.exec(line.slice(0, end)) || [];
+  return { label, word, end };
+}
 
 /** A line with its words coloured. */
 export function coloured(line) {
@@ -206,7 +218,7 @@ function edited() {
 function told(it) {
   if (it.id !== state.asked) return;
   state.mistake = it.file ? null : it;
-  take_places(it.file ? layout_of(state.file.text) : null);
+  take_places(it.file ? places_of(state.file.text, it) : null);
   if (it.file) said(`assembles: ${it.file.length} bytes`, "good");
   else said(mistake_words(it, state.file.text ?? ""), "bad");
   draw();

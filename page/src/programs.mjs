@@ -1,6 +1,6 @@
 // The files of the machine: the list of a work's files, examples by name, files that are opened or dropped, the machine's settings; boot.
 import { $, app, ask, element, on, say, tell } from "./app.mjs";
-import { functions_of, layout_of } from "./symbols.mjs";
+import { functions_of, places_of } from "./symbols.mjs";
 import { is_elf, is_source } from "./kinds.mjs";
 import { MOST_BYTES, boot_words, files_refused, mistake_words, too_large } from "./refused.mjs";
 import { add, bring_back, bytes_of_file, forget_work, is_changed, own_names, put, put_away, ship_anew, title_of, touch, work_of } from "./works.mjs";
@@ -175,7 +175,7 @@ export async function made_of(file) {
   if (file.text === undefined) return of_bytes(file.name, bytes_of_file(file), file);
   if (!is_source(file)) return of_bytes(file.name, new TextEncoder().encode(file.text), file);
   const { text } = file, made = await assembled(text);
-  return made.file ? { name: file.name.slice(0, -2), bytes: made.file, from: file, text, symbols: layout_of(text) } : { from: file, mistake: mistake_words(made, text) };
+  return made.file ? { name: file.name.slice(0, -2), bytes: made.file, from: file, text, symbols: places_of(text, made) } : { from: file, mistake: mistake_words(made, text) };
 }
 
 /** If no file is called init, the only program is. It tells the words for that, or nothing. */

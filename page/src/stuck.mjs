@@ -1,7 +1,7 @@
 // A deadlock: whether nobody can go on, and in which calls all of them sleep.
 import { app, program_name } from "./app.mjs";
 import { KIND } from "./machine.mjs";
-import { call_name } from "./words.mjs";
+import { call_name } from "./calls.mjs";
 
 const ENDS = { read: 3, write: 4 }; // the kind of a descriptor that a call waits for, if that is a pipe's end
 

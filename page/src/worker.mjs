@@ -455,7 +455,7 @@ const obey = {
   module({ bytes }) {
     machine = new Machine(new WebAssembly.Module(bytes));
     run = new Run(machine);
-    postMessage({ ready: true });
+    postMessage({ ready: [...machine.kernel_calls] });
   },
   /** Boots a machine; `id` tells the page of which of its boots it hears. The machine before stays if this one is refused. */
   boot({ play: plays, ...asked }) {

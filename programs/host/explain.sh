@@ -5,11 +5,13 @@
 #
 #   ./xv --quantum 20 --trace 100 programs/examples/fork/init.s </dev/null 2>&1 | ./xv --explain
 #
-# With words it runs programs, and tells each event as it comes: why.sh --explain.
-[ $# = 0 ] || exec "$(dirname "$(readlink -f -- "$0")")/why.sh" --explain "$@"
-exec awk '
+# With words it runs programs, and tells each event as it comes: why.sh --explain. The names of calls are those of calls.txt.
+here=$(dirname "$(readlink -f -- "$0")")
+[ $# = 0 ] || exec "$here/why.sh" --explain "$@"
+CALLS=$here/calls.txt exec awk '
 BEGIN {
-    split("fork exit wait pipe read kill exec 8 9 dup getpid sbrk sleep uptime open write 17 18 19 20 close sbrklazy", name, " ")
+    while ((getline line < ENVIRON["CALLS"]) > 0)
+        if (split(line, word, " ") == 2) name[word[1]] = word[2]
     cause[0] = "a jump to an address that is no multiple of 4"
     cause[2] = "a word that is no instruction"
     cause[3] = "ebreak"
@@ -21,7 +23,7 @@ BEGIN {
 }
 
 function call(number) {
-    return number in name && name[number] !~ /[0-9]/ ? name[number] : "call " number
+    return number in name ? name[number] : "call " number
 }
 
 function letter(byte) {
