@@ -20,6 +20,14 @@ status_of (Ok (Halted status)) = exit_status status
 status_of (Ok RoundsOver) = 4
 status_of (Err e) = 5
 
+-- the exit status if words give no settings: help was shown, or they are refused, or help couldn't be written
+abbrev pub IsWordsStatus : ℕ → Type 0
+IsWordsStatus status = (status ≡ 0) ⊎ (status ≡ 1) ⊎ (status ≡ 5)
+
+-- the same, or the host has too little memory for the words
+abbrev pub IsHostWordsStatus : ℕ → Type 0
+IsHostWordsStatus status = (status ≡ 2) ⊎ IsWordsStatus status
+
 -- what a source and a sink tell of themselves, and how many of their calls have failed
 pub record Devices : Type 0 where
   pub source : Source
