@@ -7,13 +7,15 @@
 //! before it is sent. To go back is to boot anew and to send the events up to an earlier place; to go on from there
 //! sends the same events again. What GDB sees of registers and memory is the machine's, and nothing that it asks for
 //! changes it.
+ghost use Rattle.program_files.specs.Statuses.{IsPlainStatus};
+
 mod command_line;
 mod link;
 mod serving;
 
 use crate::played::Played;
 use crate::rounds::Rounds;
-use crate::service::command_line::{Settings, read_settings};
+use crate::service::command_line::{Settings, settings};
 use crate::service::serving::Service;
 use crate::target::Target;
 use program_files::statuses::DONE;
@@ -93,7 +95,9 @@ fn serve<'a>(rt: &HostRuntime, settings: &'a Settings) -> Result<(), Failure<'a>
 }
 
 /// Does what the settings say, and gives the exit status.
-fn serve_to_end(rt: &HostRuntime, settings: &Settings) -> u8 {
+fn serve_to_end(rt: &HostRuntime, settings: &Settings) -> u8
+    ensures { IsPlainStatus result }
+{
     match serve(rt, settings) {
         Ok(()) => DONE,
         Err(failure) => failure.close(NAME, &mut rt.stderr()),
@@ -101,8 +105,10 @@ fn serve_to_end(rt: &HostRuntime, settings: &Settings) -> u8 {
 }
 
 /// Serves GDB by the programs that the words of a command line name, and gives the exit status.
-pub fn serve_gdb<W: Env + AllocGlobal>(rt: &HostRuntime, words: &W) -> u8 {
-    match read_settings(words) {
+pub fn serve_gdb<W: Env + AllocGlobal>(rt: &HostRuntime, words: &W) -> u8
+    ensures { IsPlainStatus result }
+{
+    match settings(words) {
         Ok(settings) => serve_to_end(rt, &settings),
         Err(error) => error.close(NAME, &mut rt.stdout(), &mut rt.stderr()),
     }

@@ -6,6 +6,8 @@
 //! events that the machine got, and how many Runs there are at most, is `IsRunOf` in `specs/Plays.antt`.
 #![tactic(auto)]
 
+ghost use Rattle.program_files.specs.Statuses.{IsPlainStatus};
+
 mod command_line;
 mod exercise_file;
 mod grading;
@@ -15,7 +17,7 @@ mod reasons;
 mod results;
 mod submission;
 
-pub use command_line::{Settings, read_words};
+pub use command_line::{Settings, settings};
 pub use exercise_file::show_files;
 pub use grading::grade_submission;
 use program_files::Failure;
@@ -36,12 +38,14 @@ fn grade(rt: &HostRuntime, settings: &Settings) -> Result<(), Failure<'static>> 
 
 /// Grades the submission that the words of a command line name, or shows what they ask for of an exercise, and gives the
 /// exit status.
-pub fn grade_by_words<W: Env + AllocGlobal>(rt: &HostRuntime, words: &W) -> u8 {
+pub fn grade_by_words<W: Env + AllocGlobal>(rt: &HostRuntime, words: &W) -> u8
+    ensures { IsPlainStatus result }
+{
     let Ok(words) = program_files::words(words) else {
         let _ = writeln!(rt.stderr(), "{NAME}: a word is not UTF-8 text");
         return WORDS_REFUSED;
     };
-    let settings = match read_words(rt.alloc(), words.as_slice()) {
+    let settings = match settings(rt.alloc(), words.as_slice()) {
         Ok(settings) => settings,
         Err(error) => return error.close(NAME, &mut rt.stdout(), &mut rt.stderr()),
     };

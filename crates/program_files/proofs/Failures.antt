@@ -5,7 +5,7 @@ use Rattle.xk_base.specs.declared.errors.BootError.{BootError}
 use Rattle.xk_base.specs.declared.errors.BootError.TheVariants as boots
 use Rattle.xv_session.specs.declared.session.SessionError.{SessionError}
 use Rattle.xv_session.specs.declared.session.SessionError.TheVariants as sessions
-use Rattle.program_files.specs.declared.failure.Failure.TheVariants.{Boot, OutOfMemory, TooManyEvents, Read, Write, Clock, Record, Name}
+use Rattle.program_files.specs.declared.failure.Failure.TheVariants.{Boot, OutOfMemory, TooManyEvents, Read, Write, Clock, RecordUnwritten, UnrecordableName}
 use Rattle.program_files.specs.Failures.{failure_status, failure_of_boot, failure_of_session}
 
 -- a boot that is refused is told by 2
@@ -26,7 +26,7 @@ failure_status-session sessions.Full = refl
 given : map failure_status (Boot boots.NoInit ∷ OutOfMemory ∷ TooManyEvents ∷ []) ≡ 2 ∷ 2 ∷ 2 ∷ []
 given = refl
 
-devices : map failure_status (Read ∷ Write ∷ Clock ∷ Record ∷ Name ∷ []) ≡ 5 ∷ 5 ∷ 5 ∷ 5 ∷ 5 ∷ []
+devices : map failure_status (Read ∷ Write ∷ Clock ∷ RecordUnwritten ∷ UnrecordableName ∷ []) ≡ 5 ∷ 5 ∷ 5 ∷ 5 ∷ 5 ∷ []
 devices = refl
 
 -- too little memory for a boot is told as such, and any other refusal by its name

@@ -5,7 +5,7 @@ use Rattle.xk_base.specs.declared.errors.BootError.TheVariants as boots
 use Rattle.xv_session.specs.declared.session.SessionError.{SessionError}
 use Rattle.xv_session.specs.declared.session.SessionError.TheVariants as sessions
 use Rattle.program_files.specs.declared.failure.Failure.{Failure}
-use Rattle.program_files.specs.declared.failure.Failure.TheVariants.{File, Refused, Boot, OutOfMemory, TooManyEvents, Read, Write, Clock, CannotBeWritten, Record, Name}
+use Rattle.program_files.specs.declared.failure.Failure.TheVariants.{File, Refused, Boot, OutOfMemory, TooManyEvents, Read, Write, Clock, CannotBeWritten, RecordUnwritten, UnrecordableName}
 
 -- the exit status: 2 if what the command line names is refused, or if memory or room for events is short; 5 if a device failed, or if a file can't be written
 abbrev pub failure_status : Failure → ℕ
@@ -18,8 +18,8 @@ failure_status Read = 5
 failure_status Write = 5
 failure_status Clock = 5
 failure_status (CannotBeWritten path) = 5
-failure_status Record = 5
-failure_status Name = 5
+failure_status RecordUnwritten = 5
+failure_status UnrecordableName = 5
 
 -- if a boot is refused: that memory is short, or why
 abbrev pub failure_of_boot : BootError → Failure

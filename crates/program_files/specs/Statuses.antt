@@ -24,9 +24,9 @@ status_of (Err e) = 5
 abbrev pub IsWordsStatus : ℕ → Type 0
 IsWordsStatus status = (status ≡ 0) ⊎ (status ≡ 1) ⊎ (status ≡ 5)
 
--- the same, or the host has too little memory for the words
-abbrev pub IsHostWordsStatus : ℕ → Type 0
-IsHostWordsStatus status = (status ≡ 2) ⊎ IsWordsStatus status
+-- the exit status of a program that doesn't tell by it how a run ended: it is done, the words are refused, what they name is refused, or a device failed
+abbrev pub IsPlainStatus : ℕ → Type 0
+IsPlainStatus status = (status ≡ 0) ⊎ (status ≡ 1) ⊎ (status ≡ 2) ⊎ (status ≡ 5)
 
 -- what a source and a sink tell of themselves, and how many of their calls have failed
 pub record Devices : Type 0 where

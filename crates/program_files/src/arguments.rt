@@ -1,5 +1,5 @@
 //! The words of a command line, and why they are refused.
-ghost use Rattle.program_files.specs.Statuses.{IsWordsStatus, IsHostWordsStatus};
+ghost use Rattle.program_files.specs.Statuses.{IsWordsStatus, IsPlainStatus};
 
 use crate::failure::Failure;
 use crate::statuses::{DONE, WORDS_REFUSED};
@@ -53,7 +53,7 @@ impl SettingsError {
 impl WordsError {
     /// The same of what the host's words give: the status is 2 if the host has too little memory for the words.
     pub fn close<W: Write, E: Write>(&self, name: &str, output: &mut W, errors: &mut E) -> u8
-        ensures { IsHostWordsStatus result }
+        ensures { IsPlainStatus result }
     {
         match self {
             WordsError::Settings(error) => error.close(name, output, errors),

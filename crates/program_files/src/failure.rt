@@ -1,7 +1,7 @@
 //! Why a program ends early.
-ghost use Rattle.std.specs.Prelude.{◌≡◌};
+ghost use Rattle.std.specs.Prelude.{◌≡◌, ◌⊎◌, IfOk, OnErr};
 ghost use Rattle.program_files.specs.Failures.{failure_status, failure_of_boot, failure_of_session};
-ghost use Rattle.program_files.specs.declared.failure.Failure.TheVariants.{OutOfMemory};
+ghost use Rattle.program_files.specs.declared.failure.Failure.TheVariants as failures;
 
 use crate::refusal::FileRefusal;
 use crate::statuses::{DEVICE_FAILED, REFUSED};
@@ -43,15 +43,18 @@ pub enum Failure<'a> {
     CannotBeWritten(&'a str),
     /// The record of the session can't be written.
     #[error("the record cannot be written")]
-    Record,
+    RecordUnwritten,
     /// The record would name a program whose name isn't text of one line.
     #[error("a program's name is not text of one line, and cannot be recorded")]
-    Name,
+    UnrecordableName,
 }
 
 impl Failure<'_> {
     /// A refusal in these words, if there was memory for them.
-    pub fn in_words(why: Result<String, AllocError>) -> Failure<'static> {
+    pub fn in_words(why: Result<String, AllocError>) -> Failure<'static>
+        ensures refused { IfOk why (λ text. result ≡ failures.Refused text) }
+        ensures memory { OnErr why (result ≡ failures.OutOfMemory) }
+    {
         match why {
             Ok(why) => Failure::Refused(why),
             Err(_) => Failure::OutOfMemory,
@@ -60,7 +63,8 @@ impl Failure<'_> {
 
     /// The exit status that tells it.
     fn status(&self) -> u8
-        ensures { result ≡ failure_status self.now }
+        ensures is { result ≡ failure_status self.now }
+        ensures either { (result ≡ 2) ⊎ (result ≡ 5) }
     {
         match self {
             Failure::File(_)
@@ -72,15 +76,16 @@ impl Failure<'_> {
             | Failure::Write
             | Failure::Clock
             | Failure::CannotBeWritten(_)
-            | Failure::Record
-            | Failure::Name => DEVICE_FAILED,
+            | Failure::RecordUnwritten
+            | Failure::UnrecordableName => DEVICE_FAILED,
         }
     }
 
     /// Writes the closing line, under the name of the program, and gives the exit status. A line that can't be written
     /// is left out.
     pub fn close<E: Write>(&self, name: &str, errors: &mut E) -> u8
-        ensures { result ≡ failure_status self.now }
+        ensures is { result ≡ failure_status self.now }
+        ensures either { (result ≡ 2) ⊎ (result ≡ 5) }
     {
         let _ = writeln!(errors, "{name}: {self}");
         self.status()
@@ -94,7 +99,7 @@ impl<'a> From<FileRefusal<'a>> for Failure<'a> {
 }
 
 impl From<AllocError> for Failure<'_> {
-    ghost from_gives = { λ _ failure. failure ≡ OutOfMemory };
+    ghost from_gives = { λ _ failure. failure ≡ failures.OutOfMemory };
 
     fn from(_error: AllocError) -> Self {
         Failure::OutOfMemory
@@ -102,7 +107,7 @@ impl From<AllocError> for Failure<'_> {
 }
 
 impl<T: Drop> From<AllocFailed<T>> for Failure<'_> {
-    ghost from_gives = { λ _ failure. failure ≡ OutOfMemory };
+    ghost from_gives = { λ _ failure. failure ≡ failures.OutOfMemory };
 
     fn from(_error: AllocFailed<T>) -> Self {
         Failure::OutOfMemory

@@ -4,10 +4,12 @@
 //!
 //! What a word does to the machine is promised by `xv_debug`, and that nothing else is done to it by `Converses` of its
 //! `specs/Conversations.antt`. The answers' text is compared with stored sessions (`checks/debugger`).
+ghost use Rattle.program_files.specs.Statuses.{IsPlainStatus};
+
 mod command_line;
 mod conversation;
 
-use crate::debugging::command_line::{Settings, read_settings};
+use crate::debugging::command_line::{Settings, settings};
 use crate::debugging::conversation::Conversation;
 use program_files::statuses::DONE;
 use program_files::{Failure, line_table, programs};
@@ -45,7 +47,9 @@ fn converse<'a>(rt: &HostRuntime, settings: &'a Settings) -> Result<(), Failure<
 }
 
 /// Does what the settings say, and gives the exit status.
-fn debug(rt: &HostRuntime, settings: &Settings) -> u8 {
+fn debug(rt: &HostRuntime, settings: &Settings) -> u8
+    ensures { IsPlainStatus result }
+{
     match converse(rt, settings) {
         Ok(()) => DONE,
         Err(failure) => failure.close(NAME, &mut rt.stderr()),
@@ -53,8 +57,10 @@ fn debug(rt: &HostRuntime, settings: &Settings) -> u8 {
 }
 
 /// Debugs the programs that the words of a command line name, by the words of standard input, and gives the exit status.
-pub fn debug_by_words<W: Env + AllocGlobal>(rt: &HostRuntime, words: &W) -> u8 {
-    match read_settings(words) {
+pub fn debug_by_words<W: Env + AllocGlobal>(rt: &HostRuntime, words: &W) -> u8
+    ensures { IsPlainStatus result }
+{
+    match settings(words) {
         Ok(settings) => debug(rt, &settings),
         Err(error) => error.close(NAME, &mut rt.stdout(), &mut rt.stderr()),
     }

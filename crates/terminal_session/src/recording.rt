@@ -19,7 +19,7 @@ fn sums_of(alloc: Global, programs: &[Program]) -> Result<Vec<ProgramSum>, Failu
     let mut sums = Vec::new(alloc);
     for program in programs {
         let Some(sum) = ProgramSum::of(alloc, program)? else {
-            return Err(Failure::Name);
+            return Err(Failure::UnrecordableName);
         };
         sums.push(sum)?;
     }
@@ -52,7 +52,7 @@ fn session_text(alloc: Global, session: &Session, frames: u32) -> Result<String,
 ///
 /// # Errors
 ///
-/// [`Failure::Name`] if a program's name can't be recorded, [`Failure::Record`] if the record can't be written, and
+/// [`Failure::UnrecordableName`] if a program's name can't be recorded, [`Failure::RecordUnwritten`] if the record can't be written, and
 /// [`Failure::OutOfMemory`] if memory is short.
 pub fn write_record<W: ByteSink>(
     alloc: Global,
@@ -65,6 +65,6 @@ pub fn write_record<W: ByteSink>(
     let text = session_text(alloc, session, frames)?;
     match file.write_out(text.as_bytes()) {
         Ok(()) => Ok(()),
-        Err(_) => Err(Failure::Record),
+        Err(_) => Err(Failure::RecordUnwritten),
     }
 }

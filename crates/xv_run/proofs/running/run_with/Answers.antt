@@ -26,5 +26,5 @@ returns-in-Ok g c = says c.drive_to_end.result c.args.config c.args.plan (map na
 pub returns-in-Err : goal.returns-in-Err
 returns-in-Err g c = record {
   refused = λ _. refl;
-  driven = λ other. absurd (other (c.close.ensures ∙ (ap failure_status c.from.ensures ∙ failure_status-boot c.in-Err.error)));
+  driven = λ other. absurd (other (c.close.ensures.is ∙ (ap failure_status c.from.ensures ∙ failure_status-boot c.in-Err.error)));
 }
