@@ -18,7 +18,7 @@ use crate::rounds::Rounds;
 use crate::service::command_line::{Settings, settings};
 use crate::service::serving::Service;
 use crate::target::Target;
-use program_files::statuses::DONE;
+use program_files::exit_statuses::DONE;
 use program_files::{Failure, FileRefusal, programs};
 use std::fs;
 use std::io::ErrorKind;

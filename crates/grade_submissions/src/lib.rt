@@ -21,7 +21,7 @@ pub use command_line::{Settings, settings};
 pub use exercise_file::show_files;
 pub use grading::grade_submission;
 use program_files::Failure;
-use program_files::statuses::{DONE, WORDS_REFUSED};
+use program_files::exit_statuses::{DONE, WORDS_REFUSED};
 use std::io::Write;
 use std::rt::Env;
 

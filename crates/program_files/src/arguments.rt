@@ -1,8 +1,8 @@
 //! The words of a command line, and why they are refused.
 ghost use Rattle.program_files.specs.Statuses.{IsWordsStatus, IsPlainStatus};
 
+use crate::exit_statuses::{DONE, WORDS_REFUSED};
 use crate::failure::Failure;
-use crate::statuses::{DONE, WORDS_REFUSED};
 use std::alloc::{AllocError, AllocFailed};
 use std::env;
 use std::io::{self, ErrorKind, Write};

@@ -2,8 +2,8 @@
 ghost use Rattle.std.specs.Prelude.{◌≡◌};
 ghost use Rattle.program_files.specs.Statuses.{exit_status, status_of};
 
+use crate::exit_statuses::{DONE, EXITED_OTHERWISE, NOT_EXITED};
 use crate::failure::Failure;
-use crate::statuses::{DONE, EXITED_OTHERWISE, NOT_EXITED};
 use std::io::Write;
 use xv_machine::{DriveEnd, DriveError, Machine};
 

@@ -3,8 +3,8 @@ ghost use Rattle.std.specs.Prelude.{◌≡◌, ◌⊎◌, IfOk, OnErr};
 ghost use Rattle.program_files.specs.Failures.{failure_status, failure_of_boot, failure_of_session};
 ghost use Rattle.program_files.specs.declared.failure.Failure.TheVariants as failures;
 
+use crate::exit_statuses::{DEVICE_FAILED, REFUSED};
 use crate::refusal::FileRefusal;
-use crate::statuses::{DEVICE_FAILED, REFUSED};
 use std::alloc::{AllocError, AllocFailed};
 use std::io::Write;
 use thiserror::Error;

@@ -1,18 +1,18 @@
 //! What programs here have in common: the words of a command line, the programs that FILEs hold, with the lines of those
-//! that are assembled, and how a run of them ends. [`Failure`] is why a program ends early, and [`statuses`] has the
-//! exit statuses by their names. [`line_table`] gives the lines of programs that aren't assembled.
+//! that are assembled, and how a run of them ends. [`Failure`] is why a program ends early, and [`exit_statuses`] has
+//! the exit statuses by their names. [`line_table`] gives the lines of programs that aren't assembled.
 #![tactic(auto)]
 
 mod arguments;
 mod command_line;
 mod ending;
+pub mod exit_statuses;
 mod failure;
 mod files;
 mod given;
 mod options;
 mod output;
 mod refusal;
-pub mod statuses;
 mod tables;
 
 pub use arguments::{SettingsError, WordsError, words};

@@ -11,7 +11,7 @@ mod conversation;
 
 use crate::debugging::command_line::{Settings, settings};
 use crate::debugging::conversation::Conversation;
-use program_files::statuses::DONE;
+use program_files::exit_statuses::DONE;
 use program_files::{Failure, line_table, programs};
 use std::rt::Env;
 use xv_debug::Debugger;

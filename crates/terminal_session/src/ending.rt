@@ -5,7 +5,7 @@ ghost use Rattle.terminal_session.specs.Statuses.{end_status};
 use crate::NAME;
 use crate::notes::Notes;
 use crate::telling::tell_waits;
-use program_files::statuses::NOT_EXITED;
+use program_files::exit_statuses::NOT_EXITED;
 use program_files::{show_trace, status_of_exit};
 use std::io::Write;
 use xv_session::Session;

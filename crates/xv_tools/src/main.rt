@@ -13,7 +13,7 @@ use crate::behind::Behind;
 use crate::tool::{NAMES, Tool};
 use gdb_target::serve_gdb;
 use grade_submissions::grade_by_words;
-use program_files::statuses::DONE;
+use program_files::exit_statuses::DONE;
 use reported_run::run_and_tell;
 use std::io::{self, Write};
 use std::process::ExitCode;
