@@ -10,7 +10,7 @@ use Rattle.gdb_packets.specs.declared.command.Resume.{Resume}
 use Rattle.gdb_packets.specs.declared.command.Resume.TheVariants.{Continue, Step}
 use Rattle.gdb_packets.specs.declared.command.Point.{Point}
 use Rattle.gdb_packets.specs.declared.command.Point.TheVariants.{Breakpoint, Watchpoint}
-use Rattle.gdb_packets.specs.declared.number.Numbers.{Numbers}
+use Rattle.gdb_packets.specs.declared.packet_text.Numbers.{Numbers}
 use Rattle.gdb_packets.specs.declared.query.Document.{Document}
 use Rattle.gdb_packets.specs.declared.query.Document.TheVariants.{Registers, File}
 

@@ -3,7 +3,7 @@ ghost use Rattle.std.specs.Prelude.{◌≡◌, true, false};
 ghost use Rattle.gdb_packets.specs.Commands as meant;
 ghost use Rattle.gdb_packets.specs.Digits as digits;
 
-use crate::number::{before, behind, is_text, number, two_numbers};
+use crate::packet_text::{before, behind, is_text, number, two_numbers};
 use crate::query::{Document, query};
 
 /// Which threads are meant.

@@ -11,7 +11,7 @@ mod command;
 mod digits;
 mod framing;
 pub mod laws;
-mod number;
+mod packet_text;
 mod query;
 mod reader;
 

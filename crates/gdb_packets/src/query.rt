@@ -3,7 +3,7 @@ ghost use Rattle.std.specs.Prelude.{◌≡◌};
 ghost use Rattle.gdb_packets.specs.Commands as meant;
 
 use crate::command::{Command, parse_thread};
-use crate::number::{before, behind, is_text, two_numbers};
+use crate::packet_text::{before, behind, is_text, two_numbers};
 
 /// A document that a part is read of (`qXfer`).
 #[derive(Clone, Copy, PartialEq, Eq)]

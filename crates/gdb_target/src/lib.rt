@@ -7,6 +7,8 @@
 //!
 //! What is told of registers, memory and processes is read by `memory.rt` and `threads.rt`: it stands in
 //! `specs/Seen.antt`. The events of [`Rounds`], one at each place of a run, stand in `specs/Rounds.antt`.
+//!
+//! [`serve_gdb`] is what the program `xv_gdb` does: it answers GDB on standard input and output by such a target.
 #![tactic(auto)]
 
 mod answers;
@@ -18,13 +20,14 @@ mod played;
 mod points;
 mod reverse;
 mod rounds;
+mod service;
 mod target;
 mod threads;
 mod words;
 
-pub use answers::{malformed, no_such_process};
 pub use played::Played;
 pub use points::{Points, Watched};
 pub use reverse::Back;
 pub use rounds::{Next, Rounds};
+pub use service::serve_gdb;
 pub use target::{Going, Pause, Stopped, Target, Until};

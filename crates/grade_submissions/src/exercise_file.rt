@@ -1,8 +1,8 @@
 //! The file of an exercise: what it asks for, and what it says of files.
 use crate::command_line::Settings;
 use crate::host_files::{folder_of, refused, text_of};
-use crate::refusal::Refusal;
 use grade_sheets::Exercise;
+use program_files::Failure;
 use std::alloc::Global;
 use std::io::Write;
 use std::rt::Files;
@@ -11,8 +11,9 @@ use std::rt::Files;
 ///
 /// # Errors
 ///
-/// [`Refusal::File`] if it can't be read, is longer than 1,048,576 bytes or is no exercise, and [`Refusal::Memory`].
-pub fn read_exercise<R: Files + AllocGlobal>(rt: &R, path: &str) -> Result<Exercise, Refusal> {
+/// [`Failure::Refused`] if it can't be read, is longer than 1,048,576 bytes or is no exercise, and
+/// [`Failure::OutOfMemory`].
+pub fn read_exercise<R: Files + AllocGlobal>(rt: &R, path: &str) -> Result<Exercise, Failure<'static>> {
     let alloc = rt.alloc();
     let text = text_of(rt, path)?;
     match Exercise::read(alloc, text.as_str()) {
@@ -25,15 +26,15 @@ pub fn read_exercise<R: Files + AllocGlobal>(rt: &R, path: &str) -> Result<Exerc
 }
 
 // Shows a line.
-fn show_line<W: Write>(output: &mut W, line: &str) -> Result<(), Refusal> {
+fn show_line<W: Write>(output: &mut W, line: &str) -> Result<(), Failure<'static>> {
     match writeln!(output, "{line}") {
         Ok(()) => Ok(()),
-        Err(_) => Err(Refusal::Write),
+        Err(_) => Err(Failure::Write),
     }
 }
 
 // Shows lines.
-fn show_lines<W: Write>(output: &mut W, lines: &[String]) -> Result<(), Refusal> {
+fn show_lines<W: Write>(output: &mut W, lines: &[String]) -> Result<(), Failure<'static>> {
     for line in lines {
         show_line(output, line.as_str())?;
     }
@@ -46,7 +47,7 @@ fn show_paths<W: Write>(
     folder: &str,
     files: &[String],
     output: &mut W,
-) -> Result<(), Refusal> {
+) -> Result<(), Failure<'static>> {
     for file in files {
         let path = format!(in alloc; "{folder}/{file}")?;
         show_line(output, path.as_str())?;
@@ -60,7 +61,7 @@ fn show_inputs<W: Write>(
     settings: &Settings,
     exercise: &Exercise,
     output: &mut W,
-) -> Result<(), Refusal> {
+) -> Result<(), Failure<'static>> {
     let folder = folder_of(settings.exercise.as_str());
     show_line(output, settings.exercise.as_str())?;
     for run in &exercise.runs {
@@ -74,12 +75,12 @@ fn show_inputs<W: Write>(
 ///
 /// # Errors
 ///
-/// [`Refusal::File`] for the exercise's file, [`Refusal::Memory`], and [`Refusal::Write`].
+/// [`Failure::Refused`] for the exercise's file, [`Failure::OutOfMemory`], and [`Failure::Write`].
 pub fn show_files<R: Files + AllocGlobal, W: Write>(
     rt: &R,
     settings: &Settings,
     output: &mut W,
-) -> Result<(), Refusal> {
+) -> Result<(), Failure<'static>> {
     let exercise = read_exercise(rt, settings.exercise.as_str())?;
     if settings.inputs {
         return show_inputs(rt.alloc(), settings, &exercise, output);

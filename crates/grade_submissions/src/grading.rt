@@ -1,6 +1,5 @@
 //! A submission, from its folder to its results.
 ghost use Rattle.std.specs.Prelude.{◌≤◌, ◌*◌, IfOk, OnOk};
-ghost use Rattle.std.specs.Io.KnownBytes.{Appends};
 ghost use Rattle.grade_submissions.specs.Results.{most_of, IsSeenOf, IsGradeOf, IsResultOf, AreResultsOf, IsWholeGrade, IsLineShown};
 
 use crate::command_line::Settings;
@@ -8,10 +7,10 @@ use crate::exercise_file::read_exercise;
 use crate::host_files::{bytes_of, folder_of, last_part, text_of};
 use crate::playing::{Plan, Played, play};
 use crate::reasons::cause;
-use crate::refusal::Refusal;
 use crate::results::{write_result, write_run};
 use crate::submission::{HandedIn, Submission, handed_in};
 use grade_sheets::{Exercise, Grade, Run, RunGrade, Seen, csv_line, graded, ungraded, xml_suite};
+use program_files::{Failure, put};
 use std::alloc::{AllocError, Global};
 use std::io::Write;
 use std::rt::Files;
@@ -26,7 +25,7 @@ fn name_of<R: Files + AllocGlobal>(
     rt: &R,
     settings: &Settings,
     folder: &str,
-) -> Result<Vec<u8>, Refusal> {
+) -> Result<Vec<u8>, Failure<'static>> {
     match &settings.name {
         Some(path) => bytes_of(rt, path.as_str()),
         None => Ok(Vec::from_slice(rt.alloc(), last_part(folder).as_bytes())?),
@@ -34,7 +33,7 @@ fn name_of<R: Files + AllocGlobal>(
 }
 
 // The lines that say why files aren't to be run.
-fn refused_before<R: Files + AllocGlobal>(rt: &R, settings: &Settings) -> Result<String, Refusal> {
+fn refused_before<R: Files + AllocGlobal>(rt: &R, settings: &Settings) -> Result<String, Failure<'static>> {
     match &settings.refused {
         Some(path) => text_of(rt, path.as_str()),
         None => Ok(String::new(rt.alloc())),
@@ -81,7 +80,7 @@ fn run_grade(
     run: &Run,
     submission: &Submission,
     played: &Played,
-) -> Result<RunGrade, Refusal>
+) -> Result<RunGrade, Failure<'static>>
     ensures { IfOk result (IsGradeOf run.now played.now) }
 {
     let trace = lines_to_the_end(alloc, played)?;
@@ -111,7 +110,7 @@ fn made_run<R: Files + AllocGlobal>(
     run: &Run,
     number: usize,
     played: &Played,
-) -> Result<RunGrade, Refusal>
+) -> Result<RunGrade, Failure<'static>>
     ensures { IfOk result (IsGradeOf run.now played.now) }
 {
     write_run(rt, settings, number, played)?;
@@ -119,7 +118,7 @@ fn made_run<R: Files + AllocGlobal>(
 }
 
 // The grade of a run whose machine didn't boot.
-fn refused_run(alloc: Global, run: &Run, error: &BootError) -> Result<RunGrade, Refusal>
+fn refused_run(alloc: Global, run: &Run, error: &BootError) -> Result<RunGrade, Failure<'static>>
     ensures { IfOk result (IsResultOf run.now) }
 {
     let why = format!(in alloc; "boot: {error}")?;
@@ -133,7 +132,7 @@ fn one_run<R: Files + AllocGlobal>(
     submission: &Submission,
     run: &Run,
     number: usize,
-) -> Result<RunGrade, Refusal>
+) -> Result<RunGrade, Failure<'static>>
     ensures { IfOk result (IsResultOf run.now) }
 {
     let alloc = rt.alloc();
@@ -157,7 +156,7 @@ fn run_result<R: Files + AllocGlobal>(
     handed_in: HandedIn,
     run: &Run,
     number: usize,
-) -> Result<RunGrade, Refusal>
+) -> Result<RunGrade, Failure<'static>>
     ensures { IfOk result (IsResultOf run.now) }
 {
     match handed_in {
@@ -172,7 +171,7 @@ fn run_results<R: Files + AllocGlobal>(
     settings: &Settings,
     runs: &[Run],
     folder: &str,
-) -> Result<Vec<RunGrade>, Refusal>
+) -> Result<Vec<RunGrade>, Failure<'static>>
     ensures { IfOk result (λ grades. AreResultsOf runs.now grades.items) }
 {
     let refused = refused_before(rt, settings)?;
@@ -191,21 +190,11 @@ fn whole_grade<R: Files + AllocGlobal>(
     settings: &Settings,
     exercise: &Exercise,
     folder: &str,
-) -> Result<Grade, Refusal>
+) -> Result<Grade, Failure<'static>>
     ensures { IfOk result (IsWholeGrade exercise.now) }
 {
     let runs = run_results(rt, settings, exercise.runs.as_slice(), folder)?;
     Ok(Grade::of(rt.alloc(), exercise, runs)?)
-}
-
-// Shows a line.
-fn show<W: Write>(output: &mut W, line: &[u8]) -> Result<(), Refusal>
-    ensures { OnOk result (Appends (W.contents output.old) (W.contents output.new) line.now) }
-{
-    match output.write_all(line) {
-        Ok(()) => Ok(()),
-        Err(_) => Err(Refusal::Write),
-    }
 }
 
 // Writes the test suite of a submission of this name.
@@ -215,8 +204,10 @@ fn write_suite<R: Files + AllocGlobal>(
     exercise: &Exercise,
     name: &[u8],
     grade: &Grade,
-) -> Result<(), Refusal> {
-    let suite = xml_suite(rt.alloc(), exercise, name, grade)?;
+) -> Result<(), Failure<'static>> {
+    let Ok(suite) = xml_suite(rt.alloc(), exercise, name, grade) else {
+        return Err(Failure::OutOfMemory);
+    };
     write_result(rt, settings, "result.xml", suite.as_str().as_bytes())
 }
 
@@ -224,22 +215,24 @@ fn write_suite<R: Files + AllocGlobal>(
 ///
 /// # Errors
 ///
-/// [`Refusal::File`] for the exercise's files and those of the settings, [`Refusal::Memory`], and [`Refusal::Write`]
-/// for results that can't be written.
+/// [`Failure::Refused`] for the exercise's files and those of the settings, [`Failure::OutOfMemory`], and
+/// [`Failure::Write`] for results that can't be written.
 pub fn grade_submission<R: Files + AllocGlobal, W: Write>(
     rt: &R,
     settings: &Settings,
     folder: &str,
     output: &mut W,
-) -> Result<(), Refusal>
+) -> Result<(), Failure<'static>>
     ensures { OnOk result (IsLineShown (W.contents output.old) (W.contents output.new)) }
 {
     let exercise = read_exercise(rt, settings.exercise.as_str())?;
     let name = name_of(rt, settings, folder)?;
     let grade = whole_grade(rt, settings, &exercise, folder)?;
-    let line = csv_line(rt.alloc(), name.as_slice(), &grade)?;
+    let Ok(line) = csv_line(rt.alloc(), name.as_slice(), &grade) else {
+        return Err(Failure::OutOfMemory);
+    };
     write_suite(rt, settings, &exercise, name.as_slice(), &grade)?;
     write_result(rt, settings, "result.csv", line.as_slice())?;
-    show(output, line.as_slice())?;
+    put(output, line.as_slice())?;
     Ok(())
 }

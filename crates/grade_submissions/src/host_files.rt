@@ -1,5 +1,5 @@
 //! Small files of the host, and their paths.
-use crate::refusal::Refusal;
+use program_files::Failure;
 use std::alloc::Global;
 use std::fs;
 use std::io::{self, ErrorKind};
@@ -26,24 +26,21 @@ pub fn last_part(path: &str) -> &str {
 }
 
 /// The refusal of the file of a path.
-pub fn refused(alloc: Global, path: &str, why: &str) -> Refusal {
-    match format!(in alloc; "{path}: {why}") {
-        Ok(text) => Refusal::File(text),
-        Err(_) => Refusal::Memory,
-    }
+pub fn refused(alloc: Global, path: &str, why: &str) -> Failure<'static> {
+    Failure::in_words(format!(in alloc; "{path}: {why}"))
 }
 
 // What a call on the file of a path comes to that failed.
-fn failed(alloc: Global, path: &str, error: &io::Error) -> Refusal {
+fn failed(alloc: Global, path: &str, error: &io::Error) -> Failure<'static> {
     match error.kind() {
-        ErrorKind::OutOfMemory => Refusal::Memory,
+        ErrorKind::OutOfMemory => Failure::OutOfMemory,
         ErrorKind::InvalidData => refused(alloc, path, "not text"),
         _ => refused(alloc, path, "cannot be read"),
     }
 }
 
 // That a file isn't too long.
-fn check_length<R: Files + AllocGlobal>(rt: &R, path: &str) -> Result<(), Refusal> {
+fn check_length<R: Files + AllocGlobal>(rt: &R, path: &str) -> Result<(), Failure<'static>> {
     match fs::metadata(rt, path) {
         Ok(found) if found.len() <= FILE_BYTES => Ok(()),
         Ok(_) => Err(refused(rt.alloc(), path, "too long")),
@@ -55,8 +52,9 @@ fn check_length<R: Files + AllocGlobal>(rt: &R, path: &str) -> Result<(), Refusa
 ///
 /// # Errors
 ///
-/// [`Refusal::File`] if it can't be read, has more than 1,048,576 bytes or isn't UTF-8, and [`Refusal::Memory`].
-pub fn text_of<R: Files + AllocGlobal>(rt: &R, path: &str) -> Result<String, Refusal> {
+/// [`Failure::Refused`] if it can't be read, has more than 1,048,576 bytes or isn't UTF-8, and
+/// [`Failure::OutOfMemory`].
+pub fn text_of<R: Files + AllocGlobal>(rt: &R, path: &str) -> Result<String, Failure<'static>> {
     check_length(rt, path)?;
     match fs::read_to_string(rt, path) {
         Ok(text) => Ok(text),
@@ -68,8 +66,8 @@ pub fn text_of<R: Files + AllocGlobal>(rt: &R, path: &str) -> Result<String, Ref
 ///
 /// # Errors
 ///
-/// [`Refusal::File`] if it can't be read or has more than 1,048,576 bytes, and [`Refusal::Memory`].
-pub fn bytes_of<R: Files + AllocGlobal>(rt: &R, path: &str) -> Result<Vec<u8>, Refusal> {
+/// [`Failure::Refused`] if it can't be read or has more than 1,048,576 bytes, and [`Failure::OutOfMemory`].
+pub fn bytes_of<R: Files + AllocGlobal>(rt: &R, path: &str) -> Result<Vec<u8>, Failure<'static>> {
     check_length(rt, path)?;
     match fs::read(rt, path) {
         Ok(bytes) => Ok(bytes),

@@ -6,20 +6,22 @@
 //! events that the machine got, and how many Runs there are at most, is `IsRunOf` in `specs/Plays.antt`.
 #![tactic(auto)]
 
+ghost use Rattle.program_files.specs.Statuses.{IsPlainStatus};
+
 mod command_line;
 mod exercise_file;
 mod grading;
 mod host_files;
 mod playing;
 mod reasons;
-mod refusal;
 mod results;
 mod submission;
 
-pub use command_line::{Settings, read_words};
+pub use command_line::{Settings, settings};
 pub use exercise_file::show_files;
 pub use grading::grade_submission;
-pub use refusal::Refusal;
+use program_files::Failure;
+use program_files::exit_statuses::{DONE, WORDS_REFUSED};
 use std::io::Write;
 use std::rt::Env;
 
@@ -27,28 +29,28 @@ use std::rt::Env;
 pub const NAME: &str = "xv_grade";
 
 /// What the settings ask for: the results of a submission, or the names of an exercise's files.
-fn grade(rt: &HostRuntime, settings: &Settings) -> Result<(), Refusal> {
+fn grade(rt: &HostRuntime, settings: &Settings) -> Result<(), Failure<'static>> {
     match &settings.submission {
         Some(folder) => grade_submission(rt, settings, folder.as_str(), &mut rt.stdout()),
         None => show_files(rt, settings, &mut rt.stdout()),
     }
 }
 
-/// Does what the words of a command line ask for, and gives the exit status.
-pub fn obey<W: Env + AllocGlobal>(rt: &HostRuntime, words: &W) -> u8 {
+/// Grades the submission that the words of a command line name, or shows what they ask for of an exercise, and gives the
+/// exit status.
+pub fn grade_by_words<W: Env + AllocGlobal>(rt: &HostRuntime, words: &W) -> u8
+    ensures { IsPlainStatus result }
+{
     let Ok(words) = program_files::words(words) else {
         let _ = writeln!(rt.stderr(), "{NAME}: a word is not UTF-8 text");
-        return 1;
+        return WORDS_REFUSED;
     };
-    let settings = match read_words(rt.alloc(), words.as_slice()) {
+    let settings = match settings(rt.alloc(), words.as_slice()) {
         Ok(settings) => settings,
         Err(error) => return error.close(NAME, &mut rt.stdout(), &mut rt.stderr()),
     };
     match grade(rt, &settings) {
-        Ok(()) => 0,
-        Err(refusal) => {
-            let _ = writeln!(rt.stderr(), "{NAME}: {refusal}");
-            refusal.status()
-        }
+        Ok(()) => DONE,
+        Err(failure) => failure.close(NAME, &mut rt.stderr()),
     }
 }

@@ -1,8 +1,8 @@
 //! What a run came to that isn't an exit, in a student's words.
 use crate::playing::{NOTES_MAX, Played, SHOWN_MAX};
-use crate::refusal::Refusal;
 use crate::submission::Submission;
 use grade_sheets::{Grouped, Standing};
+use program_files::Failure;
 use std::alloc::{AllocError, Global};
 use xk_base::Pid;
 use xv_report::text::{FaultText, WaitLine};
@@ -121,7 +121,7 @@ fn told_fault(
 }
 
 // The fault of a run, as it stood before that step.
-fn fault_text(alloc: Global, submission: &Submission, played: &Played) -> Result<String, Refusal> {
+fn fault_text(alloc: Global, submission: &Submission, played: &Played) -> Result<String, Failure<'static>> {
     let Some(place) = played.kept.fault else {
         return Ok(String::from_str(alloc, "fault ")?);
     };
@@ -155,13 +155,13 @@ fn too_much_text(alloc: Global) -> Result<String, AllocError> {
 ///
 /// # Errors
 ///
-/// [`Refusal::Memory`].
+/// [`Failure::OutOfMemory`].
 pub fn cause(
     alloc: Global,
     standing: Standing,
     submission: &Submission,
     played: &Played,
-) -> Result<String, Refusal> {
+) -> Result<String, Failure<'static>> {
     match standing {
         Standing::Loops => Ok(loop_text(alloc, submission, played)?),
         Standing::Waits => Ok(wait_text(alloc, submission, played)?),

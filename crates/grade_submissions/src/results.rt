@@ -3,8 +3,8 @@ ghost use Rattle.std.specs.Prelude.{◌<◌, length};
 
 use crate::command_line::Settings;
 use crate::playing::Played;
-use crate::refusal::Refusal;
 use grade_rules::Note;
+use program_files::Failure;
 use std::alloc::{AllocError, Global};
 use std::fs;
 use std::rt::Files;
@@ -16,13 +16,13 @@ const NOTES_SHOWN: usize = 10_000;
 ///
 /// # Errors
 ///
-/// [`Refusal::Write`], and [`Refusal::Memory`].
+/// [`Failure::Write`], and [`Failure::OutOfMemory`].
 pub fn write_result<R: Files + AllocGlobal>(
     rt: &R,
     settings: &Settings,
     name: &str,
     bytes: &[u8],
-) -> Result<(), Refusal> {
+) -> Result<(), Failure<'static>> {
     let Some(folder) = &settings.out else {
         return Ok(());
     };
@@ -30,7 +30,7 @@ pub fn write_result<R: Files + AllocGlobal>(
     let path = format!(in rt.alloc(); "{folder}/{name}")?;
     match fs::write(rt, path.as_str(), bytes) {
         Ok(()) => Ok(()),
-        Err(_) => Err(Refusal::Write),
+        Err(_) => Err(Failure::Write),
     }
 }
 
@@ -84,7 +84,7 @@ fn write_part<R: Files + AllocGlobal>(
     part: &str,
     number: usize,
     bytes: &[u8],
-) -> Result<(), Refusal> {
+) -> Result<(), Failure<'static>> {
     let name = format!(in rt.alloc(); "{part}-{number}")?;
     write_result(rt, settings, name.as_str(), bytes)
 }
@@ -93,13 +93,13 @@ fn write_part<R: Files + AllocGlobal>(
 ///
 /// # Errors
 ///
-/// [`Refusal::Write`], and [`Refusal::Memory`].
+/// [`Failure::Write`], and [`Failure::OutOfMemory`].
 pub fn write_run<R: Files + AllocGlobal>(
     rt: &R,
     settings: &Settings,
     number: usize,
     played: &Played,
-) -> Result<(), Refusal> {
+) -> Result<(), Failure<'static>> {
     write_part(
         rt,
         settings,

@@ -1,7 +1,6 @@
 //! What was handed in.
-use crate::refusal::Refusal;
 use grade_sheets::{Run, Text};
-use program_files::{FileRefusal, SourcedProgram, program};
+use program_files::{Failure, FileRefusal, SourcedProgram, program};
 use std::alloc::{AllocError, Global};
 use std::fs;
 use std::rt::Files;
@@ -30,18 +29,18 @@ pub enum HandedIn {
 }
 
 // What a refused file is told as.
-fn told(alloc: Global, refusal: &FileRefusal<'_>) -> Result<String, Refusal> {
+fn told(alloc: Global, refusal: &FileRefusal<'_>) -> Result<String, Failure<'static>> {
     match refusal {
-        FileRefusal::OutOfMemory => Err(Refusal::Memory),
+        FileRefusal::OutOfMemory => Err(Failure::OutOfMemory),
         refusal => Ok(format!(in alloc; "{refusal}")?),
     }
 }
 
 // The refusal of a file of the exercise.
-fn refusal_of(alloc: Global, refusal: &FileRefusal<'_>) -> Refusal {
+fn refusal_of(alloc: Global, refusal: &FileRefusal<'_>) -> Failure<'static> {
     match told(alloc, refusal) {
-        Ok(why) => Refusal::File(why),
-        Err(refusal) => refusal,
+        Ok(why) => Failure::Refused(why),
+        Err(failure) => failure,
     }
 }
 
@@ -56,7 +55,7 @@ fn unfit(alloc: Global, file: &str, why: &str) -> Result<HandedIn, AllocError> {
 }
 
 // The file of this name, of these bytes.
-fn submission_of(alloc: Global, file: &str, bytes: Vec<u8>) -> Result<HandedIn, Refusal> {
+fn submission_of(alloc: Global, file: &str, bytes: Vec<u8>) -> Result<HandedIn, Failure<'static>> {
     let made = match program(alloc, Ok(bytes.as_slice()), file) {
         Ok(made) => made,
         Err(refusal) => return Ok(HandedIn::Refused(told(alloc, &refusal)?)),
@@ -70,7 +69,7 @@ fn submission_of(alloc: Global, file: &str, bytes: Vec<u8>) -> Result<HandedIn, 
 }
 
 // The file of this name and path, if it can be read.
-fn file_at<R: Files + AllocGlobal>(rt: &R, path: &str, file: &str) -> Result<HandedIn, Refusal> {
+fn file_at<R: Files + AllocGlobal>(rt: &R, path: &str, file: &str) -> Result<HandedIn, Failure<'static>> {
     match fs::read(rt, path) {
         Ok(bytes) => submission_of(rt.alloc(), file, bytes),
         Err(_) => Ok(unfit(rt.alloc(), file, "cannot be read")?),
@@ -83,7 +82,7 @@ fn file_in<R: Files + AllocGlobal>(
     rt: &R,
     folder: &str,
     file: &str,
-) -> Result<Option<HandedIn>, Refusal> {
+) -> Result<Option<HandedIn>, Failure<'static>> {
     let path = path_in(rt.alloc(), folder, file)?;
     let Ok(found) = fs::symlink_metadata(rt, path.as_str()) else {
         return Ok(None);
@@ -115,7 +114,7 @@ fn under_name<R: Files + AllocGlobal>(
     file: &str,
     folder: &str,
     refused: &str,
-) -> Result<Option<HandedIn>, Refusal> {
+) -> Result<Option<HandedIn>, Failure<'static>> {
     match refused_line(refused, file) {
         Some(why) => Ok(Some(HandedIn::Refused(String::from_str(rt.alloc(), why)?))),
         None => file_in(rt, folder, file),
@@ -138,13 +137,13 @@ fn no_file(alloc: Global, files: &[String]) -> Result<String, AllocError> {
 ///
 /// # Errors
 ///
-/// [`Refusal::Memory`].
+/// [`Failure::OutOfMemory`].
 pub fn handed_in<R: Files + AllocGlobal>(
     rt: &R,
     files: &[String],
     folder: &str,
     refused: &str,
-) -> Result<HandedIn, Refusal> {
+) -> Result<HandedIn, Failure<'static>> {
     for file in files {
         if let Some(found) = under_name(rt, file.as_str(), folder, refused)? {
             return Ok(found);
@@ -158,7 +157,7 @@ fn program_of_file<R: Files + AllocGlobal>(
     rt: &R,
     folder: &str,
     file: &str,
-) -> Result<Program, Refusal> {
+) -> Result<Program, Failure<'static>> {
     let alloc = rt.alloc();
     let path = path_in(alloc, folder, file)?;
     let opened = fs::open(rt, path.as_str());
@@ -173,7 +172,7 @@ fn programs_of_files<R: Files + AllocGlobal>(
     rt: &R,
     folder: &str,
     files: &[String],
-) -> Result<Vec<Program>, Refusal> {
+) -> Result<Vec<Program>, Failure<'static>> {
     let mut programs = Vec::new(rt.alloc());
     for file in files {
         programs.push(program_of_file(rt, folder, file.as_str())?)?;
@@ -190,7 +189,7 @@ fn program_of_text(alloc: Global, text: &Text) -> Result<Program, AllocError> {
 }
 
 // Adds the texts of the exercise.
-fn add_texts(alloc: Global, programs: &mut Vec<Program>, texts: &[Text]) -> Result<(), Refusal> {
+fn add_texts(alloc: Global, programs: &mut Vec<Program>, texts: &[Text]) -> Result<(), Failure<'static>> {
     for text in texts {
         programs.push(program_of_text(alloc, text)?)?;
     }
@@ -211,13 +210,13 @@ impl Submission {
     ///
     /// # Errors
     ///
-    /// [`Refusal::File`] if a file of the exercise can't be read.
+    /// [`Failure::Refused`] if a file of the exercise can't be read.
     pub fn programs<R: Files + AllocGlobal>(
         &self,
         rt: &R,
         run: &Run,
         folder: &str,
-    ) -> Result<Vec<Program>, Refusal> {
+    ) -> Result<Vec<Program>, Failure<'static>> {
         let mut programs = programs_of_files(rt, folder, run.with.as_slice())?;
         add_texts(rt.alloc(), &mut programs, run.texts.as_slice())?;
         programs.push(self.own_program(rt.alloc())?)?;

@@ -1,1 +1,3 @@
+pub mod Failures
+pub mod Ranges
 pub mod Statuses

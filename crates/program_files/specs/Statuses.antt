@@ -20,6 +20,14 @@ status_of (Ok (Halted status)) = exit_status status
 status_of (Ok RoundsOver) = 4
 status_of (Err e) = 5
 
+-- the exit status if words give no settings: help was shown, or they are refused, or help couldn't be written
+abbrev pub IsWordsStatus : ℕ → Type 0
+IsWordsStatus status = (status ≡ 0) ⊎ (status ≡ 1) ⊎ (status ≡ 5)
+
+-- the exit status of a program that doesn't tell by it how a run ended: it is done, the words are refused, what they name is refused, or a device failed
+abbrev pub IsPlainStatus : ℕ → Type 0
+IsPlainStatus status = (status ≡ 0) ⊎ (status ≡ 1) ⊎ (status ≡ 2) ⊎ (status ≡ 5)
+
 -- what a source and a sink tell of themselves, and how many of their calls have failed
 pub record Devices : Type 0 where
   pub source : Source

@@ -1,4 +1,8 @@
 //! The words of a command line, and why they are refused.
+ghost use Rattle.program_files.specs.Statuses.{IsWordsStatus, IsPlainStatus};
+
+use crate::exit_statuses::{DONE, WORDS_REFUSED};
+use crate::failure::Failure;
 use std::alloc::{AllocError, AllocFailed};
 use std::env;
 use std::io::{self, ErrorKind, Write};
@@ -26,22 +30,21 @@ impl SettingsError {
     /// Tells why the words of the program of this name give no settings, or shows the help that they ask for, and gives
     /// the status: 0 for help that was shown, 5 for help that `output` didn't take, and else 1. What `errors` doesn't
     /// take is left out.
-    pub fn close<W: Write, E: Write>(&self, name: &str, output: &mut W, errors: &mut E) -> u8 {
+    pub fn close<W: Write, E: Write>(&self, name: &str, output: &mut W, errors: &mut E) -> u8
+        ensures { IsWordsStatus result }
+    {
         match self {
             SettingsError::Words(text) if text.use_stderr() => {
                 let _ = write!(errors, "{text}");
-                1
+                WORDS_REFUSED
             }
             SettingsError::Words(text) => match show(text, output) {
-                Ok(()) => 0,
-                Err(_) => {
-                    let _ = writeln!(errors, "{name}: write fault");
-                    5
-                }
+                Ok(()) => DONE,
+                Err(_) => Failure::Write.close(name, errors),
             },
             SettingsError::Memory => {
-                let _ = writeln!(errors, "{name}: out of memory");
-                1
+                let _ = Failure::OutOfMemory.close(name, errors);
+                WORDS_REFUSED
             }
         }
     }
@@ -49,13 +52,12 @@ impl SettingsError {
 
 impl WordsError {
     /// The same of what the host's words give: the status is 2 if the host has too little memory for the words.
-    pub fn close<W: Write, E: Write>(&self, name: &str, output: &mut W, errors: &mut E) -> u8 {
+    pub fn close<W: Write, E: Write>(&self, name: &str, output: &mut W, errors: &mut E) -> u8
+        ensures { IsPlainStatus result }
+    {
         match self {
             WordsError::Settings(error) => error.close(name, output, errors),
-            WordsError::NoWords => {
-                let _ = writeln!(errors, "{name}: out of memory");
-                2
-            }
+            WordsError::NoWords => Failure::OutOfMemory.close(name, errors),
         }
     }
 }

@@ -2,6 +2,8 @@
 ghost use Rattle.std.specs.Prelude.{◌≡◌};
 ghost use Rattle.program_files.specs.Statuses.{exit_status, status_of};
 
+use crate::exit_statuses::{DONE, EXITED_OTHERWISE, NOT_EXITED};
+use crate::failure::Failure;
 use std::io::Write;
 use xv_machine::{DriveEnd, DriveError, Machine};
 
@@ -18,7 +20,7 @@ pub fn show_trace<E: Write>(machine: &Machine, errors: &mut E) {
 pub fn status_of_exit(status: i32) -> u8
     ensures { result ≡ exit_status status }
 {
-    if status == 0 { 0 } else { 3 }
+    if status == 0 { DONE } else { EXITED_OTHERWISE }
 }
 
 /// Writes the closing line of a run that ended so, under the name of the program that made it, and gives the exit
@@ -36,15 +38,9 @@ pub fn close_run<E: Write>(name: &str, end: Result<DriveEnd, DriveError>, errors
         }
         Ok(DriveEnd::RoundsOver) => {
             let _ = writeln!(errors, "{name}: rounds over");
-            4
+            NOT_EXITED
         }
-        Err(DriveError::Read) => {
-            let _ = writeln!(errors, "{name}: read fault");
-            5
-        }
-        Err(DriveError::Write) => {
-            let _ = writeln!(errors, "{name}: write fault");
-            5
-        }
+        Err(DriveError::Read) => Failure::Read.close(name, errors),
+        Err(DriveError::Write) => Failure::Write.close(name, errors),
     }
 }

@@ -1,17 +1,19 @@
-//! What programs here that take FILEs have in common: the words of a command line, the programs that the FILEs hold,
-//! with the lines of those that are assembled, why no machine runs them, and how a run of them ends. [`symbols_beside`]
-//! and [`line_table`] give what stands beside the FILEs for debuggers: their symbols, and the lines of other programs.
+//! What programs here have in common: the words of a command line, the programs that FILEs hold, with the lines of those
+//! that are assembled, and how a run of them ends. [`Failure`] is why a program ends early, and [`exit_statuses`] has
+//! the exit statuses by their names. [`line_table`] gives the lines of programs that aren't assembled.
 #![tactic(auto)]
 
 mod arguments;
 mod command_line;
 mod ending;
+pub mod exit_statuses;
 mod failure;
 mod files;
 mod given;
 mod options;
+mod output;
 mod refusal;
-mod symbols;
+mod tables;
 
 pub use arguments::{SettingsError, WordsError, words};
 pub use command_line::{CommandLine, CommandWord};
@@ -20,5 +22,6 @@ pub use failure::Failure;
 pub use files::{SourcedProgram, SourcedPrograms, program, programs};
 pub use given::{Given, given_words, host_words};
 pub use options::{FRAMES, NumberOption, QUANTUM, ROUNDS, TRACE};
+pub use output::put;
 pub use refusal::FileRefusal;
-pub use symbols::{line_table, symbols_beside};
+pub use tables::line_table;

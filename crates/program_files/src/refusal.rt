@@ -18,6 +18,9 @@ pub enum FileRefusal<'a> {
     /// The FILE of this path can't be assembled.
     #[error("{0}: {1}")]
     Assembly(&'a str, AsmError),
+    /// No FILE has this name.
+    #[error("{0}: no FILE has this name")]
+    NoSuchName(&'a str),
     /// The file of this path can't be read as a table of lines.
     #[error("{0}: cannot be read as a table of lines")]
     NoTable(&'a str),

@@ -11,24 +11,42 @@ mod command_line;
 mod letters;
 mod line;
 mod running;
-mod sources;
 mod teller;
 mod watching;
 
 use crate::running::run_with;
-use crate::sources::sources;
 use crate::teller::Teller;
 pub use command_line::settings;
 pub use line::Settings;
-use program_files::{Failure, programs};
+use program_files::{Failure, line_table, programs};
 use std::rt::Env;
+use xk_base::Program;
 use xv_machine::{Config, Counted, RunPlan};
+use xv_report::Sources;
 
 /// The program's name.
 pub const NAME: &str = "xv_why";
 
-/// Runs the programs that the settings name, and gives the exit status.
-fn run(rt: &HostRuntime, settings: &Settings) -> u8 {
+/// The programs of a run, and what is known of their sources.
+#[derive(Drop)]
+struct KnownPrograms {
+    programs: Vec<Program>,
+    sources: Sources,
+}
+
+/// The programs that the settings name, and what is known of their sources.
+fn known_programs<'a>(rt: &HostRuntime, settings: &'a Settings) -> Result<KnownPrograms, Failure<'a>> {
+    let files = settings.files.as_slice();
+    let made = programs(rt, files)?;
+    let table = line_table(rt, &settings.lines)?;
+    Ok(KnownPrograms {
+        programs: made.programs,
+        sources: Sources::of_files(rt, files, made.lines, table.as_str())?,
+    })
+}
+
+/// Runs these programs, and gives the exit status.
+fn run(rt: &HostRuntime, settings: &Settings, known: KnownPrograms) -> u8 {
     let config = Config {
         frames: settings.frames,
         trace: settings.trace,
@@ -37,32 +55,32 @@ fn run(rt: &HostRuntime, settings: &Settings) -> u8 {
         rounds: settings.rounds,
         quantum: settings.quantum,
     };
-    let made = match programs(rt, settings.files.as_slice()) {
-        Ok(made) => made,
-        Err(refusal) => return Failure::File(refusal).close(NAME, &mut rt.stderr()),
-    };
-    let sources = match sources(rt, settings, made.lines) {
-        Ok(sources) => sources,
-        Err(refusal) => return Failure::File(refusal).close(NAME, &mut rt.stderr()),
-    };
     let mut keys = Counted::new(rt.stdin());
     let mut sink = Counted::new(rt.stdout());
-    let mut teller = Teller::new(rt.alloc(), rt.stderr(), sources, settings.telling);
+    let mut teller = Teller::new(rt.alloc(), rt.stderr(), known.sources, settings.telling);
     run_with(
         rt.alloc(),
         config,
         plan,
-        made.programs,
+        known.programs,
         &mut keys,
         &mut sink,
         &mut teller,
     )
 }
 
-/// Does what the words of a command line ask for, and gives the exit status.
-pub fn obey<W: Env + AllocGlobal>(rt: &HostRuntime, words: &W) -> u8 {
+/// Runs the programs that the settings name, if they can be had, and gives the exit status.
+fn run_files(rt: &HostRuntime, settings: &Settings) -> u8 {
+    match known_programs(rt, settings) {
+        Ok(known) => run(rt, settings, known),
+        Err(failure) => failure.close(NAME, &mut rt.stderr()),
+    }
+}
+
+/// Runs the programs that the words of a command line name, tells the run as it goes, and gives the exit status.
+pub fn run_and_tell<W: Env + AllocGlobal>(rt: &HostRuntime, words: &W) -> u8 {
     match settings(words) {
-        Ok(settings) => run(rt, &settings),
+        Ok(settings) => run_files(rt, &settings),
         Err(error) => error.close(NAME, &mut rt.stdout(), &mut rt.stderr()),
     }
 }

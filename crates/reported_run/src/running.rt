@@ -15,7 +15,7 @@ use xv_session::Session;
 
 // Drives a session's machine that has booted by the plan, tells what is left to tell, shows its trace and the closing
 // line, and gives the exit status: 2 if the host's memory ran out.
-fn play<R: KeySource, W: ByteSink, E: Write>(
+fn watch_to_end<R: KeySource, W: ByteSink, E: Write>(
     session: &mut Session,
     plan: RunPlan,
     keys: &mut R,
@@ -32,10 +32,7 @@ fn play<R: KeySource, W: ByteSink, E: Write>(
     teller.tell_waits(session);
     match watched {
         Ok(end) => teller.say_end(end),
-        Err(_) => {
-            teller.say("out of memory");
-            2
-        }
+        Err(error) => teller.say_failure(&Failure::from(error)),
     }
 }
 
@@ -62,12 +59,8 @@ pub(crate) fn run_with<R: KeySource, W: ByteSink, E: Write>(
     match Session::boot(alloc, config, programs) {
         Ok(mut session) => {
             teller.note_names(&session);
-            play(&mut session, plan, keys, sink, teller)
+            watch_to_end(&mut session, plan, keys, sink, teller)
         }
-        Err(error) => {
-            let failure = Failure::from(error);
-            teller.say_failure(&failure);
-            2
-        }
+        Err(error) => teller.say_failure(&Failure::from(error)),
     }
 }

@@ -1,5 +1,6 @@
 //! What is told of a run while it goes on, and at its end.
 ghost use Rattle.std.specs.Prelude.{◌≡◌};
+ghost use Rattle.program_files.specs.Failures.{failure_status};
 ghost use Rattle.program_files.specs.Statuses.{status_of};
 
 use crate::NAME;
@@ -403,11 +404,6 @@ impl<E: Write> Teller<E> {
         }
     }
 
-    /// Writes a closing line.
-    pub fn say(&mut self, what: &str) {
-        let _ = writeln!(self.errors, "{NAME}: {what}");
-    }
-
     /// Writes the closing line of a run that ended so, and gives the exit status.
     pub fn say_end(&mut self, end: Result<DriveEnd, DriveError>) -> u8
         ensures { result ≡ status_of end }
@@ -415,8 +411,10 @@ impl<E: Write> Teller<E> {
         close_run(NAME, end, &mut self.errors)
     }
 
-    /// Writes the closing line of a run that has not begun.
-    pub fn say_failure(&mut self, failure: &Failure<'_>) {
-        let _ = failure.close(NAME, &mut self.errors);
+    /// Writes the closing line of a run that ended early, or that has not begun, and gives the exit status.
+    pub fn say_failure(&mut self, failure: &Failure<'_>) -> u8
+        ensures { result ≡ failure_status failure.now }
+    {
+        failure.close(NAME, &mut self.errors)
     }
 }

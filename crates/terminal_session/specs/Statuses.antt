@@ -5,12 +5,8 @@ use Rattle.xv_session.specs.Recorded.{Recorded}
 use Rattle.xv_debug.specs.declared.debugger.Next.{Next}
 use Rattle.xv_debug.specs.declared.debugger.Next.TheVariants as behind
 use Rattle.xv_live.specs.Resting.{NothingHappens}
-use Rattle.xv_live.specs.declared.trouble.Trouble.{Trouble}
-use Rattle.xv_live.specs.declared.trouble.Trouble.TheVariants.{Keyboard, Screen, Clock, Memory, Events}
 use Rattle.terminal_session.specs.declared.ending.End.{End}
 use Rattle.terminal_session.specs.declared.ending.End.TheVariants as ends
-use Rattle.terminal_session.specs.declared.trouble.Failure.{Failure}
-use Rattle.terminal_session.specs.declared.trouble.Failure.TheVariants as failures
 
 -- the exit status of a session that ended so
 abbrev pub end_status : End → ℕ
@@ -36,16 +32,3 @@ abbrev pub end_behind_prompt : Next → (halted : Option ℤ) → Option End
 end_behind_prompt behind.Ends halted = Some (asked_end halted)
 end_behind_prompt behind.Continues halted = None
 end_behind_prompt behind.Stays halted = None
-
--- the exit status for a trouble
-abbrev pub trouble_status : Trouble → ℕ
-trouble_status Keyboard = 5
-trouble_status Screen = 5
-trouble_status Clock = 5
-trouble_status Memory = 2
-trouble_status Events = 2
-
-abbrev pub failure_status : Failure → ℕ
-failure_status (failures.Trouble trouble) = trouble_status trouble
-failure_status failures.Record = 5
-failure_status failures.Name = 5

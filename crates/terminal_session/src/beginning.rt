@@ -1,13 +1,12 @@
 //! A session, from the files to its end.
+use crate::NAME;
 use crate::conversing::{live, replay};
 use crate::host::Desk;
 use crate::line::Settings;
 use crate::notes::{Notes, OpenLine};
 use crate::recording::write_record;
-use crate::refusal::Refusal;
-use crate::sources::sources;
 use crate::telling::PLAYED_AGAIN;
-use program_files::programs;
+use program_files::{Failure, FileRefusal, line_table, programs};
 use std::alloc::Global;
 use std::fs::{self, File};
 use std::io::{ErrorKind, Write};
@@ -17,21 +16,27 @@ use xv_debug::Debugger;
 use xv_live::Screen;
 use xv_machine::{ByteSink, Config, Counted};
 use xv_record::{Record, RecordError, chosen, read_record};
+use xv_report::Sources;
 use xv_session::Session;
 
+// The file of this path isn't a record, for this reason.
+fn no_record(alloc: Global, path: &str, why: RecordError) -> Failure<'static> {
+    Failure::in_words(format!(in alloc; "{path}: {why}"))
+}
+
 // The record in the file of this path.
-fn record_in<'a>(rt: &HostRuntime, path: &'a str) -> Result<Record, Refusal<'a>> {
+fn record_in<'a>(rt: &HostRuntime, path: &'a str) -> Result<Record, Failure<'a>> {
     let text = match fs::read_to_string(rt, path) {
         Ok(text) => text,
-        Err(error) if error.kind() == ErrorKind::OutOfMemory => return Err(Refusal::Memory),
+        Err(error) if error.kind() == ErrorKind::OutOfMemory => return Err(Failure::OutOfMemory),
         Err(error) if error.kind() == ErrorKind::InvalidData => {
-            return Err(Refusal::NoRecord(path, RecordError::NotARecord));
+            return Err(no_record(rt.alloc(), path, RecordError::NotARecord));
         }
-        Err(_) => return Err(Refusal::Unread(path)),
+        Err(_) => return Err(Failure::File(FileRefusal::CannotBeRead(path))),
     };
     match read_record(rt.alloc(), text.as_str()) {
         Ok(record) => Ok(record),
-        Err(error) => Err(Refusal::NoRecord(path, error)),
+        Err(error) => Err(no_record(rt.alloc(), path, error)),
     }
 }
 
@@ -49,13 +54,13 @@ fn boot(
 fn record_file<'a>(
     rt: &HostRuntime,
     settings: &'a Settings,
-) -> Result<Option<Counted<File>>, Refusal<'a>> {
+) -> Result<Option<Counted<File>>, Failure<'a>> {
     let Some(path) = &settings.record else {
         return Ok(None);
     };
     match fs::create(rt, path.as_str()) {
         Ok(file) => Ok(Some(Counted::new(file))),
-        Err(_) => Err(Refusal::Unwritten(path.as_str())),
+        Err(_) => Err(Failure::CannotBeWritten(path.as_str())),
     }
 }
 
@@ -79,7 +84,7 @@ fn go_through<'a>(
     debugger: &mut Debugger,
     settings: &'a Settings,
     record: Option<&Record>,
-) -> Result<u8, Refusal<'a>> {
+) -> Result<u8, Failure<'a>> {
     let file = record_file(rt, settings)?;
     let notes = Notes {
         errors: rt.stderr(),
@@ -100,17 +105,18 @@ fn go_through<'a>(
         return Ok(status);
     };
     let frames = record.map_or(settings.frames, |record| record.frames);
-    match write_record(rt.alloc(), session, frames, &mut file) {
-        Ok(()) => Ok(status),
-        Err(failure) => Ok(failure.close(&mut screen.teller.errors)),
-    }
+    write_record(rt.alloc(), session, frames, &mut file)?;
+    Ok(status)
 }
 
 // Boots the machine that the settings ask for, and attends to it.
-fn begin<'a>(rt: &HostRuntime, settings: &'a Settings) -> Result<u8, Refusal<'a>> {
-    let made = programs(rt, settings.files.as_slice())?;
+fn begin<'a>(rt: &HostRuntime, settings: &'a Settings) -> Result<u8, Failure<'a>> {
+    let files = settings.files.as_slice();
+    let made = programs(rt, files)?;
     let Some(path) = &settings.replay else {
-        let mut debugger = Debugger::with_sources(sources(rt, settings, made.lines)?);
+        let table = line_table(rt, &settings.lines)?;
+        let sources = Sources::of_files(rt, files, made.lines, table.as_str())?;
+        let mut debugger = Debugger::with_sources(sources);
         let mut session = boot(rt.alloc(), settings.frames, settings.trace, made.programs)?;
         return go_through(rt, &mut session, &mut debugger, settings, None);
     };
@@ -124,10 +130,10 @@ fn begin_record<'a>(
     settings: &'a Settings,
     programs: Vec<Program>,
     record: &Record,
-) -> Result<u8, Refusal<'a>> {
+) -> Result<u8, Failure<'a>> {
     let programs = match chosen(rt.alloc(), programs.as_slice(), record.programs.as_slice()) {
         Ok(programs) => programs,
-        Err(refusal) => return Ok(Refusal::Record(refusal).close(&mut rt.stderr())),
+        Err(why) => return Err(Failure::in_words(format!(in rt.alloc(); "{why}"))),
     };
     let mut session = boot(rt.alloc(), record.frames, settings.trace, programs)?;
     go_through(
@@ -143,6 +149,6 @@ fn begin_record<'a>(
 pub fn run(rt: &HostRuntime, settings: &Settings) -> u8 {
     match begin(rt, settings) {
         Ok(status) => status,
-        Err(refusal) => refusal.close(&mut rt.stderr()),
+        Err(failure) => failure.close(NAME, &mut rt.stderr()),
     }
 }

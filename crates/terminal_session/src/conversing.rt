@@ -7,13 +7,14 @@ ghost use Rattle.terminal_session.specs.Statuses.{IsEndOf, asked_end, end_behind
 ghost use Rattle.terminal_session.specs.Stretches.{Lives, Stretch};
 ghost use Rattle.terminal_session.specs.Tells.{Tells, outcome_status};
 
+use crate::NAME;
 use crate::ending::{End, close};
 use crate::notes::Notes;
 use crate::stopping::stop;
-use crate::trouble::Failure;
+use program_files::Failure;
 use std::io::Write;
 use xv_debug::{Debugger, Next};
-use xv_live::{Host, Pause, Pending, Screen, Trouble, attend, play};
+use xv_live::{Host, Pause, Pending, Screen, attend, play};
 use xv_machine::ByteSink;
 use xv_record::Record;
 use xv_session::Session;
@@ -47,7 +48,7 @@ fn prompt<H: Host, E: Write>(
     host: &mut H,
     debugger: &mut Debugger,
     notes: &mut Notes<E>,
-) -> Result<Option<End>, Trouble>
+) -> Result<Option<End>, Failure<'static>>
     ensures end { IfOk result (λ e. IfSome e (λ f. IsEndOf session.new f)) }
     ensures lines { Converses session.old session.new }
 {
@@ -63,7 +64,7 @@ fn end_behind<H: Host, E: Write>(
     pause: Pause,
     debugger: &mut Debugger,
     notes: &mut Notes<E>,
-) -> Result<Option<End>, Trouble>
+) -> Result<Option<End>, Failure<'static>>
     requires { IsPauseOf session.old pause }
     ensures end { IfOk result (λ e. IfSome e (λ f. IsEndOf session.new f)) }
     ensures lines { Converses session.old session.new }
@@ -83,7 +84,7 @@ fn turn<H: Host, W: ByteSink, E: Write>(
     pending: &mut Pending,
     debugger: &mut Debugger,
     screen: &mut Screen<W, Notes<E>>,
-) -> Result<Option<End>, Trouble>
+) -> Result<Option<End>, Failure<'static>>
     ensures end { IfOk result (λ e. IfSome e (λ f. IsEndOf session.new f)) }
     ensures stretch { OnOk result (Stretch session.old session.new (W.sink screen.old.sink).held (W.sink screen.new.sink).held) }
 {
@@ -98,7 +99,7 @@ fn converse<H: Host, W: ByteSink, E: Write>(
     host: &mut H,
     debugger: &mut Debugger,
     screen: &mut Screen<W, Notes<E>>,
-) -> Result<End, Trouble>
+) -> Result<End, Failure<'static>>
     ensures end { IfOk result (λ e. IsEndOf session.new e) }
     ensures lives { OnOk result (Lives session.old session.new (W.sink screen.old.sink).held (W.sink screen.new.sink).held) }
 {
@@ -116,7 +117,7 @@ fn play_to_end<W: ByteSink, E: Write>(
     session: &mut Session,
     kept: &Record,
     screen: &mut Screen<W, Notes<E>>,
-) -> Result<End, Trouble>
+) -> Result<End, Failure<'static>>
     ensures end { IfOk result (λ e. IsEndOf session.new e) }
     ensures shown { OnOk result (Plays (events_of_lines kept.now.events.items) session.old session.new (W.sink screen.old.sink).held (W.sink screen.new.sink).held) }
 {
@@ -130,14 +131,14 @@ fn play_to_end<W: ByteSink, E: Write>(
 // Tells what a session came to, and gives the exit status.
 fn tell_outcome<E: Write>(
     session: &Session,
-    outcome: Result<End, Trouble>,
+    outcome: &Result<End, Failure<'static>>,
     notes: &mut Notes<E>,
 ) -> u8
-    ensures { result ≡ outcome_status outcome }
+    ensures { result ≡ outcome_status outcome.now }
 {
     match outcome {
-        Ok(end) => close(session, end, notes),
-        Err(trouble) => Failure::Trouble(trouble).close(&mut notes.errors),
+        Ok(end) => close(session, *end, notes),
+        Err(failure) => failure.close(NAME, &mut notes.errors),
     }
 }
 
@@ -152,7 +153,7 @@ pub fn live<H: Host, W: ByteSink, E: Write>(
     ensures { Tells (Lives session.old session.new (W.sink screen.old.sink).held (W.sink screen.new.sink).held) result session.new }
 {
     let outcome = converse(session, host, debugger, screen);
-    tell_outcome(session, outcome, &mut screen.teller)
+    tell_outcome(session, &outcome, &mut screen.teller)
 }
 
 /// Plays a record to its end, and tells that. It gives the exit status.
@@ -164,5 +165,5 @@ pub fn replay<W: ByteSink, E: Write>(
     ensures { Tells (Plays (events_of_lines kept.now.events.items) session.old session.new (W.sink screen.old.sink).held (W.sink screen.new.sink).held) result session.new }
 {
     let outcome = play_to_end(session, kept, screen);
-    tell_outcome(session, outcome, &mut screen.teller)
+    tell_outcome(session, &outcome, &mut screen.teller)
 }

@@ -5,6 +5,7 @@ ghost use Rattle.terminal_session.specs.Statuses.{end_status};
 use crate::NAME;
 use crate::notes::Notes;
 use crate::telling::tell_waits;
+use program_files::exit_statuses::NOT_EXITED;
 use program_files::{show_trace, status_of_exit};
 use std::io::Write;
 use xv_session::Session;
@@ -29,7 +30,7 @@ impl End {
     {
         match self {
             End::Halted(status) => status_of_exit(*status),
-            End::Asked | End::NoKeys | End::Played => 4,
+            End::Asked | End::NoKeys | End::Played => NOT_EXITED,
         }
     }
 }

@@ -1,10 +1,11 @@
 //! The keyboard and the clock.
 ghost use Rattle.std.specs.Prelude.{◌≡◌};
 
+use program_files::Failure;
 use std::io::{ErrorKind, Read};
 use std::thread;
 use std::time::{Clock, Duration};
-use xv_live::{Host, Look, Trouble};
+use xv_live::{Host, Look};
 
 /// The longest rest, in milliseconds: a key that is typed meanwhile is seen behind it.
 const REST_MILLIS: u64 = 10;
@@ -41,10 +42,10 @@ impl<R: Read, C: Clock> Desk<R, C> {
     }
 
     // What the clock shows.
-    fn now(&self) -> Result<Duration, Trouble> {
+    fn now(&self) -> Result<Duration, Failure<'static>> {
         match self.clock.monotonic() {
             Ok(time) => Ok(time),
-            Err(_) => Err(Trouble::Clock),
+            Err(_) => Err(Failure::Clock),
         }
     }
 
@@ -62,7 +63,7 @@ impl<R: Read, C: Clock> Host for Desk<R, C> {
         self.terminal
     }
 
-    fn look(&mut self) -> Result<Look, Trouble> {
+    fn look(&mut self) -> Result<Look, Failure<'static>> {
         let mut byte = [0];
         match self.keyboard.read(&mut byte) {
             Ok(0) if self.terminal => Ok(Look::NoneNow),
@@ -70,11 +71,11 @@ impl<R: Read, C: Clock> Host for Desk<R, C> {
             Ok(_) => Ok(Look::Came(byte[0])),
             Err(error) if error.kind() == ErrorKind::Interrupted => Ok(Look::NoneNow),
             Err(error) if error.kind() == ErrorKind::WouldBlock => Ok(Look::NoneNow),
-            Err(_) => Err(Trouble::Keyboard),
+            Err(_) => Err(Failure::Read),
         }
     }
 
-    fn tick_is_due(&mut self) -> Result<bool, Trouble> {
+    fn tick_is_due(&mut self) -> Result<bool, Failure<'static>> {
         let now = self.now()?;
         if now < self.next {
             return Ok(false);
@@ -89,7 +90,7 @@ impl<R: Read, C: Clock> Host for Desk<R, C> {
         Ok(true)
     }
 
-    fn rest(&mut self) -> Result<(), Trouble> {
+    fn rest(&mut self) -> Result<(), Failure<'static>> {
         let now = self.now()?;
         let left = self.next.checked_sub(now).unwrap_or(Duration::ZERO);
         thread::sleep(&self.clock, left.min(Duration::from_millis(REST_MILLIS)));
@@ -100,7 +101,7 @@ impl<R: Read, C: Clock> Host for Desk<R, C> {
         thread::sleep(&self.clock, Duration::from_millis(REST_MILLIS));
     }
 
-    fn restart(&mut self) -> Result<(), Trouble> {
+    fn restart(&mut self) -> Result<(), Failure<'static>> {
         self.next = self.tick_behind(self.now()?);
         Ok(())
     }

@@ -1,7 +1,7 @@
-//! A session at a terminal, from the words of the command line to the exit status. The program that has it is
-//! `xv_terminal`.
+//! Sessions with a person, from the words of the command line to the exit status: at a terminal (`xv_terminal`), and with
+//! the debugger alone (`xv_debugger`, in [`debugging`](debug_by_words)).
 //!
-//! Keys go in as they are typed, what the machine sends comes out at once, and the clock ticks by the host's clock.
+//! At a terminal keys go in as they are typed, what the machine sends comes out at once, and the clock ticks by the host's clock.
 //! While a process may run the machine runs at full speed, and while all sleep it takes no time. Ctrl-C stops it and
 //! opens the prompt of the debugger (`xv_debug`), Ctrl-P tells the processes, and Ctrl-\ ends the machine. A session can
 //! be recorded and played again.
@@ -13,28 +13,27 @@
 mod beginning;
 mod command_line;
 mod conversing;
+mod debugging;
 mod ending;
 mod host;
 mod line;
 mod line_editor;
 mod notes;
 mod recording;
-mod refusal;
-mod sources;
 mod stopping;
 mod telling;
-mod trouble;
 
 pub use beginning::run;
 pub use command_line::settings;
+pub use debugging::debug_by_words;
 pub use line::Settings;
 use std::rt::Env;
 
 /// The name under which the program tells what is wrong.
 pub const NAME: &str = "xv_terminal";
 
-/// Does what the words of a command line ask for, and gives the exit status.
-pub fn obey<W: Env + AllocGlobal>(rt: &HostRuntime, words: &W) -> u8 {
+/// Runs the programs that the words of a command line name at the terminal, and gives the exit status.
+pub fn run_at_terminal<W: Env + AllocGlobal>(rt: &HostRuntime, words: &W) -> u8 {
     match settings(words) {
         Ok(settings) => run(rt, &settings),
         Err(error) => error.close(NAME, &mut rt.stdout(), &mut rt.stderr()),

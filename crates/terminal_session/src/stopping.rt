@@ -4,13 +4,14 @@ ghost use Rattle.xv_debug.specs.Conversations.{Converses, MovesByWord};
 use crate::line_editor::{Edit, LineEditor};
 use crate::notes::Notes;
 use crate::telling::tell_waits;
+use program_files::Failure;
 use std::io::Write;
 use xv_debug::{Debugger, Next};
-use xv_live::{Host, Look, Trouble};
+use xv_live::{Host, Look};
 use xv_session::Session;
 
 /// What stands before a line that is typed at the prompt.
-const PROMPT: &str = "(xv) ";
+pub(crate) const PROMPT: &str = "(xv) ";
 
 /// What is said when it opens.
 const WELCOME: &str = "the machine is stopped: `c` goes on, `help` tells the words, `quit` ends it";
@@ -48,7 +49,7 @@ fn read_line<H: Host, E: Write>(
     host: &mut H,
     editor: &mut LineEditor,
     notes: &mut E,
-) -> Result<Line, Trouble> {
+) -> Result<Line, Failure<'static>> {
     for _ in 0..u64::MAX {
         let byte = match host.look()? {
             Look::Came(byte) => byte,
@@ -70,21 +71,21 @@ fn read_line<H: Host, E: Write>(
     Ok(Line::Ends)
 }
 
-// Obeys a line, and writes its answer.
-fn obey<E: Write>(
+// Does what a line says, and writes the answer.
+fn answer<E: Write>(
     session: &mut Session,
     line: &[u8],
     debugger: &mut Debugger,
     notes: &mut Notes<E>,
-) -> Result<Next, Trouble>
+) -> Result<Next, Failure<'static>>
     ensures { MovesByWord session.old session.new }
 {
     let Ok(line) = std::str::from_utf8(line) else {
         return Ok(Next::Stays);
     };
-    let mut answer = String::new(notes.alloc);
-    let next = debugger.obey(notes.alloc, session, line, &mut answer)?;
-    notes.write_text(answer.as_str());
+    let mut text = String::new(notes.alloc);
+    let next = debugger.obey(notes.alloc, session, line, &mut text)?;
+    notes.write_text(text.as_str());
     Ok(next)
 }
 
@@ -94,13 +95,13 @@ fn exchange<H: Host, E: Write>(
     host: &mut H,
     debugger: &mut Debugger,
     notes: &mut Notes<E>,
-) -> Result<Next, Trouble>
+) -> Result<Next, Failure<'static>>
     ensures { MovesByWord session.old session.new }
 {
     notes.write_text(PROMPT);
     let mut editor = LineEditor::new();
     match read_line(host, &mut editor, &mut notes.errors)? {
-        Line::Typed => obey(session, editor.bytes(), debugger, notes),
+        Line::Typed => answer(session, editor.bytes(), debugger, notes),
         Line::GoesOn => Ok(Next::Continues),
         Line::Ends => Ok(Next::Ends),
     }
@@ -111,14 +112,14 @@ fn exchange<H: Host, E: Write>(
 ///
 /// # Errors
 ///
-/// The trouble that the keyboard has; [`Trouble::Memory`] if there is too little for an answer.
+/// That of the keyboard; [`Failure::OutOfMemory`] if there is too little for an answer.
 #[tactic(auto, using(xv_debug::proofs::Conversed::no_line, xv_debug::proofs::Conversed::one_more))]
 pub fn stop<H: Host, E: Write>(
     session: &mut Session,
     host: &mut H,
     debugger: &mut Debugger,
     notes: &mut Notes<E>,
-) -> Result<Next, Trouble>
+) -> Result<Next, Failure<'static>>
     ensures { Converses session.old session.new }
 {
     notes.break_line();

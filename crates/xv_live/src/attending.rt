@@ -12,7 +12,7 @@ use crate::pauses::Pause;
 use crate::pending::{Pending, has_room};
 use crate::resting::{goes_on_without_keys, may_run};
 use crate::screen::{Screen, Teller};
-use crate::trouble::Trouble;
+use program_files::Failure;
 use xv_machine::{ByteSink, Event, Machine};
 use xv_session::Session;
 
@@ -40,7 +40,7 @@ fn take_key<W: ByteSink, T: Teller>(
     byte: u8,
     pending: &mut Pending,
     screen: &mut Screen<W, T>,
-) -> Result<Asked, Trouble>
+) -> Result<Asked, Failure<'static>>
     ensures asked { IfOk result (IsAskedOf session.now) }
     ensures sink { W.sink screen.new.sink ≡ W.sink screen.old.sink }
     ensures waits { OnOk result (waiting pending.new ≡ waiting pending.old ++ typed_by (key_of byte)) }
@@ -73,7 +73,7 @@ fn look<H: Host, W: ByteSink, T: Teller>(
     most: usize,
     pending: &mut Pending,
     screen: &mut Screen<W, T>,
-) -> Result<Asked, Trouble>
+) -> Result<Asked, Failure<'static>>
     ensures asked { IfOk result (IsAskedOf session.now) }
     ensures sink { W.sink screen.new.sink ≡ W.sink screen.old.sink }
     ensures looks { OnOk result (Looks (H.coming host.old) (H.coming host.new) (waiting pending.old) (waiting pending.new)) }
@@ -97,7 +97,7 @@ fn type_keys<W: ByteSink, T: Teller>(
     session: &mut Session,
     pending: &mut Pending,
     screen: &mut Screen<W, T>,
-) -> Result<(), Trouble>
+) -> Result<(), Failure<'static>>
     ensures { OnOk result (TypesFirst session.old session.new (W.sink screen.old.sink).held (W.sink screen.new.sink).held (waiting pending.old) (waiting pending.new)) }
 {
     'keys: for _ in 0..KEYS_IN_TURN {
@@ -116,7 +116,7 @@ fn type_keys<W: ByteSink, T: Teller>(
 fn work<W: ByteSink, T: Teller>(
     session: &mut Session,
     screen: &mut Screen<W, T>,
-) -> Result<(), Trouble>
+) -> Result<(), Failure<'static>>
     ensures { OnOk result (Types [] session.old session.new (W.sink screen.old.sink).held (W.sink screen.new.sink).held) }
 {
     let mut left = STRETCH;
@@ -135,7 +135,7 @@ fn tick<H: Host, W: ByteSink, T: Teller>(
     session: &mut Session,
     host: &mut H,
     screen: &mut Screen<W, T>,
-) -> Result<(), Trouble>
+) -> Result<(), Failure<'static>>
     ensures coming { H.coming host.new ≡ H.coming host.old }
     ensures types { OnOk result (Types [] session.old session.new (W.sink screen.old.sink).held (W.sink screen.new.sink).held) }
 {
@@ -164,7 +164,7 @@ fn go_on<H: Host, W: ByteSink, T: Teller>(
     host: &mut H,
     pending: &mut Pending,
     screen: &mut Screen<W, T>,
-) -> Result<(), Trouble>
+) -> Result<(), Failure<'static>>
     ensures coming { H.coming host.new ≡ H.coming host.old }
     ensures types { OnOk result (TypesFirst session.old session.new (W.sink screen.old.sink).held (W.sink screen.new.sink).held (waiting pending.old) (waiting pending.new)) }
 {
@@ -184,7 +184,7 @@ fn pause_behind<H: Host>(
     session: &Session,
     host: &mut H,
     pending: &Pending,
-) -> Result<Option<Pause>, Trouble>
+) -> Result<Option<Pause>, Failure<'static>>
     ensures coming { H.coming host.new ≡ H.coming host.old }
     ensures pause { IfOk result (λ p. IfSome p (λ q. IsPauseOf session.now q)) }
 {
@@ -203,7 +203,7 @@ fn turn<H: Host, W: ByteSink, T: Teller>(
     host: &mut H,
     pending: &mut Pending,
     screen: &mut Screen<W, T>,
-) -> Result<Option<Pause>, Trouble>
+) -> Result<Option<Pause>, Failure<'static>>
     ensures pause { IfOk result (λ p. IfSome p (λ q. IsPauseOf session.new q)) }
     ensures attends { OnOk result (Attends session.old session.new (W.sink screen.old.sink).held (W.sink screen.new.sink).held (H.coming host.old) (H.coming host.new) (waiting pending.old) (waiting pending.new)) }
 {
@@ -221,13 +221,13 @@ fn turn<H: Host, W: ByteSink, T: Teller>(
 ///
 /// # Errors
 ///
-/// The trouble that the host, the session or the screen has. The session keeps what was sent.
+/// Those of the host, the session and the screen. The session keeps what was sent.
 pub fn attend<H: Host, W: ByteSink, T: Teller>(
     session: &mut Session,
     host: &mut H,
     pending: &mut Pending,
     screen: &mut Screen<W, T>,
-) -> Result<Pause, Trouble>
+) -> Result<Pause, Failure<'static>>
     ensures pause { IfOk result (λ p. IsPauseOf session.new p) }
     ensures attends { OnOk result (Attends session.old session.new (W.sink screen.old.sink).held (W.sink screen.new.sink).held (H.coming host.old) (H.coming host.new) (waiting pending.old) (waiting pending.new)) }
 {

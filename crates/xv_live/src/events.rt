@@ -6,7 +6,7 @@ ghost use Rattle.xv_live.specs.Attends.{Types};
 ghost use Rattle.xv_live.specs.Plays.{Plays};
 
 use crate::screen::{FaultNote, Screen, Teller};
-use crate::trouble::Trouble;
+use program_files::Failure;
 use xk_base::limits::SEND_BYTES;
 use xv_machine::{ByteSink, ConsoleList, Event, Outcome};
 use xv_session::Session;
@@ -15,13 +15,13 @@ use xv_session::Session;
 ///
 /// # Errors
 ///
-/// [`Trouble::Memory`] and [`Trouble::Events`] if the session can't keep it: then it isn't sent. [`Trouble::Screen`] if
-/// its bytes can't be written.
+/// [`Failure::OutOfMemory`] and [`Failure::TooManyEvents`] if the session can't keep it: then it isn't sent.
+/// [`Failure::Write`] if its bytes can't be written.
 pub fn send<W: ByteSink, T: Teller>(
     session: &mut Session,
     event: Event,
     screen: &mut Screen<W, T>,
-) -> Result<(), Trouble>
+) -> Result<(), Failure<'static>>
     ensures { OnOk result (Plays (event_of event ∷ []) session.old session.new (W.sink screen.old.sink).held (W.sink screen.new.sink).held) }
 {
     let outcome = session.send(event)?;
@@ -36,7 +36,7 @@ pub fn send<W: ByteSink, T: Teller>(
 pub fn drain<W: ByteSink, T: Teller>(
     session: &mut Session,
     screen: &mut Screen<W, T>,
-) -> Result<(), Trouble>
+) -> Result<(), Failure<'static>>
     ensures { OnOk result (Types [] session.old session.new (W.sink screen.old.sink).held (W.sink screen.new.sink).held) }
 {
     'sends: for _ in 0..SEND_BYTES {
@@ -84,7 +84,7 @@ pub fn some_runs<W: ByteSink, T: Teller>(
     session: &mut Session,
     most: u32,
     screen: &mut Screen<W, T>,
-) -> Result<u32, Trouble>
+) -> Result<u32, Failure<'static>>
     ensures plays { IfOk result (λ sent. Plays (replicate sent runs.Run) session.old session.new (W.sink screen.old.sink).held (W.sink screen.new.sink).held) }
     ensures within { IfOk result (λ sent. sent ≤ most) }
     ensures some { IfOk result (λ sent. 0 < most → 0 < sent) }

@@ -3,7 +3,7 @@ ghost use Rattle.std.specs.Prelude.{◌≡◌, List, Option, ℕ, IfOk};
 ghost use Rattle.std.specs.Io.KnownBytes.{Consumes};
 ghost use Rattle.xv_live.specs.Keys.{bytes_in};
 
-use crate::trouble::Trouble;
+use program_files::Failure;
 
 /// What a look at the keyboard comes to.
 #[derive(Clone, Copy)]
@@ -28,16 +28,16 @@ pub trait Host {
     ///
     /// # Errors
     ///
-    /// [`Trouble::Keyboard`] if the keyboard can't be read.
-    fn look(&mut self) -> Result<Look, Trouble>
+    /// [`Failure::Read`] if the keyboard can't be read.
+    fn look(&mut self) -> Result<Look, Failure<'static>>
         ensures { IfOk result (λ l. Consumes (coming self.old) (coming self.new) (bytes_in l)) };
 
     /// Whether the time for a tick has come since the last one that was told.
     ///
     /// # Errors
     ///
-    /// [`Trouble::Clock`] if the clock can't be read.
-    fn tick_is_due(&mut self) -> Result<bool, Trouble>
+    /// [`Failure::Clock`] if the clock can't be read.
+    fn tick_is_due(&mut self) -> Result<bool, Failure<'static>>
         ensures { coming self.new ≡ coming self.old };
 
     /// Rests for a moment, at most up to the next tick.
@@ -45,7 +45,7 @@ pub trait Host {
     /// # Errors
     ///
     /// As [`tick_is_due`](Host::tick_is_due).
-    fn rest(&mut self) -> Result<(), Trouble>
+    fn rest(&mut self) -> Result<(), Failure<'static>>
         ensures { coming self.new ≡ coming self.old };
 
     /// Waits for a hundredth of a second, while the machine is stopped.
@@ -57,6 +57,6 @@ pub trait Host {
     /// # Errors
     ///
     /// As [`tick_is_due`](Host::tick_is_due).
-    fn restart(&mut self) -> Result<(), Trouble>
+    fn restart(&mut self) -> Result<(), Failure<'static>>
         ensures { coming self.new ≡ coming self.old };
 }

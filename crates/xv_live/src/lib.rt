@@ -19,7 +19,6 @@ mod playing;
 mod recording;
 mod resting;
 mod screen;
-mod trouble;
 
 pub use attending::attend;
 pub use host::{Host, Look};
@@ -29,4 +28,3 @@ pub use pending::Pending;
 pub use playing::play;
 pub use recording::lines_of;
 pub use screen::{FaultNote, Screen, Teller};
-pub use trouble::Trouble;

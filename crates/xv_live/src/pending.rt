@@ -2,7 +2,7 @@
 ghost use Rattle.std.specs.Prelude.{◌≡◌, ◌<◌, ◌↔◌, IsTrue, length, min};
 ghost use Rattle.console_core.specs.Lists.{held_bytes, list_of};
 
-use crate::trouble::Trouble;
+use program_files::Failure;
 use std::alloc::Global;
 use std::collections::VecDeque;
 use xk_base::limits::CONSOLE_BYTES;
@@ -52,7 +52,7 @@ impl Pending {
     }
 
     /// Adds a key behind those that wait.
-    pub(crate) fn add(&mut self, key: u8) -> Result<(), Trouble>
+    pub(crate) fn add(&mut self, key: u8) -> Result<(), Failure<'static>>
         ensures { OnOk result (waiting self.new ≡ waiting self.old ++ key ∷ []) }
     {
         self.keys.push_back(key)?;

@@ -6,7 +6,7 @@ ghost use Rattle.xv_live.specs.Plays.{Plays, events_of_line, events_of_lines};
 
 use crate::events::{send, some_runs};
 use crate::screen::{Screen, Teller};
-use crate::trouble::Trouble;
+use program_files::Failure;
 use xv_machine::{ByteSink, Event};
 use xv_record::Line;
 use xv_session::Session;
@@ -16,7 +16,7 @@ fn play_runs<W: ByteSink, T: Teller>(
     session: &mut Session,
     count: u64,
     screen: &mut Screen<W, T>,
-) -> Result<(), Trouble>
+) -> Result<(), Failure<'static>>
     ensures { OnOk result (Plays (replicate count runs.Run) session.old session.new (W.sink screen.old.sink).held (W.sink screen.new.sink).held) }
 {
     let mut left = count;
@@ -34,7 +34,7 @@ fn play_often<W: ByteSink, T: Teller>(
     event: Event,
     count: u64,
     screen: &mut Screen<W, T>,
-) -> Result<(), Trouble>
+) -> Result<(), Failure<'static>>
     ensures { OnOk result (Plays (replicate count (event_of event)) session.old session.new (W.sink screen.old.sink).held (W.sink screen.new.sink).held) }
 {
     let mut left = count;
@@ -50,7 +50,7 @@ fn play_line<W: ByteSink, T: Teller>(
     session: &mut Session,
     line: &Line,
     screen: &mut Screen<W, T>,
-) -> Result<(), Trouble>
+) -> Result<(), Failure<'static>>
     ensures { OnOk result (Plays (events_of_line line.now) session.old session.new (W.sink screen.old.sink).held (W.sink screen.new.sink).held) }
 {
     match line {
@@ -70,7 +70,7 @@ pub fn play<W: ByteSink, T: Teller>(
     session: &mut Session,
     lines: &[Line],
     screen: &mut Screen<W, T>,
-) -> Result<(), Trouble>
+) -> Result<(), Failure<'static>>
     ensures { OnOk result (Plays (events_of_lines lines.now) session.old session.new (W.sink screen.old.sink).held (W.sink screen.new.sink).held) }
 {
     for line in lines {

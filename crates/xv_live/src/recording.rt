@@ -4,14 +4,14 @@ ghost use Rattle.kernel_spec.specs.runs.Run as runs;
 ghost use Rattle.xv_machine.specs.Events.{event_of};
 ghost use Rattle.xv_live.specs.Plays.{events_of_line, events_of_lines};
 
-use crate::trouble::Trouble;
+use program_files::Failure;
 use std::alloc::Global;
 use xv_machine::Event;
 use xv_record::Line;
 use xv_session::Session;
 
 // So many lines of a key.
-fn push_keys(lines: &mut Vec<Line>, byte: u8, count: u64) -> Result<(), Trouble>
+fn push_keys(lines: &mut Vec<Line>, byte: u8, count: u64) -> Result<(), Failure<'static>>
     ensures { OnOk result (events_of_lines lines.new.items ≡ events_of_lines lines.old.items ++ replicate count (runs.Key byte)) }
 {
     'keys: for made in 0..count {
@@ -21,7 +21,7 @@ fn push_keys(lines: &mut Vec<Line>, byte: u8, count: u64) -> Result<(), Trouble>
 }
 
 // One line more.
-fn push_line(lines: &mut Vec<Line>, line: Line) -> Result<(), Trouble>
+fn push_line(lines: &mut Vec<Line>, line: Line) -> Result<(), Failure<'static>>
     ensures { OnOk result (events_of_lines lines.new.items ≡ events_of_lines lines.old.items ++ events_of_line line) }
 {
     lines.push(line)?;
@@ -29,7 +29,7 @@ fn push_line(lines: &mut Vec<Line>, line: Line) -> Result<(), Trouble>
 }
 
 // The line of so many equal events. A key's lines are as many.
-fn push_span(lines: &mut Vec<Line>, event: Event, count: u64) -> Result<(), Trouble>
+fn push_span(lines: &mut Vec<Line>, event: Event, count: u64) -> Result<(), Failure<'static>>
     ensures { OnOk result (events_of_lines lines.new.items ≡ events_of_lines lines.old.items ++ replicate count (event_of event)) }
 {
     match event {
@@ -63,8 +63,8 @@ fn span_at(session: &Session, place: u64) -> Option<Span>
 ///
 /// # Errors
 ///
-/// [`Trouble::Memory`].
-pub fn lines_of(alloc: Global, session: &Session) -> Result<Vec<Line>, Trouble>
+/// [`Failure::OutOfMemory`].
+pub fn lines_of(alloc: Global, session: &Session) -> Result<Vec<Line>, Failure<'static>>
     ensures { IfOk result (λ lines. events_of_lines lines.items ≡ session.now.events) }
 {
     let mut lines = Vec::new(alloc);

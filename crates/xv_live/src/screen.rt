@@ -2,7 +2,7 @@
 ghost use Rattle.std.specs.Prelude.{◌≡◌, OnOk};
 ghost use Rattle.std.specs.Io.KnownBytes.{Appends};
 
-use crate::trouble::Trouble;
+use program_files::Failure;
 use xk_base::{Cause, Pid};
 use xv_machine::ByteSink;
 use xv_session::Session;
@@ -41,15 +41,15 @@ impl<W: ByteSink, T: Teller> Screen<W, T> {
     ///
     /// # Errors
     ///
-    /// [`Trouble::Screen`] if they can't be written.
-    pub fn show(&mut self, bytes: &[u8]) -> Result<(), Trouble>
+    /// [`Failure::Write`] if they can't be written.
+    pub fn show(&mut self, bytes: &[u8]) -> Result<(), Failure<'static>>
         ensures { OnOk result (Appends (W.sink self.old.sink).held (W.sink self.new.sink).held bytes.now) }
     {
         if bytes.is_empty() {
             return Ok(());
         }
         let Ok(()) = self.sink.write_out(bytes) else {
-            return Err(Trouble::Screen);
+            return Err(Failure::Write);
         };
         self.teller.follow(bytes);
         Ok(())

@@ -17,6 +17,7 @@ mod jumps;
 mod lines;
 mod names;
 mod sources;
+mod symbols;
 pub mod text;
 mod waits;
 mod waking;

@@ -1,7 +1,12 @@
 //! What is known of the sources of programs: their functions, and their lines.
+ghost use Rattle.std.specs.Prelude.{◌≡◌, IfOk, length};
+
 use crate::lines::Lines;
+use crate::symbols::symbols_of_files;
 use crate::text::{Function, Line, Location};
 use elf_symbols::{function_at, function_start};
+use std::alloc::AllocError;
+use std::rt::Files;
 use uasm_core::SourceLines;
 use xv_session::Session;
 
@@ -103,6 +108,29 @@ impl<'a> ProgramSource<'a> {
 }
 
 impl Sources {
+    /// What is known of the sources of the programs of these files: the lines of those that were assembled, what stands
+    /// beside each file for debuggers (the bytes of PATH.debug), and this table of the lines of the others
+    /// ([`Lines::of`]).
+    ///
+    /// # Errors
+    ///
+    /// The host has too little memory.
+    pub fn of_files<R: Files + AllocGlobal>(
+        rt: &R,
+        paths: &[String],
+        assembled: Vec<Option<SourceLines>>,
+        table: &str,
+    ) -> Result<Sources, AllocError>
+        ensures symbols { IfOk result (λ sources. length sources.symbols.items ≡ length paths.now) }
+        ensures assembled { IfOk result (λ sources. sources.assembled ≡ assembled) }
+    {
+        Ok(Sources {
+            symbols: symbols_of_files(rt, paths)?,
+            assembled,
+            lines: Lines::of(rt.alloc(), table)?,
+        })
+    }
+
     /// The bytes of an ELF file that stands beside the program at a place for its symbols: none if there is no such file.
     fn symbols_beside(&self, place: usize) -> &[u8] {
         match self.symbols.get(place) {

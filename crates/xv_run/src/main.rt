@@ -53,8 +53,8 @@ fn asked(rt: &HostRuntime) -> Result<Settings, WordsError> {
     Ok(settings(rt.alloc(), words.as_slice())?)
 }
 
-// Does what the words ask for.
-fn obey(rt: &HostRuntime) -> u8 {
+// Runs what the words ask for, and gives the exit status.
+fn run_by_words(rt: &HostRuntime) -> u8 {
     match asked(rt) {
         Ok(settings) => run(rt, &settings),
         Err(error) => error.close(NAME, &mut rt.stdout(), &mut rt.stderr()),
@@ -62,5 +62,5 @@ fn obey(rt: &HostRuntime) -> u8 {
 }
 
 fn main(rt: HostRuntime) -> ExitCode {
-    ExitCode::from(obey(&rt))
+    ExitCode::from(run_by_words(&rt))
 }

@@ -13,7 +13,7 @@ use xv_machine::{ByteSink, Config, KeySource, Machine, RunPlan, drive};
 
 // Drives a machine that has booted by the plan, shows its trace and the closing line, and gives the exit
 // status.
-fn play<R: KeySource, W: ByteSink, E: Write>(
+fn drive_to_end<R: KeySource, W: ByteSink, E: Write>(
     machine: &mut Machine,
     plan: RunPlan,
     keys: &mut R,
@@ -49,7 +49,7 @@ pub fn run_with<R: KeySource, W: ByteSink, E: Write>(
         (record { source = R.source keys.new; failed_reads = R.failures keys.new; sink = W.sink sink.new; failed_writes = W.failures sink.new }) }
 {
     match Machine::boot(alloc, config, programs) {
-        Ok(mut machine) => play(&mut machine, plan, keys, sink, errors),
+        Ok(mut machine) => drive_to_end(&mut machine, plan, keys, sink, errors),
         Err(error) => Failure::from(error).close(NAME, errors),
     }
 }

@@ -11,31 +11,39 @@ mod tool;
 
 use crate::behind::Behind;
 use crate::tool::{NAMES, Tool};
+use gdb_target::serve_gdb;
+use grade_submissions::grade_by_words;
+use program_files::exit_statuses::DONE;
+use reported_run::run_and_tell;
 use std::io::{self, Write};
 use std::process::ExitCode;
 use std::rt::Env;
+use terminal_session::{debug_by_words, run_at_terminal};
 use trace_picture::draw_trace;
 
-// Draws the trace on standard input.
+/// The exit status of a picture that isn't drawn.
+const NOT_DRAWN: u8 = 1;
+
+// Draws the trace on standard input, and gives the exit status.
 fn draw(rt: &HostRuntime) -> u8 {
     match draw_trace(rt.alloc(), rt.stdin(), rt.stdout()) {
-        Ok(()) => 0,
+        Ok(()) => DONE,
         Err(error) => {
             let _ = writeln!(rt.stderr(), "xv_picture: {error}");
-            1
+            NOT_DRAWN
         }
     }
 }
 
-// Does what the words of this command line ask a program for, and gives the exit status.
-fn play<W: Env + AllocGlobal>(rt: &HostRuntime, words: &W, tool: Tool) -> u8 {
+// Uses a program as the words of this command line say, and gives the exit status.
+fn use_tool<W: Env + AllocGlobal>(rt: &HostRuntime, words: &W, tool: Tool) -> u8 {
     match tool {
-        Tool::Debugger => debug_conversation::obey(rt, words),
-        Tool::Gdb => gdb_service::obey(rt, words),
-        Tool::Grade => grade_submissions::obey(rt, words),
+        Tool::Debugger => debug_by_words(rt, words),
+        Tool::Gdb => serve_gdb(rt, words),
+        Tool::Grade => grade_by_words(rt, words),
         Tool::Picture => draw(rt),
-        Tool::Terminal => terminal_session::obey(rt, words),
-        Tool::Why => reported_run::obey(rt, words),
+        Tool::Terminal => run_at_terminal(rt, words),
+        Tool::Why => run_and_tell(rt, words),
     }
 }
 
@@ -60,10 +68,10 @@ fn tell<W: Write>(output: &mut W) -> io::Result<()> {
 
 fn main(rt: HostRuntime) -> ExitCode {
     if let Some(tool) = Tool::of_word(&rt, 0) {
-        return ExitCode::from(play(&rt, &rt, tool));
+        return ExitCode::from(use_tool(&rt, &rt, tool));
     }
     if let Some(tool) = Tool::of_word(&rt, 1) {
-        return ExitCode::from(play(&rt, &Behind(&rt), tool));
+        return ExitCode::from(use_tool(&rt, &Behind(&rt), tool));
     }
     if !is_help(&rt) {
         let _ = tell(&mut rt.stderr());

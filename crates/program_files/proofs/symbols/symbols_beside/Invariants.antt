@@ -1,6 +1,0 @@
-use Rattle.std.proofs.Common.{◌≡◌, length}
-use Rattle.program_files.proofs.symbols.symbols_beside.Given as goal
-
--- one for each path so far
-abbrev pub invariant-loop-path : goal.invariant-loop-path
-invariant-loop-path g l = length l.symbols.items ≡ l.path-index

@@ -1,0 +1,89 @@
+//! The words of the command line.
+ghost use Rattle.std.specs.Prelude.{IfOk};
+ghost use Rattle.terminal_session.specs.DebugSettings.{AreInRange};
+
+use crate::debugging::NAME;
+use program_files::{CommandLine, CommandWord, FRAMES, TRACE, WordsError, given_words};
+use std::rt::Env;
+
+/// What the words ask for.
+#[derive(Drop)]
+pub(crate) struct Settings {
+    /// Frames of RAM: 16 to 32,768.
+    pub frames: u32,
+    /// The most notes that the trace keeps: 0 to 65,536.
+    pub trace: u32,
+    /// Whether a prompt is written before each line is read, and the line isn't written again.
+    pub prompt: bool,
+    /// The path of a table of lines.
+    pub lines: Option<String>,
+    /// The path of each FILE, in the order of the words: at least one.
+    pub files: Vec<String>,
+}
+
+/// What stands below the list of options in the text of `--help`.
+const MORE_HELP: &str = "\
+A FILE is named by the last part of its path. If that ends in .s, the file is assembler source,
+and is named without the .s. The program named init runs first. Functions are told by FILE.debug,
+if it is there, or else by FILE.
+
+Standard input has words, a line each: help lists them. Without --prompt each line is written
+before its answer, behind a >, so that the words of a file and their answers read well. The end
+of the input ends the debugger, and so do quit and c.
+
+Example:
+  printf 'until exit\\nback\\nwhere\\n' | xv_debugger init.s
+
+Exit status:
+  0  the words were obeyed, or this text was asked for
+  1  the command line is refused
+  2  a FILE or the boot is refused, or memory ran out
+  5  standard input or standard output failed";
+
+const PROMPT: &str = "prompt";
+
+const LINES: &str = "lines";
+
+const COMMAND_LINE: CommandLine = CommandLine {
+    name: NAME,
+    about: "Looks into programs that run on a RISC-V machine that has the kernel of xv6",
+    more_help: MORE_HELP,
+    words: &[
+        CommandWord::Number(&FRAMES),
+        CommandWord::Number(&TRACE),
+        CommandWord::Flag {
+            name: PROMPT,
+            help: "Write a prompt before each line is read, and don't write the line again",
+        },
+        CommandWord::Text {
+            name: LINES,
+            value: "TABLE",
+            help: "A file with rows PROGRAM ADDRESS LINE in decimal numbers, as ./xv --debug makes it",
+        },
+        CommandWord::Files,
+    ],
+};
+
+/// What the words of the command line ask for.
+///
+/// # Errors
+///
+/// Those of [`given_words`]: if a word is neither an option nor a FILE, if a number isn't in its range, if no FILE is
+/// given, if a word isn't text, if help is asked for, or if the host has too little memory.
+pub(crate) fn settings<R: Env + AllocGlobal>(rt: &R) -> Result<Settings, WordsError>
+    ensures { IfOk result (λ s. AreInRange s) }
+{
+    let given = given_words(rt, &COMMAND_LINE)?;
+    let frames = given.number(&FRAMES)?;
+    let trace = given.number(&TRACE)?;
+    let prompt = given.flag(PROMPT);
+    let lines = given.text(LINES)?;
+    let files = given.files()?;
+    Ok(Settings {
+        frames,
+        trace,
+        prompt,
+        lines,
+        files,
+    })
+}
