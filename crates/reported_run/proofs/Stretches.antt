@@ -1,28 +1,14 @@
 -- Runs that a session sends are Runs that its machine is sent.
-use Rattle.std.proofs.Common.{◌≡◌, ℕ, ◌<◌, ◌≤◌, inl, inr, arith, List, [], length, Option, None, Some, Result, Ok, Err}
+use Rattle.std.proofs.Common.{◌≡◌, ℕ, ◌<◌, ◌≤◌, inl, inr, arith, List, length, Option, None, Some}
 use Rattle.kernel_spec.specs.runs.Run.{Event, Outcome}
 use Rattle.kernel_spec.specs.views.Words.{or_zero}
-use Rattle.xv_machine.specs.Devices.{Sink}
 use Rattle.xv_machine.specs.Drives.{Ran, AreRuns}
-use Rattle.xv_machine.specs.Meaning.{Meaning}
-use Rattle.xv_machine.specs.Stretches.{Played, BrokeOff, Plays}
 use Rattle.xv_session.specs.Steps.{RunsMade, AreRunsTo}
 use Rattle.xv_session.specs.declared.running.Running.{Running}
 use Rattle.xv_session.proofs.RunsCounted.{count-sent, runs-count}
 
 abbrev Steps : Type 0
 Steps = List (Event × Outcome)
-
--- ---- bytes that were written, or weren't
-
-module _ {E : Type 0} (xs : List Event) (old new : Meaning) (h k : Sink) where
-  pub played-of : (r : Result (Unit {0}) E) (u : Unit {0}) → r ≡ Ok u → Plays r xs old new h k → Played xs old new h k
-  played-of (Ok x) u is plays = plays
-  played-of (Err e) u is plays = absurd (cc)
-
-  pub broke-of : (r : Result (Unit {0}) E) (e : E) → r ≡ Err e → Plays r xs old new h k → BrokeOff xs old new h k
-  broke-of (Ok x) e is plays = absurd (cc)
-  broke-of (Err x) e is plays = plays
 
 -- ---- Runs
 

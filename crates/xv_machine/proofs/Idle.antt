@@ -1,20 +1,17 @@
 -- Sends at which no byte waits: nothing comes of them, and of the next ones neither.
 use Rattle.std.proofs.Common.{◌≡◌, ◌∙◌, ℕ, zero, suc, ◌+◌, ◌<◌, ◌⊎◌, true, false, arith, List, [], ◌∷◌, ◌++◌, drop, replicate, Option, None, Some, inl, inr, refl, sym, ap, subst}
 use Rattle.std.specs.Prelude.{is_some}
-use Rattle.std.proofs.lemmas.List.{replicate-append-replicate}
 use Rattle.circular_buffer.specs.Buffer.{keep_last}
 use Rattle.kernel_spec.specs.views.View.{View}
 use Rattle.kernel_spec.specs.waking.Ready.{ready}
 use Rattle.kernel_spec.specs.runs.Run.{World, Event, Send, Sent, Step_of, Ticked, first_sent, out}
 use Rattle.kernel_spec.specs.waking.Wakes.{IsInCall, IsEnd, NoReadySleeper, Promised}
 use Rattle.xv_machine.specs.declared.trace.Note.{Note}
-use Rattle.xv_machine.specs.Devices.{Sink}
 use Rattle.xv_machine.specs.Drives.{Goes}
 use Rattle.xv_machine.specs.Machine.{SameTrace}
 use Rattle.xv_machine.specs.Meaning.{Meaning}
 use Rattle.xv_machine.specs.Sound.{IsSoundMachine}
-use Rattle.xv_machine.specs.Stretches.{Silent, Played, sends}
-use Rattle.xv_machine.proofs.Joins.{silent-played, played-join}
+use Rattle.xv_machine.specs.Stretches.{sends}
 use Rattle.xv_machine.proofs.Sent.{again, notes-again, events-again, goes-kept}
 
 -- no sleeper wakes: it isn't ready, there was no tick, and no process went
@@ -64,23 +61,8 @@ byte-left most None old mid new some promised frames trace is sound = let no : �
 byte-left most (Some b) old mid new some promised frames trace is sound =
     goes-kept ((Send, Sent (Some b)) ∷ []) (Note.Sent (Some b) ∷ []) old mid new (mid.world, promised, refl) frames trace refl is sound
 
--- ---- the Sends of a round
+-- ---- the Sends of a round show nothing at which no byte waits
 
-out-again : (n : ℕ) → out (replicate n (Send, Sent None)) ≡ []
+pub out-again : (n : ℕ) → out (replicate n (Send, Sent None)) ≡ []
 out-again zero = refl
 out-again (suc n) = out-again n
-
--- no byte waits: all that were left are sent, and nothing has to be written
-pub rest-played : (n sent left : ℕ) (byte : Option ℕ) (old mid new : Meaning) (h k : Sink) → sent + left ≡ n → is_some byte ≡ false
-    → Played (replicate sent Send) old mid h k → Goes mid (sends left byte) new
-    → Played (replicate n Send) old new h k
-rest-played n sent left (Some b) old mid new h k all none p goes = let no : ⊥ = cc in absurd no
-rest-played n sent left None old mid new h k all none p goes =
-    let rest : Silent (replicate left Send) mid new = record { list = replicate left (Send, Sent None); goes = goes; those = events-again left Send (Sent None); silent = out-again left } in
-    let both = played-join (replicate sent Send) (replicate left Send) old mid new h k k p (silent-played (replicate left Send) mid new k rest) in
-    subst (λ (es : List Event). Played es old new h k) (replicate-append-replicate sent left Send ∙ ap (λ m. replicate m Send) all) both
-
--- a byte leaves
-pub one-sent : (left : ℕ) (byte : Option ℕ) (old new : Meaning) → is_some byte ≡ true → Goes old (sends left byte) new → Goes old ((Send, Sent byte) ∷ []) new
-one-sent left None old new some goes = let no : ⊥ = cc in absurd no
-one-sent left (Some b) old new some goes = goes

@@ -60,7 +60,7 @@ front-none [] ys e = (refl, e)
 front-none (x ∷ xs) ys e = cc
 
 -- what shows no byte makes no call
-silent-calls : (list : Steps) → out list ≡ [] → calls_of list ≡ []
+pub silent-calls : (list : Steps) → out list ≡ [] → calls_of list ≡ []
 silent-calls [] e = refl
 silent-calls (s ∷ list) e =
     let both = front-none (bytes_out s.1) (out list) e in

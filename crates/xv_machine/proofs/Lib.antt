@@ -1,4 +1,5 @@
 pub mod Owned
+pub mod PlayedParts
 pub mod Counts
 pub mod Fitting
 pub mod Joins

@@ -1,7 +1,7 @@
 -- Whole rounds, as far as a drive has come, and how it ends.
 use Rattle.std.proofs.Common.{◌≡◌, ◌∙◌, ℕ, zero, suc, ◌+◌, ◌<◌, ◌≤◌, ◌⊎◌, cond, inl, inr, subst}
 use Rattle.std.proofs.Common.{refl, sym, ap, ap₂, arith, List, [], ◌∷◌, ◌++◌, append-nil, append_assoc, length, length-append}
-use Rattle.std.proofs.Common.{drop, replicate, slice_get, Bool, true, false, ◌||◌, Option, None, Some, IfSome}
+use Rattle.std.proofs.Common.{drop, replicate, slice_get, Bool, true, false, ◌||◌, Option, None, Some, IfSome, Result, Ok, Err, OnOk, IfErr}
 use Rattle.std.specs.Prelude.{not, is_none, is_some}
 use Rattle.std.specs.Option.{option_to_list}
 use Rattle.std.proofs.lemmas.Grind.{flat_map-append}
@@ -13,7 +13,10 @@ use Rattle.kernel_spec.specs.runs.Rounds.{key_events, round, events, halts, AreR
 use Rattle.kernel_spec.proofs.runs.Plans.{rounds_follow_rounds}
 use Rattle.xv_machine.specs.Devices.{Source, Asked, Sink, Calls, failed}
 use Rattle.xv_machine.specs.declared.driving.RunPlan.{RunPlan}
-use Rattle.xv_machine.specs.Drives.{Goes, Wrote, calls_of, AskedFor, is_halted, key_in, keys_in, Done, StoppedByRead, StoppedByWrite}
+use Rattle.xv_machine.specs.declared.driving.DriveEnd.{DriveEnd}
+use Rattle.xv_machine.specs.declared.driving.DriveError.{DriveError}
+use Rattle.xv_machine.specs.declared.driving.DriveError.TheVariants.{Read, Write}
+use Rattle.xv_machine.specs.Drives.{Goes, Wrote, calls_of, AskedFor, is_halted, key_in, keys_in, Done, StoppedByRead, StoppedByWrite, OnRead, OnWrite}
 use Rattle.xv_machine.specs.Meaning.{Meaning}
 use Rattle.xv_machine.specs.Sound.{IsSoundMachine}
 use Rattle.xv_machine.specs.Stretches.{Played, BrokeOff, TakesKey}
@@ -393,3 +396,11 @@ write-stops plan count at_end source source_now source_after key old mid new sin
           (asked-typed key source.asked source_after.asked (length read) (length (keys_in (events (g.list ++ part)))) (ap length read_is ∙ length-append read (option_to_list key))
           (one_asked plan.quantum count at_end source.left source_now.left source_after.left key old mid sink sink_now source.asked source_now.asked source_after.asked g takes call));
     }
+
+-- however a drive ended, the machine has gone by events
+pub ends-somehow : (end : Result DriveEnd DriveError) (plan : RunPlan) (source source_after : Source) (old new : Meaning) (sink sink_after : Sink)
+    → OnOk end (Done plan source source_after old new sink sink_after) → IfErr end (λ e. OnRead e (StoppedByRead plan source source_after old new sink sink_after))
+    → IfErr end (λ e. OnWrite e (StoppedByWrite plan source source_after old new sink sink_after)) → (list : Steps) × Goes old list new
+ends-somehow (Ok end) plan source source_after old new sink sink_after done read write = (done.list, done.goes)
+ends-somehow (Err Read) plan source source_after old new sink sink_after done read write = (read.list, read.goes)
+ends-somehow (Err Write) plan source source_after old new sink sink_after done read write = (write.list, write.goes)

@@ -4,7 +4,7 @@ use Rattle.std.specs.Io.KnownBytes.{Appends, Consumes}
 use Rattle.circular_buffer.specs.Buffer.{keep_last}
 use Rattle.kernel_spec.specs.runs.Run as runs
 use Rattle.kernel_spec.specs.steps.Own.{Stepped}
-use Rattle.kernel_spec.specs.runs.Run.{Event, Run, Tick, Key, Send, Outcome, Step_of, bytes_out, out}
+use Rattle.kernel_spec.specs.runs.Run.{Event, Run, Tick, Key, Send, Outcome, Step_of, Sent, bytes_out, out}
 use Rattle.kernel_spec.specs.runs.Rounds.{events, Planned, StopsBeforeRound, EndsInRound}
 use Rattle.kernel_spec.specs.waking.Wakes.{IsPromised}
 use Rattle.kernel_spec.specs.views.Words.{or_zero}
@@ -45,6 +45,14 @@ pub record Ran (most sent : ℕ) (old new : Meaning) : Type 0 where
   pub goes : Goes old list new
   pub runs_are : AreRuns most (or_zero old.world.turns.current) list
   pub count : length list ≡ sent
+
+-- ---- one Send after another
+
+-- So many Sends were sent, one after another: the last of them sent this byte, or none, and no other sent one
+pub record SendsMade (sent : ℕ) (byte : Option ℕ) (old new : Meaning) : Type 0 where
+  pub idle : ℕ
+  pub goes : Goes old (replicate idle (Send, Sent None) ++ (Send, Sent byte) ∷ []) new
+  pub count : sent ≡ idle + 1
 
 -- ---- rounds
 

@@ -9,6 +9,7 @@ pub mod Machine
 pub mod Meaning
 pub mod Notes
 pub mod Reached
+pub mod RoundParts
 pub mod Sound
 pub mod Steps
 pub mod Stretches

@@ -2,7 +2,7 @@
 use Rattle.std.specs.Prelude.{◌≡◌, ◌≢◌, ℕ, Bool, true, false, List, [], ◌∷◌, ◌++◌, replicate, Option, None, Some, Result, MatchResult}
 use Rattle.kernel_spec.specs.runs.Run.{Event, Send, Outcome, Sent, bytes_out, out}
 use Rattle.kernel_spec.specs.runs.Rounds.{events}
-use Rattle.xv_machine.specs.Devices.{GivesKey, Sink, Calls, failed}
+use Rattle.xv_machine.specs.Devices.{one_more, GivesKey, Sink, Calls, failed}
 use Rattle.xv_machine.specs.Drives.{Goes, Wrote, calls_of}
 use Rattle.xv_machine.specs.Meaning.{Meaning}
 
@@ -38,6 +38,10 @@ Plays result wanted old new sink sink_after = MatchResult result (λ _. Played w
 abbrev pub sends : (most : ℕ) → (byte : Option ℕ) → List (Event × Outcome)
 sends most None = replicate most (Send, Sent None)
 sends most (Some b) = (Send, Sent (Some b)) ∷ []
+
+-- one more call failed, or none did
+abbrev pub FailsSo : {E : Type 0} → Result (Unit {0}) E → (before after : ℕ) → Type 0
+FailsSo written before after = MatchResult written (λ _. after ≡ before) (λ _. after ≡ one_more before)
 
 -- the key of a round: none, where the source was at its end before, and else what it gives
 abbrev pub TakesKey : (at_end : Bool) → (left : Option (List ℕ)) → (key : Option ℕ) → (left_after : Option (List ℕ)) → Type 0

@@ -1,23 +1,24 @@
-//! A machine, driven in rounds between a source of keys and a sink of bytes.
+//! Rounds, played between a source of keys and a sink of bytes: by a machine that is driven, or by whoever has one.
 ghost use Rattle.std.specs.Prelude.{◌≡◌, ◌≢◌, ◌∷◌, [], false, if◌then◌else◌, OnOk, OnErr, IfOk, IfErr, replicate};
 ghost use Rattle.std.specs.Option.{option_to_list};
 ghost use Rattle.std.specs.Io.KnownBytes.{Appends};
 ghost use Rattle.kernel_spec.specs.runs.Run as runs;
 ghost use Rattle.kernel_spec.specs.runs.Run.{bytes_out};
-ghost use Rattle.kernel_spec.specs.runs.Rounds.{key_events, round};
-ghost use Rattle.xk_base.specs.declared.limits.TheConstants.{SEND_BYTES};
+ghost use Rattle.kernel_spec.specs.runs.Rounds.{round};
 ghost use Rattle.xv_machine.specs.Devices.{one_more, failed, Asked, Calls, OneFailed};
 ghost use Rattle.xv_machine.specs.Drives.{Done, StoppedByRead, StoppedByWrite, IsEndOf, OnRead, OnWrite, call_of};
 ghost use Rattle.xv_machine.specs.Events.{event_of};
+ghost use Rattle.xv_machine.specs.RoundParts.{events_of_parts};
 ghost use Rattle.xv_machine.specs.Sound.{IsSoundMachine};
-ghost use Rattle.xv_machine.specs.Stretches.{Plays, Silent, TakesKey};
+ghost use Rattle.xv_machine.specs.Stretches.{Plays, FailsSo, Silent, TakesKey};
 
 use crate::devices::{ByteSink, DeviceFault, KeySource};
 use crate::event::Event;
 use crate::machine::Machine;
+use crate::parts::{RoundPart, round_parts};
+use crate::player::RoundPlayer;
 use std::slice;
 use thiserror::Error;
-use xk_base::limits::SEND_BYTES;
 
 /// How long a machine is driven.
 #[derive(Clone, Copy)]
@@ -48,8 +49,11 @@ pub enum DriveError {
     Write,
 }
 
+/// Whether all bytes were written.
+type Written = Result<(), DeviceFault>;
+
 // Writes the bytes at once, where there are any.
-fn write_some<W: ByteSink>(sink: &mut W, bytes: &[u8]) -> Result<(), DeviceFault>
+fn write_some<W: ByteSink>(sink: &mut W, bytes: &[u8]) -> Written
     ensures bytes { OnOk result (Appends (W.sink sink.old).held (W.sink sink.new).held bytes.now) }
     ensures call { OnOk result (Calls (W.sink sink.old).calls (W.sink sink.new).calls (call_of bytes.now)) }
     ensures failed_call { OnErr result (Calls (W.sink sink.old).calls (W.sink sink.new).calls (failed bytes.now ∷ [])) }
@@ -63,43 +67,50 @@ fn write_some<W: ByteSink>(sink: &mut W, bytes: &[u8]) -> Result<(), DeviceFault
     sink.write_out(bytes)
 }
 
-// Sends an event, and writes what it shows.
-fn play<W: ByteSink>(machine: &mut Machine, event: Event, sink: &mut W) -> Result<(), DeviceFault>
-    ensures plays { Plays result (event_of event ∷ []) machine.old machine.new (W.sink sink.old) (W.sink sink.new) }
-    ensures ok { OnOk result (W.failures sink.new ≡ W.failures sink.old) }
-    ensures err { OnErr result (W.failures sink.new ≡ one_more (W.failures sink.old)) }
-    ensures sound { IsSoundMachine machine.new }
-{
-    let outcome = machine.event(event);
-    write_some(sink, outcome.shown())
-}
-
-// Types the key, where there is one.
-fn type_key<W: ByteSink>(
-    machine: &mut Machine,
-    key: Option<u8>,
+// Plays an event, and writes what it shows.
+fn perform<P: RoundPlayer, W: ByteSink>(
+    player: &mut P,
+    event: Event,
     sink: &mut W,
-) -> Result<(), DeviceFault>
-    requires { IsSoundMachine machine.old }
-    ensures plays { Plays result (key_events (option_to_list key)) machine.old machine.new (W.sink sink.old) (W.sink sink.new) }
-    ensures ok { OnOk result (W.failures sink.new ≡ W.failures sink.old) }
-    ensures err { OnErr result (W.failures sink.new ≡ one_more (W.failures sink.old)) }
+) -> Result<Written, P::Refusal>
+    ensures plays { IfOk result (λ w. Plays w (event_of event ∷ []) (P.machine player.old) (P.machine player.new) (W.sink sink.old) (W.sink sink.new)) }
+    ensures failures { IfOk result (λ w. FailsSo w (W.failures sink.old) (W.failures sink.new)) }
 {
-    match key {
-        Some(byte) => play(machine, Event::Key(byte), sink),
-        None => Ok(()),
-    }
+    let outcome = player.play(event)?;
+    Ok(write_some(sink, outcome.shown()))
 }
 
-// Sends Run `quantum` times, which shows no byte.
-fn run_quantum(machine: &mut Machine, quantum: u32)
-    requires { IsSoundMachine machine.old }
-    ensures { Silent (replicate quantum runs.Run) machine.old machine.new }
+// Plays an event so many times.
+fn play_often<P: RoundPlayer, W: ByteSink>(
+    player: &mut P,
+    event: Event,
+    count: u32,
+    sink: &mut W,
+) -> Result<Written, P::Refusal>
+    requires { IsSoundMachine (P.machine player.old) }
+    ensures plays { IfOk result (λ w. Plays w (replicate count (event_of event)) (P.machine player.old) (P.machine player.new) (W.sink sink.old) (W.sink sink.new)) }
+    ensures failures { IfOk result (λ w. FailsSo w (W.failures sink.old) (W.failures sink.new)) }
 {
-    let mut left = quantum;
-    'runs: while left > 0 {
-        left -= machine.run(left);
+    for sent in 0..count {
+        let written = perform(player, event, sink)?;
+        let Ok(()) = written else {
+            return Ok(Err(DeviceFault));
+        };
     }
+    Ok(Ok(()))
+}
+
+// Sends Run so many times, which shows no byte.
+fn run_often<P: RoundPlayer>(player: &mut P, count: u32) -> Result<(), P::Refusal>
+    requires { IsSoundMachine (P.machine player.old) }
+    ensures { IfOk result (λ _. Silent (replicate count runs.Run) (P.machine player.old) (P.machine player.new)) }
+{
+    let mut left = count;
+    'runs: while left > 0 {
+        let sent = player.play_runs(left)?;
+        left -= sent;
+    }
+    Ok(())
 }
 
 // The byte that was sent, if there was one.
@@ -112,39 +123,81 @@ fn sent_bytes(byte: &Option<u8>) -> &[u8]
     }
 }
 
-// Lets the terminal take as many bytes as may wait for it, and writes each at once.
-fn send_all<W: ByteSink>(machine: &mut Machine, sink: &mut W) -> Result<(), DeviceFault>
-    requires { IsSoundMachine machine.old }
-    ensures plays { Plays result (replicate SEND_BYTES runs.Send) machine.old machine.new (W.sink sink.old) (W.sink sink.new) }
-    ensures ok { OnOk result (W.failures sink.new ≡ W.failures sink.old) }
-    ensures err { OnErr result (W.failures sink.new ≡ one_more (W.failures sink.old)) }
+// Lets the terminal take so many bytes, and writes each at once.
+fn send_often<P: RoundPlayer, W: ByteSink>(
+    player: &mut P,
+    count: u32,
+    sink: &mut W,
+) -> Result<Written, P::Refusal>
+    requires { IsSoundMachine (P.machine player.old) }
+    ensures plays { IfOk result (λ w. Plays w (replicate count runs.Send) (P.machine player.old) (P.machine player.new) (W.sink sink.old) (W.sink sink.new)) }
+    ensures failures { IfOk result (λ w. FailsSo w (W.failures sink.old) (W.failures sink.new)) }
 {
-    for sent in 0..SEND_BYTES {
-        let byte = machine.send((SEND_BYTES - sent) as u32);
-        if byte.is_none() {
-            return Ok(());
-        }
-        write_some(sink, sent_bytes(&byte))?;
+    let mut left = count;
+    'sends: while left > 0 {
+        let sends = player.play_sends(left)?;
+        let written = write_some(sink, sent_bytes(&sends.byte));
+        let Ok(()) = written else {
+            return Ok(Err(DeviceFault));
+        };
+        left -= sends.sent;
     }
-    Ok(())
+    Ok(Ok(()))
+}
+
+// Plays an event so many times: Runs and Sends as many at once as the player makes.
+fn play_part<P: RoundPlayer, W: ByteSink>(
+    player: &mut P,
+    event: Event,
+    count: u32,
+    sink: &mut W,
+) -> Result<Written, P::Refusal>
+    requires { IsSoundMachine (P.machine player.old) }
+    ensures plays { IfOk result (λ w. Plays w (replicate count (event_of event)) (P.machine player.old) (P.machine player.new) (W.sink sink.old) (W.sink sink.new)) }
+    ensures failures { IfOk result (λ w. FailsSo w (W.failures sink.old) (W.failures sink.new)) }
+{
+    match event {
+        Event::Run => {
+            run_often(player, count)?;
+            Ok(Ok(()))
+        }
+        Event::Send => send_often(player, count, sink),
+        Event::Tick | Event::Key(_) => play_often(player, event, count, sink),
+    }
+}
+
+// Plays the parts of a round, one after another.
+fn play_parts<P: RoundPlayer, W: ByteSink>(
+    player: &mut P,
+    parts: &[RoundPart],
+    sink: &mut W,
+) -> Result<Written, P::Refusal>
+    requires { IsSoundMachine (P.machine player.old) }
+    ensures plays { IfOk result (λ w. Plays w (events_of_parts parts.now) (P.machine player.old) (P.machine player.new) (W.sink sink.old) (W.sink sink.new)) }
+    ensures failures { IfOk result (λ w. FailsSo w (W.failures sink.old) (W.failures sink.new)) }
+{
+    for part in parts {
+        let written = play_part(player, part.event, part.count, sink)?;
+        let Ok(()) = written else {
+            return Ok(Err(DeviceFault));
+        };
+    }
+    Ok(Ok(()))
 }
 
 // One round.
-fn round<W: ByteSink>(
-    machine: &mut Machine,
+fn play_round<P: RoundPlayer, W: ByteSink>(
+    player: &mut P,
     key: Option<u8>,
     quantum: u32,
     sink: &mut W,
-) -> Result<(), DeviceFault>
-    requires { IsSoundMachine machine.old }
-    ensures plays { Plays result (round quantum (option_to_list key)) machine.old machine.new (W.sink sink.old) (W.sink sink.new) }
-    ensures ok { OnOk result (W.failures sink.new ≡ W.failures sink.old) }
-    ensures err { OnErr result (W.failures sink.new ≡ one_more (W.failures sink.old)) }
+) -> Result<Written, P::Refusal>
+    requires { IsSoundMachine (P.machine player.old) }
+    ensures plays { IfOk result (λ w. Plays w (round quantum (option_to_list key)) (P.machine player.old) (P.machine player.new) (W.sink sink.old) (W.sink sink.new)) }
+    ensures failures { IfOk result (λ w. FailsSo w (W.failures sink.old) (W.failures sink.new)) }
 {
-    type_key(machine, key, sink)?;
-    run_quantum(machine, quantum);
-    machine.event(Event::Tick);
-    send_all(machine, sink)
+    let parts = round_parts(key, quantum);
+    play_parts(player, &parts, sink)
 }
 
 // The next key; none where the source was at its end before.
@@ -159,6 +212,50 @@ fn take_key<R: KeySource>(at_end: bool, keys: &mut R) -> Result<Option<u8>, Devi
         return Ok(None);
     }
     keys.next_key()
+}
+
+/// Lets a player play rounds, as [`drive`] drives a machine: the same events are sent, the same bytes are written and
+/// the same keys are read.
+///
+/// The inner result is that of `drive`.
+///
+/// # Errors
+///
+/// The player's refusal: the events before it are sent.
+pub fn play_rounds<P: RoundPlayer, R: KeySource, W: ByteSink>(
+    player: &mut P,
+    plan: RunPlan,
+    keys: &mut R,
+    sink: &mut W,
+) -> Result<Result<DriveEnd, DriveError>, P::Refusal>
+    ensures done { IfOk result (λ end. OnOk end (Done plan (R.source keys.old) (R.source keys.new) (P.machine player.old) (P.machine player.new) (W.sink sink.old) (W.sink sink.new))) }
+    ensures end { IfOk result (λ end. IfOk end (λ e. IsEndOf e (P.machine player.new))) }
+    ensures none_failed { IfOk result (λ end. OnOk end ((R.failures keys.new ≡ R.failures keys.old) × (W.failures sink.new ≡ W.failures sink.old))) }
+    ensures read { IfOk result (λ end. IfErr end (λ e. OnRead e (StoppedByRead plan (R.source keys.old) (R.source keys.new) (P.machine player.old) (P.machine player.new) (W.sink sink.old) (W.sink sink.new)))) }
+    ensures read_failed { IfOk result (λ end. IfErr end (λ e. OnRead e (OneFailed (R.failures keys.old) (R.failures keys.new) (W.failures sink.old) (W.failures sink.new)))) }
+    ensures write { IfOk result (λ end. IfErr end (λ e. OnWrite e (StoppedByWrite plan (R.source keys.old) (R.source keys.new) (P.machine player.old) (P.machine player.new) (W.sink sink.old) (W.sink sink.new)))) }
+    ensures write_failed { IfOk result (λ end. IfErr end (λ e. OnWrite e (OneFailed (W.failures sink.old) (W.failures sink.new) (R.failures keys.old) (R.failures keys.new)))) }
+{
+    let mut at_end = false;
+    let mut halted = player.status();
+    for count in 0..plan.rounds {
+        if let Some(status) = halted {
+            return Ok(Ok(DriveEnd::Halted(status)));
+        }
+        let Ok(key) = take_key(at_end, keys) else {
+            return Ok(Err(DriveError::Read));
+        };
+        at_end = key.is_none();
+        let written = play_round(player, key, plan.quantum, sink)?;
+        let Ok(()) = written else {
+            return Ok(Err(DriveError::Write));
+        };
+        halted = player.status();
+    }
+    match halted {
+        Some(status) => Ok(Ok(DriveEnd::Halted(status))),
+        None => Ok(Ok(DriveEnd::RoundsOver)),
+    }
 }
 
 /// Drives the machine in rounds.
@@ -189,23 +286,8 @@ pub fn drive<R: KeySource, W: ByteSink>(
     ensures sound { IsSoundMachine machine.new }
     ensures frames { machine.new.frames.count ≡ machine.old.frames.count }
 {
-    let mut at_end = false;
-    let mut halted = machine.halted();
-    for count in 0..plan.rounds {
-        if let Some(status) = halted {
-            return Ok(DriveEnd::Halted(status));
-        }
-        let Ok(key) = take_key(at_end, keys) else {
-            return Err(DriveError::Read);
-        };
-        at_end = key.is_none();
-        let Ok(()) = round(machine, key, plan.quantum, sink) else {
-            return Err(DriveError::Write);
-        };
-        halted = machine.halted();
-    }
-    match halted {
-        Some(status) => Ok(DriveEnd::Halted(status)),
-        None => Ok(DriveEnd::RoundsOver),
+    match play_rounds(machine, plan, keys, sink) {
+        Ok(end) => end,
+        Err(never) => match never {},
     }
 }

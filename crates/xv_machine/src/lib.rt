@@ -13,15 +13,19 @@ mod event;
 mod fast;
 pub mod laws;
 mod machine;
+mod parts;
+mod player;
 mod step;
 mod trace;
 
 pub use devices::{ByteSink, Counted, DeviceFault, KeySource};
-pub use driving::{DriveEnd, DriveError, RunPlan, drive};
+pub use driving::{DriveEnd, DriveError, RunPlan, drive, play_rounds};
 pub use event::{Event, Outcome};
 pub use kcall_core::{
     Call, ChildState, ConsoleList, Descriptor, Echo, End, FileId, FrameUse, OpenFile, PipeCounts,
     ProcessState, Target,
 };
 pub use machine::{Config, Machine};
+pub use parts::{RoundPart, round_parts};
+pub use player::{RoundPlayer, Sends};
 pub use trace::Note;

@@ -6,7 +6,7 @@ use Rattle.kernel_spec.specs.runs.Rounds.{key_events}
 use Rattle.kernel_spec.specs.runs.Run.{Run, Tick, Send}
 use Rattle.xv_machine.specs.Stretches.{Plays}
 use Rattle.xv_machine.proofs.Joins.{silent-played, played-join, later-plays, broke-early}
-use Rattle.reported_run.proofs.Stretches.{played-of, broke-of}
+use Rattle.xv_machine.proofs.PlayedParts.{played-of, broke-of}
 use Rattle.reported_run.proofs.watching.round.Goals as goal
 
 pub returns-in_default-clause-plays : goal.returns-in_default-clause-plays

@@ -2,7 +2,7 @@ use Rattle.std.proofs.Common.{◌∷◌, [], arith, rules}
 use Rattle.xk_base.specs.declared.limits.TheConstants.{SEND_BYTES}
 use Rattle.kernel_spec.specs.runs.Run as runs
 use Rattle.xv_machine.proofs.Joins.{none-played, played-more, broke-within}
-use Rattle.reported_run.proofs.Stretches.{played-of, broke-of}
+use Rattle.xv_machine.proofs.PlayedParts.{played-of, broke-of}
 use Rattle.reported_run.proofs.watching.send_all.Goals as goal
 
 pub loop-sent-init : goal.loop-sent-init

@@ -3,7 +3,7 @@ use Rattle.std.specs.Prelude.{is_some}
 use Rattle.std.specs.Option.{option_to_list}
 use Rattle.kernel_spec.specs.runs.Rounds.{round}
 use Rattle.xv_machine.proofs.Rounds.{none-going, one-more, none-from-some, all-done, read-stops, write-stops}
-use Rattle.reported_run.proofs.Stretches.{played-of, broke-of}
+use Rattle.xv_machine.proofs.PlayedParts.{played-of, broke-of}
 use Rattle.reported_run.proofs.watching.watch.Goals as goal
 
 pub loop-count-init : goal.loop-count-init

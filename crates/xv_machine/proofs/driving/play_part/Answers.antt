@@ -1,0 +1,16 @@
+use Rattle.std.proofs.Common.{ap, replicate, sym}
+use Rattle.kernel_spec.specs.runs.Run.{Run}
+use Rattle.xv_machine.specs.Events.{event_of}
+use Rattle.xv_machine.specs.declared.event.Event as told
+use Rattle.xv_machine.proofs.Joins.{silent-played}
+use Rattle.xv_machine.proofs.PlayedParts.{played-those}
+use Rattle.xv_machine.proofs.driving.play_part.Goals as goal
+
+pub returns-in_ok-run_often-in-Run-clause-plays : goal.returns-in_ok-run_often-in-Run-clause-plays
+returns-in_ok-run_often-in-Run-clause-plays g c =
+    let old = g.P.RoundPlayer.machine c.args.player.now in
+    let new = g.P.RoundPlayer.machine c.run_often.new.player in
+    let sink = g.W.ByteSink.sink c.args.sink.now in
+    let count = c.args.count in
+    played-those (replicate count Run) (replicate count (event_of c.args.event)) old new sink sink (ap (λ (e : told.Event). replicate count (event_of e)) (sym c.in-Run.is))
+    (silent-played (replicate count Run) old new sink c.in_ok-run_often-in-Run.ensures)

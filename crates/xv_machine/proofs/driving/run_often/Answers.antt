@@ -1,0 +1,10 @@
+use Rattle.std.proofs.Common.{arith}
+use Rattle.xv_machine.proofs.Sent.{quantum-more}
+use Rattle.xv_machine.proofs.driving.run_often.Goals as goal
+
+pub runs-preserved : goal.runs-preserved
+runs-preserved g c = record {
+  within = omega (arith, c.runs.invariant.within);
+  silent = quantum-more c.args.count c.runs.left c.in_ok-sent.sent (g.P.RoundPlayer.machine c.args.player.now) (g.P.RoundPlayer.machine c.runs.player)
+      (g.P.RoundPlayer.machine c.play_runs.new.self) c.runs.invariant.within c.in_ok-sent.ensures.within c.runs.invariant.silent c.in_ok-sent.ensures.ran;
+}

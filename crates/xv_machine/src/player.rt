@@ -1,0 +1,97 @@
+//! Who plays rounds: a machine, or whoever has one and looks on.
+ghost use Rattle.std.specs.Prelude.{◌≡◌, ◌<◌, ◌≤◌, IfOk};
+ghost use Rattle.xv_machine.specs.Drives.{Ran, SendsMade};
+ghost use Rattle.xv_machine.specs.Events.{event_of, outcome_of};
+ghost use Rattle.xv_machine.specs.Meaning.{Meaning};
+ghost use Rattle.xv_machine.specs.Reached.{IsEvent};
+ghost use Rattle.xv_machine.specs.Sound.{IsSoundMachine};
+
+use crate::event::{Event, Outcome};
+use crate::machine::Machine;
+use std::convert::Infallible;
+
+/// Sends that were sent one after another. Only the last of them may have sent a byte.
+#[derive(Clone, Copy)]
+pub struct Sends {
+    /// How many.
+    pub sent: u32,
+    /// The byte that the last one sent.
+    pub byte: Option<u8>,
+}
+
+/// Who plays rounds. It has a machine, and sends it events.
+pub trait RoundPlayer {
+    /// Why it doesn't send an event.
+    type Refusal: Drop;
+
+    // The machine that it has.
+    ghost machine: { Self → Meaning };
+
+    /// Sends Run, `most` times at most, and tells how many times: at least once, unless `most` is 0.
+    ///
+    /// # Errors
+    ///
+    /// Its refusal.
+    fn play_runs(&mut self, most: u32) -> Result<u32, Self::Refusal>
+        ensures ran { IfOk result (λ sent. Ran most sent (machine self.old) (machine self.new)) }
+        ensures within { IfOk result (λ sent. sent ≤ most) }
+        ensures some { IfOk result (λ sent. 0 < most → 0 < sent) };
+
+    /// Sends Send, `most` times at most, up to the first that sends a byte.
+    ///
+    /// # Errors
+    ///
+    /// Its refusal.
+    fn play_sends(&mut self, most: u32) -> Result<Sends, Self::Refusal>
+        requires { 0 < most }
+        ensures made { IfOk result (λ sends. SendsMade sends.sent sends.byte (machine self.old) (machine self.new)) }
+        ensures within { IfOk result (λ sends. sends.sent ≤ most) };
+
+    /// Sends an event, and gives what came of it.
+    ///
+    /// # Errors
+    ///
+    /// Its refusal.
+    fn play(&mut self, event: Event) -> Result<Outcome, Self::Refusal>
+        ensures { IfOk result (λ outcome. IsEvent (machine self.old) (event_of event) (outcome_of outcome) (machine self.new)) };
+
+    /// The status with which process 1 went; `None` while it is there.
+    fn status(&self) -> Option<i32>
+        ensures status { result ≡ (machine self.now).world.turns.halted }
+        ensures sound { IsSoundMachine (machine self.now) };
+}
+
+impl RoundPlayer for Machine {
+    type Refusal = Infallible;
+
+    ghost machine = { λ m. m };
+
+    #[inline(always)]
+    fn play_runs(&mut self, most: u32) -> Result<u32, Infallible> {
+        Ok(self.run(most))
+    }
+
+    #[inline(always)]
+    fn play_sends(&mut self, most: u32) -> Result<Sends, Infallible> {
+        match self.send(most) {
+            Some(byte) => Ok(Sends {
+                sent: 1,
+                byte: Some(byte),
+            }),
+            None => Ok(Sends {
+                sent: most,
+                byte: None,
+            }),
+        }
+    }
+
+    #[inline(always)]
+    fn play(&mut self, event: Event) -> Result<Outcome, Infallible> {
+        Ok(self.event(event))
+    }
+
+    #[inline(always)]
+    fn status(&self) -> Option<i32> {
+        self.halted()
+    }
+}
