@@ -13,7 +13,10 @@ use std::rt::Files;
 ///
 /// [`Failure::Refused`] if it can't be read, is longer than 1,048,576 bytes or is no exercise, and
 /// [`Failure::OutOfMemory`].
-pub fn read_exercise<R: Files + AllocGlobal>(rt: &R, path: &str) -> Result<Exercise, Failure<'static>> {
+pub fn read_exercise<R: Files + AllocGlobal>(
+    rt: &R,
+    path: &str,
+) -> Result<Exercise, Failure<'static>> {
     let alloc = rt.alloc();
     let text = text_of(rt, path)?;
     match Exercise::read(alloc, text.as_str()) {

@@ -33,7 +33,10 @@ fn name_of<R: Files + AllocGlobal>(
 }
 
 // The lines that say why files aren't to be run.
-fn refused_before<R: Files + AllocGlobal>(rt: &R, settings: &Settings) -> Result<String, Failure<'static>> {
+fn refused_before<R: Files + AllocGlobal>(
+    rt: &R,
+    settings: &Settings,
+) -> Result<String, Failure<'static>> {
     match &settings.refused {
         Some(path) => text_of(rt, path.as_str()),
         None => Ok(String::new(rt.alloc())),

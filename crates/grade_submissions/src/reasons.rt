@@ -121,7 +121,11 @@ fn told_fault(
 }
 
 // The fault of a run, as it stood before that step.
-fn fault_text(alloc: Global, submission: &Submission, played: &Played) -> Result<String, Failure<'static>> {
+fn fault_text(
+    alloc: Global,
+    submission: &Submission,
+    played: &Played,
+) -> Result<String, Failure<'static>> {
     let Some(place) = played.kept.fault else {
         return Ok(String::from_str(alloc, "fault ")?);
     };

@@ -69,7 +69,11 @@ fn submission_of(alloc: Global, file: &str, bytes: Vec<u8>) -> Result<HandedIn, 
 }
 
 // The file of this name and path, if it can be read.
-fn file_at<R: Files + AllocGlobal>(rt: &R, path: &str, file: &str) -> Result<HandedIn, Failure<'static>> {
+fn file_at<R: Files + AllocGlobal>(
+    rt: &R,
+    path: &str,
+    file: &str,
+) -> Result<HandedIn, Failure<'static>> {
     match fs::read(rt, path) {
         Ok(bytes) => submission_of(rt.alloc(), file, bytes),
         Err(_) => Ok(unfit(rt.alloc(), file, "cannot be read")?),
@@ -189,7 +193,11 @@ fn program_of_text(alloc: Global, text: &Text) -> Result<Program, AllocError> {
 }
 
 // Adds the texts of the exercise.
-fn add_texts(alloc: Global, programs: &mut Vec<Program>, texts: &[Text]) -> Result<(), Failure<'static>> {
+fn add_texts(
+    alloc: Global,
+    programs: &mut Vec<Program>,
+    texts: &[Text],
+) -> Result<(), Failure<'static>> {
     for text in texts {
         programs.push(program_of_text(alloc, text)?)?;
     }

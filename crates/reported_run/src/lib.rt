@@ -35,7 +35,10 @@ struct KnownPrograms {
 }
 
 /// The programs that the settings name, and what is known of their sources.
-fn known_programs<'a>(rt: &HostRuntime, settings: &'a Settings) -> Result<KnownPrograms, Failure<'a>> {
+fn known_programs<'a>(
+    rt: &HostRuntime,
+    settings: &'a Settings,
+) -> Result<KnownPrograms, Failure<'a>> {
     let files = settings.files.as_slice();
     let made = programs(rt, files)?;
     let table = line_table(rt, &settings.lines)?;
