@@ -15,7 +15,7 @@ mod serving;
 
 use crate::played::Played;
 use crate::rounds::Rounds;
-use crate::service::command_line::{Settings, settings};
+use crate::service::command_line::{Settings, read_settings};
 use crate::service::serving::Service;
 use crate::target::Target;
 use program_files::exit_statuses::DONE;
@@ -108,7 +108,7 @@ fn serve_to_end(rt: &HostRuntime, settings: &Settings) -> u8
 pub fn serve_gdb<W: Env + AllocGlobal>(rt: &HostRuntime, words: &W) -> u8
     ensures { IsPlainStatus result }
 {
-    match settings(words) {
+    match read_settings(words) {
         Ok(settings) => serve_to_end(rt, &settings),
         Err(error) => error.close(NAME, &mut rt.stdout(), &mut rt.stderr()),
     }

@@ -17,7 +17,7 @@ mod reasons;
 mod results;
 mod submission;
 
-pub use command_line::{Settings, settings};
+pub use command_line::{Settings, read_settings};
 pub use exercise_file::show_files;
 pub use grading::grade_submission;
 use program_files::Failure;
@@ -45,7 +45,7 @@ pub fn grade_by_words<W: Env + AllocGlobal>(rt: &HostRuntime, words: &W) -> u8
         let _ = writeln!(rt.stderr(), "{NAME}: a word is not UTF-8 text");
         return WORDS_REFUSED;
     };
-    let settings = match settings(rt.alloc(), words.as_slice()) {
+    let settings = match read_settings(rt.alloc(), words.as_slice()) {
         Ok(settings) => settings,
         Err(error) => return error.close(NAME, &mut rt.stdout(), &mut rt.stderr()),
     };

@@ -9,7 +9,7 @@ ghost use Rattle.program_files.specs.Statuses.{IsPlainStatus};
 mod command_line;
 mod conversation;
 
-use crate::debugging::command_line::{Settings, settings};
+use crate::debugging::command_line::{Settings, read_settings};
 use crate::debugging::conversation::Conversation;
 use program_files::exit_statuses::DONE;
 use program_files::{Failure, line_table, programs};
@@ -60,7 +60,7 @@ fn debug(rt: &HostRuntime, settings: &Settings) -> u8
 pub fn debug_by_words<W: Env + AllocGlobal>(rt: &HostRuntime, words: &W) -> u8
     ensures { IsPlainStatus result }
 {
-    match settings(words) {
+    match read_settings(words) {
         Ok(settings) => debug(rt, &settings),
         Err(error) => error.close(NAME, &mut rt.stdout(), &mut rt.stderr()),
     }

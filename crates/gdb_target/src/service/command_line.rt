@@ -89,7 +89,7 @@ const COMMAND_LINE: CommandLine = CommandLine {
 ///
 /// Those of [`given_words`]: if a word is neither an option nor a FILE, if a number isn't in its range, if no FILE is
 /// given, if a word isn't text, if help is asked for, or if the host has too little memory.
-pub(crate) fn settings<R: Env + AllocGlobal>(rt: &R) -> Result<Settings, WordsError>
+pub(crate) fn read_settings<R: Env + AllocGlobal>(rt: &R) -> Result<Settings, WordsError>
     ensures { IfOk result (λ s. AreInRange s) }
 {
     let given = given_words(rt, &COMMAND_LINE)?;
