@@ -6,7 +6,7 @@ use Rattle.std.proofs.lemmas.Grind.{flat_map-append}
 use Rattle.std.proofs.KnownBytes.{Appends-nil, Appends-trans}
 use Rattle.std.specs.Io.KnownBytes.{Appends}
 use Rattle.circular_buffer.specs.Buffer.{keep_last}
-use Rattle.kernel_spec.specs.runs.Run.{Event, Tick, Outcome, bytes_out, out}
+use Rattle.kernel_spec.specs.runs.Run.{Event, Outcome, bytes_out, out}
 use Rattle.kernel_spec.specs.runs.Rounds.{events}
 use Rattle.kernel_spec.specs.waking.Wakes.{Promised}
 use Rattle.kernel_spec.proofs.runs.Boot.{promised_runs_join}
@@ -17,7 +17,6 @@ use Rattle.xv_machine.specs.Notes.{note, notes_of}
 use Rattle.xv_machine.specs.Sound.{IsSoundMachine}
 use Rattle.xv_machine.specs.Stretches.{Silent, Played, BrokeOff, Plays}
 use Rattle.xv_machine.proofs.Kept.{keep-all, keep-more}
-use Rattle.xv_machine.proofs.Shown.{tick-shows}
 
 abbrev Steps : Type 0
 Steps = List (Event × Outcome)
@@ -95,12 +94,6 @@ goes-join xs ys old mid new p q = record {
 
 -- ---- one event
 
-pub one-silent : (e : Event) (o : Outcome) (old new : Meaning) → Goes old ((e, o) ∷ []) new → bytes_out o ≡ [] → Silent (e ∷ []) old new
-one-silent e o old new goes none = record { list = (e, o) ∷ []; goes = goes; those = refl; silent = ap (λ bs. bs ++ []) none }
-
-pub tick-silent : (o : Outcome) (old new : Meaning) → Promised old.world Tick o new.world → Goes old ((Tick, o) ∷ []) new → Silent (Tick ∷ []) old new
-tick-silent o old new promised goes = one-silent Tick o old new goes (tick-shows old.world new.world o promised.0)
-
 -- an event whose bytes were written, or couldn't be
 pub event-plays : {E : Type 0} (r : Result (Unit {0}) E) (e : Event) (o : Outcome) (old new : Meaning) (h k : Sink) (bytes : List ℕ)
     → Goes old ((e, o) ∷ []) new → bytes ≡ bytes_out o → OnOk r (Appends h.held k.held bytes) → OnOk r (Calls h.calls k.calls (call_of bytes))
@@ -177,11 +170,6 @@ broke-early xs ys s t h k q = record {
   shows = q.shows;
   calls = q.calls;
 }
-
-pub later-plays : {E : Type 0} (r : Result (Unit {0}) E) (xs ys : List Event) (s t u : Meaning) (h k m : Sink)
-    → Played xs s t h k → Plays r ys t u k m → Plays r (xs ++ ys) s u h m
-later-plays (Ok x) xs ys s t u h k m p q = played-join xs ys s t u h k m p q
-later-plays (Err x) xs ys s t u h k m p q = broke-later xs ys s t u h k m p q
 
 -- ---- the same event again and again
 

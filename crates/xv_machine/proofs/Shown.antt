@@ -28,13 +28,6 @@ module _ (w t : World) (o : Outcome) where
       by None (Some p) h = ap bytes_out h.answer
       by None None h = turn-shows o h
 
-  pub tick-shows : Happens w Tick o t → bytes_out o ≡ []
-  tick-shows h = by w.turns.halted h
-    where
-      by : (halted : Option ℤ) → TickHappens w halted o t → bytes_out o ≡ []
-      by (Some status) h = ap bytes_out h.0
-      by None h = ap bytes_out h.0
-
   -- ---- the end
 
   abbrev Ends : Option ℤ → Type 0

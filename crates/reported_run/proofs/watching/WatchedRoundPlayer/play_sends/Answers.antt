@@ -1,0 +1,8 @@
+use Rattle.std.proofs.Common.{refl}
+use Rattle.xv_machine.specs.Events.{outcome_of}
+use Rattle.reported_run.proofs.Stretches.{send-made}
+use Rattle.reported_run.proofs.watching.WatchedRoundPlayer.play_sends.Goals as goal
+
+pub returns-clause-made : goal.returns-clause-made
+returns-clause-made g c =
+    send-made (outcome_of c.in_ok-outcome.outcome) c.byte_of.result c.args.self.now.session.machine c.send.new.self.machine c.in_ok-outcome.ensures.sent.0.event c.byte_of.ensures
