@@ -1,5 +1,6 @@
 //! From an address to the name of its function.
-ghost use Rattle.std.specs.Prelude.{◌≡◌, ◌≤◌, ◌+◌, ◌*◌, length, true, false, option_map, MatchOption, IsTrue};
+ghost use Rattle.std.specs.Prelude.{◌≡◌, ◌≤◌, ◌+◌, ◌*◌, length};
+ghost use Rattle.std.specs.Prelude.{true, false, option_map, MatchOption, IsTrue};
 ghost use Rattle.xk_base.specs.ProgramFile.{is_elf as elf};
 ghost use Rattle.elf_symbols.specs.Symbols as meant;
 
@@ -37,7 +38,9 @@ fn is_elf(file: &[u8]) -> bool
 
 /// The section headers of a file, if they are wholly in it.
 fn read_headers(file: &[u8]) -> Option<Headers>
-    ensures { MatchOption result (meant.has_sections file.now ≡ false) (λ h. (meant.has_sections file.now ≡ true) × (h.place ≡ meant.sections_place file.now) × (h.count ≡ meant.section_count file.now)) }
+    ensures { MatchOption result (meant.has_sections file.now ≡ false) (λ h.
+        (meant.has_sections file.now ≡ true) × (h.place ≡ meant.sections_place file.now)
+        × (h.count ≡ meant.section_count file.now)) }
 {
     if !is_elf(file) {
         return None;
