@@ -113,7 +113,7 @@ mkdir -p "$RELEASE" "$TEACHER"
 mapfile -t shared < <(git grep -hoE 'page/src/[a-z_]+\.mjs' HEAD -- xv.mjs 'anywhere/*.mjs' | sort -u)
 git archive HEAD xv xv.mjs xv.cmd package.json anywhere README.md CONTRIBUTING.md LICENSE VERSION CHANGELOG.md docs programs \
     page/nektavoly.html "${shared[@]}" checks/sessions checks/why checks/terminal checks/debugger checks/gdb checks/gdb.sh checks/grading \
-    checks/programs.sh |
+    checks/programs.sh checks/parts.sh |
     tar -x -C "$RELEASE"
 mv "$RELEASE/docs/html" "$room/html"
 # What makes and tries the modules is of no use without the crates.

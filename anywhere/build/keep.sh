@@ -1,8 +1,8 @@
 #!/bin/bash
 # keep.sh [--unproved] CRATE-FOLDER OUT.bc: builds a program or a static library as it is proved (for x86-64), and keeps the LLVM code
 # that clang is given. `rattle build` builds only what is proved. It runs the clang of the folder --toolchain: here that folder is
-# the kit's, but for a clang that keeps its input and then runs the kit's, without -O: nobody runs what comes of that. The crates below
-# are to be proved before (`rt ci`, `rt all check`).
+# the kit's, but for a clang that keeps its input (programs/host/kit.sh). The crates below are to be proved before (`rt ci`,
+# `rt all check`).
 #
 # With --unproved nothing is proved: it is the code that `rt try` builds, with its own checks, larger and some five times slower,
 # for work on what stands around while proofs are open. `rt try` builds programs alone, so a library gets one that calls it.
@@ -11,22 +11,9 @@ unproved=
 [ "$1" != --unproved ] || { unproved=yes && shift; }
 crate=$(readlink -f "$1") out=$(readlink -f -m "$2")
 root=$(dirname "$(dirname "$crate")") name=$(basename "$crate")
-kit=$(dirname "$(rt doc)")
+. "$(dirname "$(readlink -f "$0")")/../../programs/host/kit.sh"
+kit=$(find_kit)
 work=$(mktemp -d) && trap 'rm -rf "$work"' EXIT
-
-# Makes the folder $1 of tools, which are the kit's but for clang.
-tools() {
-    mkdir -p "$1/bin" && ln -s "$kit/toolchain/lib" "$1/lib"
-    for it in "$kit"/toolchain/bin/*; do
-        [ "${it##*/}" = clang ] || ln -s "$it" "$1/bin/"
-    done
-    cat >"$1/bin/clang" <<END
-#!/bin/sh
-for it in "\$@"; do case \$it in *.bc) cp "\$it" "$out" ;; esac; done
-exec "$kit/toolchain/bin/clang" "\$@" -O0
-END
-    chmod +x "$1/bin/clang"
-}
 
 # What `rattle build` is told of the libraries that the crate stands on, in `words`.
 libraries() {
@@ -40,7 +27,7 @@ libraries() {
 }
 
 build_proved() {
-    tools "$work/tools"
+    make_tools "$work/tools" "$out"
     libraries
     if [ -e "$crate/src/main.rt" ]; then
         words+=(src/main.rt -o "$work/built")
@@ -49,18 +36,6 @@ build_proved() {
     fi
     cd "$crate" && "$kit/bin/rattle" build --crate-name "$name" "${words[@]}" --antt-project "$kit/rattle/logic/antt-project.json" \
         --logic-built "$kit/logic_built" --links "$name=" --jobs "$(nproc)" --incremental out/incremental --toolchain "$work/tools" --backend llvm
-}
-
-# A copy of the kit, whose `rt` finds the tools beside it.
-copy_kit() {
-    mkdir -p "$work/kit/bin"
-    for it in "$kit"/*; do
-        case ${it##*/} in toolchain | bin) ;; *) ln -s "$it" "$work/kit/" ;; esac
-    done
-    for it in "$kit"/bin/*; do
-        case ${it##*/} in rt | rtlib.py) cp "$it" "$work/kit/bin/" ;; *) ln -s "$it" "$work/kit/bin/" ;; esac
-    done
-    tools "$work/kit/toolchain"
 }
 
 # Beside the static library a program that calls it.
@@ -79,7 +54,7 @@ END
 }
 
 build_unproved() {
-    copy_kit
+    copy_kit "$work/kit" "$out"
     mkdir "$work/tree" && (cd "$root" && tar cf - --exclude=out crates crates.txt HANDLES) | (cd "$work/tree" && tar xf -)
     cd "$work/tree"
     if [ -e "crates/$name/src/main.rt" ]; then

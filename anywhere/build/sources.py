@@ -16,7 +16,8 @@ import re
 import sys
 
 PROGRAMS = ("xv_run", "xv_tools")
-TRANSLATION = [f"anywhere/build/{name}" for name in ("heap.c", "keep.sh", "lower.sh", "wasi.c", "wasm.sh")]
+KIT = "programs/host/kit.sh"
+TRANSLATION = [f"anywhere/build/{name}" for name in ("heap.c", "keep.sh", "lower.sh", "wasi.c", "wasm.sh")] + [KIT]
 
 
 def crates_below(root, names):
@@ -55,7 +56,7 @@ def files_of(root, what):
     """The files that the page, its module, or the programs' modules are built of."""
     if what == "--page":
         folders = ["anywhere/build", "page/build", "page/src", "programs/bin", "programs/examples", "programs/course"]
-        return sorted(["docs/manual/page.md"] + code_of(root, ["xv_page"]) + files_below(root, folders))
+        return sorted(["docs/manual/page.md", KIT] + code_of(root, ["xv_page"]) + files_below(root, folders))
     return sorted(TRANSLATION + code_of(root, ["xv_page"] if what == "--module" else PROGRAMS))
 
 

@@ -10,7 +10,8 @@
 # them, is left out. What is for x86-64 alone is looked for, and ends this.
 set -eu
 here=$(dirname "$(readlink -f "$0")")
-kit=$(dirname "$(rt doc)")
+. "$here/../../programs/host/kit.sh"
+kit=$(find_kit)
 clang=$kit/toolchain/bin/clang
 prefix=
 [ "$1" = --program ] || { prefix=$2 && shift; }

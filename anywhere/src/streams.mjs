@@ -28,7 +28,7 @@ export function write_all(fd, what) {
 }
 
 /** Reads what is there, 65,536 bytes at most; none at the end. */
-export function read_some(fd) {
+function read_some(fd) {
   const bytes = Buffer.alloc(65536);
   try {
     return bytes.subarray(0, patiently(() => readSync(fd, bytes, 0, bytes.length, null)));

@@ -7,6 +7,7 @@
 set -e
 here=$(cd "$(dirname "$0")" && pwd)
 root=$(cd "$here/../.." && pwd)
+. "$root/bench/times.sh"
 "$root/xv" --build
 xv=$root/crates/xv_run/out/xv_run
 work=$(mktemp -d)
@@ -29,22 +30,6 @@ ours() { "$xv" --rounds 100000000 --quantum 1000 "$work/$1/init"; }
 plain() { "$work/plain-interpreter" "$work/$1/init"; }
 jit() { qemu-riscv64 "$work/$1/linux"; }
 node_ours() { XV_NODE=yes "$root/bin/xv_run" --rounds 100000000 --quantum 1000 "$work/$1/init"; }
-
-# The seconds of the processor that a command takes, its output thrown away.
-seconds() {
-    local TIMEFORMAT='%U %S'
-    { time "$@" </dev/null >/dev/null 2>&1 || true; } 2>&1 | awk '{ print $1 + $2 }'
-}
-
-# The seconds from a command's start to its end.
-elapsed() {
-    local TIMEFORMAT='%R'
-    { time "$@" </dev/null >/dev/null 2>&1 || true; } 2>&1
-}
-
-least() {
-    sort -g "$1" | head -n 1
-}
 
 # Whether all ways end with the same status: ours tells it in its closing line, the interpreter behind the number of instructions.
 are_equal() {

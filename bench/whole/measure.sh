@@ -5,20 +5,11 @@
 set -e
 here=$(cd "$(dirname "$0")" && pwd)
 root=$(cd "$here/../.." && pwd)
+. "$root/bench/times.sh"
 "$root/xv" --build
 xv=$root/crates/xv_run/out/xv_run
 work=$(mktemp -d)
 trap 'rm -rf "$work"' EXIT
-
-# The seconds of the processor that a command takes, its output thrown away.
-seconds() {
-    local TIMEFORMAT='%U %S'
-    { time "$@" </dev/null >/dev/null 2>&1 || true; } 2>&1 | awk '{ print $1 + $2 }'
-}
-
-least() {
-    sort -g "$1" | head -n 1
-}
 
 # compare TITLE NAME..: the functions NAME in turn, the first of which is ours.
 compare() {

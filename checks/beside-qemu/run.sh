@@ -1,11 +1,9 @@
 #!/bin/bash
 # Compares random programs with QEMU: checks/beside-qemu/run.sh [--seed N] [--programs N] [--quantum N] [--turned]; see README.md.
 here=$(cd "$(dirname "$0")" && pwd)
+. "$here/../programs.sh"
 program="$here/../../crates/xv_run/out/xv_run"
-if [ ! -x "$program" ]; then
-    echo "xv_run isn't built yet: ./xv --build builds it" >&2
-    exit 2
-fi
+needs_program "$program"
 if ! command -v qemu-riscv64 >/dev/null; then
     echo "there is no qemu-riscv64 on the PATH (Debian: apt-get install qemu-user)" >&2
     exit 2

@@ -4,7 +4,6 @@
 # talk.py. The status is 0 if all are as they should be. checks/gdb.sh does the same with GDB itself.
 set -u
 here=$(cd "$(dirname "$0")" && pwd) || exit 2
-# shellcheck disable=SC1091
 . "$here/../programs.sh"
 program=${1-$(program_path "$here/../.." xv_gdb)}
 needs_program "$program"

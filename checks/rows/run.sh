@@ -1,7 +1,6 @@
 #!/bin/bash
 # Compares rows of Runs with single events: checks/rows/run.sh [--many N] [--seed N] [--case N [--keep FOLDER]]; see README.md.
 here=$(cd "$(dirname "$0")" && pwd)
-# shellcheck disable=SC1091
 . "$here/../programs.sh"
 for name in xv_debugger xv_terminal xv_run; do
     program=$(program_path "$here/../.." "$name")

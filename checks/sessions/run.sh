@@ -19,6 +19,7 @@
 set -u
 top=$(dirname "$0")/../..
 . "$top/checks/programs.sh"
+. "$top/checks/parts.sh"
 program=$(readlink -f "${XV_RUN-$(program_path "$top" xv_run)}")
 needs_program "$program"
 cd "$(dirname "$0")" || exit 2
@@ -26,60 +27,6 @@ programs=$(cd ../../programs && pwd) || exit 2
 room=$(mktemp -d) || exit 2
 trap 'rm -rf "$room"' EXIT
 patience=${PATIENCE-60}
-
-# Takes session $1 apart: each part becomes a file =NAME of the folder $room, and each file of the session stands
-# there under its own name.
-take_apart() {
-    rm -rf "${room:?}"/* && awk -v room="$room" '
-        /^== file / { part = room "/" $3; printf "" > part; next }
-        /^== trace / { print substr($0, 10) > (room "/=pattern"); part = room "/=trace"; printf "" > part; next }
-        /^== / { part = room "/=" $2; printf "" > part; next }
-        part != "" { print > part }' "$1"
-}
-
-# The lines of a part, the last one without its end if it ends in \c.
-lines() {
-    awk 'NR > 1 { print last } { last = $0 }
-        END { if (sub(/\\c$/, "", last)) printf "%s", last; else if (NR > 0) print last }' "$1"
-}
-
-# The bytes that are typed.
-keys() {
-    [ -e "$room/=keys" ] || return 0
-    lines "$room/=keys" | LC_ALL=C awk '
-        function type(text,    at, control) {
-            while (match(text, /\^[@-_]|<[0-9]+>/)) {
-                printf "%s", substr(text, 1, RSTART - 1)
-                if (substr(text, RSTART, 1) == "^") {
-                    control = index("@ABCDEFGHIJKLMNOPQRSTUVWXYZ[\\]^_", substr(text, RSTART + 1, 1)) - 1
-                    printf "%c", control
-                } else
-                    for (at = substr(text, RSTART + 1, RLENGTH - 2) + 0; at > 0; at--)
-                        printf "%c", 0
-                text = substr(text, RSTART + RLENGTH)
-            }
-            printf "%s", text
-        }
-        NR > 1 { printf "\n" }
-        { type($0) }'
-    [ "$(tail -c 3 "$room/=keys")" = '\c' ] || echo
-}
-
-# The words, with the paths of files.
-words() {
-    # shellcheck disable=SC2013
-    for word in $(cat "$room/=words"); do
-        if [ -e "$room/$word" ]; then
-            echo "$room/$word"
-        elif [ -e "$programs/bin/$word" ]; then
-            echo "$programs/bin/$word"
-        elif [ -e "$programs/$word" ]; then
-            echo "$programs/$word"
-        else
-            echo "$word"
-        fi
-    done
-}
 
 # Compares part $1 with the file $2, and shows where they differ.
 is_wanted() {

@@ -1,7 +1,6 @@
 #!/bin/bash
 # Plays the stored runs: checks/stored-runs/run.sh [--store]; see README.md.
 here=$(cd "$(dirname "$0")" && pwd)
-# shellcheck disable=SC1091
 . "$here/../programs.sh"
 program=$(program_path "$here/../.." xv_run)
 case "$*" in

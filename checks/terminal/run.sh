@@ -25,6 +25,10 @@ set -u
 here=$(cd "$(dirname "$0")" && pwd) || exit 2
 top=$here/../..
 . "$top/checks/programs.sh"
+. "$top/checks/parts.sh"
+# What the words of a session name.
+# shellcheck disable=SC2034
+programs=$top/programs
 program=${1-}
 case $program in
 */*) shift ;;
@@ -36,53 +40,6 @@ needs_program "$program"
 program=$(realpath -s "$program")
 room=$(mktemp -d) || exit 2
 trap 'rm -rf "$room"' EXIT
-
-take_apart() {
-    rm -rf "${room:?}"/* && awk -v room="$room" '
-        /^== file / { part = room "/" $3; printf "" > part; next }
-        /^== / { part = room "/=" $2; printf "" > part; next }
-        part != "" { print > part }' "$1"
-}
-
-# The lines of a part, the last one without its end if it ends in \c.
-lines() {
-    awk 'NR > 1 { print last } { last = $0 }
-        END { if (sub(/\\c$/, "", last)) printf "%s", last; else if (NR > 0) print last }' "$1"
-}
-
-# The bytes that are typed.
-keys() {
-    [ -e "$room/=keys" ] || return 0
-    lines "$room/=keys" | LC_ALL=C awk '
-        function type(text,    control) {
-            while (match(text, /\^[?-_]/)) {
-                control = index("@ABCDEFGHIJKLMNOPQRSTUVWXYZ[\\]^_", substr(text, RSTART + 1, 1)) - 1
-                if (control < 0)
-                    control = 127
-                printf "%s%c", substr(text, 1, RSTART - 1), control
-                text = substr(text, RSTART + RLENGTH)
-            }
-            printf "%s", text
-        }
-        NR > 1 { printf "\n" }
-        { type($0) }
-        END { if (NR > 0) printf "\n" }' | { if [ "$(tail -c 2 "$room/=keys")" = '\c' ]; then head -c -1; else cat; fi; }
-}
-
-# The words, with the path of each FILE.
-words() {
-    for word in $(cat "$room/=words"); do
-        if [ -e "$room/$word" ]; then
-            echo "$room/$word"
-        elif [ -e "$top/programs/bin/$word" ]; then
-            echo "$top/programs/bin/$word"
-        elif [ -e "$top/programs/$word" ]; then
-            echo "$top/programs/$word"
-        else
-            echo "$word"
-        fi
-    done
-}
 
 # Compares a part with what came out, as `cat -v` writes it.
 is_part() {

@@ -1,7 +1,8 @@
 // The instruction that is next, with those round it, the registers, and memory.
 import { $, app, ask, element, on, program_name, write } from "./app.mjs";
 import { line_at, name_at } from "./symbols.mjs";
-import { CALLS, REGISTERS, hex, number } from "./words.mjs";
+import { known_call } from "./calls.mjs";
+import { REGISTERS, hex, number } from "./words.mjs";
 
 let before = null, changed = new Set(), as = "bytes";
 
@@ -37,7 +38,7 @@ function draw_code() {
   list.forEach((it, k) => {
     const { name, address, text, note } = code_rows[k], line = line_at(symbols, it.address), is_next = it.address === pc;
     let words = line ? `${line.line}  ${line.text.replace(/^\w+:\s*/, "")}` : "";
-    if (it.word === 0x73 && is_next) words = `call ${CALLS[Number(view.registers[17])] || view.registers[17]}`;
+    if (it.text === "ecall" && is_next) words = `call ${known_call(Number(view.registers[17])) ?? view.registers[17]}`;
     if (name.hidden !== !heads[k]) name.hidden = !heads[k];
     write(name, heads[k]);
     write(address, hex(it.address));

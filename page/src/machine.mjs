@@ -37,6 +37,7 @@ export class Machine {
   constructor(module) {
     this.module = module;
     this.fresh();
+    this.kernel_calls = this.calls_by_number();
   }
 
   /** A new instance has new memory: all that an earlier machine held is gone. */
@@ -50,10 +51,11 @@ export class Machine {
     };
     this.session = take(16);
     this.programs = take(16);
+    this.table = take(16);
     this.told = take(256);
     this.room = take(ROOM);
     this.view();
-    for (const at of [this.session, this.programs]) this.bytes.fill(0, Number(at), Number(at) + 16);
+    for (const at of [this.session, this.programs, this.table]) this.bytes.fill(0, Number(at), Number(at) + 16);
     this.at = Number(this.told);
     this.room_at = Number(this.room);
   }
@@ -263,14 +265,44 @@ export class Machine {
     return count ? String.fromCharCode(...this.bytes.subarray(this.room_at, this.room_at + count)) : null;
   }
 
-  /** { file } or { line, kind }: what is wrong with the first line that is refused. */
+  /** The rows of a table that a call tells by their places, up to the first place at which there is none. */
+  rows(tell, row) {
+    const found = [];
+    for (let place = 0n; ; place++) {
+      const answer = tell(place);
+      if ((answer & 255) === UNKNOWN) return found;
+      this.done(answer);
+      found.push(row(this.data, this.at));
+    }
+  }
+
+  /** The text of so many bytes at a place of the module's memory. */
+  text(at, count) {
+    return new TextDecoder().decode(this.bytes.subarray(Number(at), Number(at) + Number(count)));
+  }
+
+  /** The names of the kernel calls by their numbers. */
+  calls_by_number() {
+    return new Map(this.rows((place) => this.calls.xv_page_call(place, this.told, this.room, BigInt(ROOM)), (d, at) => [d.getInt32(at, true), this.text(this.room, d.getBigUint64(at + 8, true))]));
+  }
+
+  /** The lines of the source that was assembled last, and its labels; `room` has room for each label. */
+  places(room, size) {
+    const lines = this.rows((place) => this.calls.xv_page_line(this.table, place, this.told), (d, at) => ({ line: Number(d.getBigUint64(at, true)), start: d.getBigUint64(at + 8, true), end: d.getBigUint64(at + 16, true) }));
+    const names = this.rows((place) => this.calls.xv_page_label(this.table, place, this.told, room, BigInt(size)), (d, at) => ({ name: this.text(room, d.getBigUint64(at + 8, true)), address: d.getBigUint64(at, true) }));
+    return { lines, names };
+  }
+
+  /** { file, lines, names } or { line, kind }: what is wrong with the first line that is refused. */
   assemble(text) {
     const source = new TextEncoder().encode(text);
     const from = this.put(source), to = this.calls.page_take(BigInt(FILE));
     if (to === 0n) return { line: 0, kind: "Memory" };
-    this.calls.xv_page_assemble(from, BigInt(source.length), to, BigInt(FILE), this.told);
+    this.calls.xv_page_assemble(from, BigInt(source.length), to, BigInt(FILE), this.table, this.told);
     const d = this.view(), kind = d.getUint32(this.at, true), count = Number(d.getBigUint64(this.at + 8, true));
-    const answer = kind === 0 ? { file: this.bytes.slice(Number(to), Number(to) + count) } : { line: count, kind: MISTAKES[kind] };
+    // A label is shorter than its source, so each fits into the source's own room.
+    const answer = kind === 0 ? { file: this.bytes.slice(Number(to), Number(to) + count), ...this.places(from, source.length) } : { line: count, kind: MISTAKES[kind] };
+    this.calls.xv_page_forget(this.table);
     this.calls.page_give(from);
     this.calls.page_give(to);
     return answer;

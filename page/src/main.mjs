@@ -1,5 +1,6 @@
 // The page: begins the worker and the panels, and hands what the worker tells to them.
 import { $, app, ask, element, hush, on, say, set_theme, tell } from "./app.mjs";
+import { learn_calls } from "./calls.mjs";
 import { Listed } from "./listed.mjs";
 import * as terminal from "./terminal.mjs";
 import * as editor from "./editor.mjs";
@@ -73,7 +74,7 @@ function heard({ data }) {
   else if (data.bench) tell("bench", data.bench);
   else if (data.back_bench) tell("back_bench", data.back_bench);
   else if (data.error) { say(data.message); $("mistake").textContent = data.message; $("mistake").className = "bad"; console.error(data.error); }
-  else if (data.ready) tell("ready");
+  else if (data.ready) { learn_calls(data.ready); tell("ready"); }
 }
 
 /** Shows a tab, and says to the worker which panels want to be told. */

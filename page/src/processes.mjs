@@ -1,6 +1,7 @@
 // The processes: a tree by parents, with what each does, and beside it the picture of turns.
 import { $, app, ask, bytes_words, color_of, element, fresh, grouped, in_time, on, program_name, style_of } from "./app.mjs";
 import { KIND } from "./machine.mjs";
+import { call_name } from "./calls.mjs";
 import { waits_for } from "./words.mjs";
 import { range } from "./time.mjs";
 
@@ -82,9 +83,9 @@ function lives() {
   if (lives.edits !== app.view.edits || lives.done > line.length) { lives.by = new Map([[1, { pid: 1, parent: 0, from: 0, to: Infinity, reaped: Infinity }]]); lives.done = 0; lives.edits = app.view.edits; }
   for (; lives.done < line.length; lives.done++) {
     const k = lives.done, kind = line.kind[k], pid = line.pid[k];
-    if (kind === KIND.CALL && line.number[k] === 1 && line.value[k] > 0) lives.by.set(line.value[k], { pid: line.value[k], parent: pid, from: line.at[k], to: Infinity, reaped: Infinity });
+    if (kind === KIND.CALL && call_name(line.number[k]) === "fork" && line.value[k] > 0) lives.by.set(line.value[k], { pid: line.value[k], parent: pid, from: line.at[k], to: Infinity, reaped: Infinity });
     else if (kind === KIND.EXIT || kind === KIND.FAULT) { const it = lives.by.get(pid); if (it) { it.to = line.at[k]; it.end = kind; } }
-    else if (kind === KIND.CALL && line.number[k] === 3 && line.value[k] > 0) { const it = lives.by.get(line.value[k]); if (it) { it.reaped = line.at[k]; it.by = pid; } }
+    else if (kind === KIND.CALL && call_name(line.number[k]) === "wait" && line.value[k] > 0) { const it = lives.by.get(line.value[k]); if (it) { it.reaped = line.at[k]; it.by = pid; } }
   }
   return [...lives.by.values()];
 }

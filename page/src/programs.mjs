@@ -1,6 +1,6 @@
 // The files of the machine: examples by name, sources that are edited, files that are dropped; boot; sharing.
 import { $, app, ask, base64, element, on, say, tell } from "./app.mjs";
-import { functions_of, layout_of } from "./symbols.mjs";
+import { functions_of, places_of } from "./symbols.mjs";
 import * as editor from "./editor.mjs";
 
 const DATA = globalThis.PAGE_DATA;
@@ -87,12 +87,24 @@ function assembled(text) {
   });
 }
 
+const is_source = (file) => file.text !== undefined && file.name.endsWith(".s");
+
+/** A file that is handed to the machine as it stands. */
+function plain(file) {
+  const bytes = file.text === undefined ? bytes_of_file(file) : new TextEncoder().encode(file.text);
+  return { name: file.name, bytes, from: file, text: file.text, symbols: functions_of(bytes) };
+}
+
+/** The program that the assembler made of a source. */
+function program_of(file, made) {
+  return { name: file.name.slice(0, -2), bytes: made.file, from: file, text: file.text, symbols: places_of(file.text, made) };
+}
+
 /** Assembles the sources, and boots a machine of all files. */
 export async function boot({ play = true } = {}) {
   const files = [];
   for (const file of app.files) {
-    if (file.text === undefined) { files.push({ name: file.name, bytes: bytes_of_file(file), from: file }); continue; }
-    if (!file.name.endsWith(".s")) { files.push({ name: file.name, bytes: new TextEncoder().encode(file.text), from: file, text: file.text }); continue; }
+    if (!is_source(file)) { files.push(plain(file)); continue; }
     const made = await assembled(file.text);
     if (!made.file) {
       editor.open(file);
@@ -100,12 +112,12 @@ export async function boot({ play = true } = {}) {
       say(`${file.name}, line ${made.line}: ${made.kind}`);
       return false;
     }
-    files.push({ name: file.name.slice(0, -2), bytes: made.file, from: file, text: file.text });
+    files.push(program_of(file, made));
   }
   const config = { frames: Number($("frames").value) || 4096, trace: 0 };
   const how = { rounds: $("order").value === "rounds", quantum: Math.max(1, Number($("quantum").value) || 1000) };
   app.booting = { files, config, how };
-  app.symbols = files.map((it) => (it.from.name.endsWith(".s") && it.text !== undefined ? layout_of(it.text) : functions_of(it.bytes)));
+  app.symbols = files.map((it) => it.symbols);
   tell("boot");
   ask("boot", { config, how, files: files.map(({ name, bytes }) => ({ name, bytes })), keys: [...keys_of($("keys").value)], play });
   return true;
@@ -177,12 +189,12 @@ async function recorded({ config, files, spans }) {
 /** The files that a record may mean, by their sums: those of the machine, those of the list, and the programs of the page. */
 async function files_by_sum() {
   const found = new Map();
-  const add = async (name, bytes, from) => found.set(await sum_of(bytes), { name, bytes, from });
-  for (const [name, packed] of Object.entries(DATA.programs)) await add(name, base64.of(packed), { name, built_in: true });
+  const add = async (file) => found.set(await sum_of(file.bytes), file);
+  for (const [name, packed] of Object.entries(DATA.programs)) await add(plain({ name, bytes: base64.of(packed), built_in: true }));
   for (const file of app.files) {
-    if (file.text === undefined) await add(file.name, bytes_of_file(file), file);
-    else if (!file.name.endsWith(".s")) await add(file.name, new TextEncoder().encode(file.text), file);
-    else { const made = await assembled(file.text); if (made.file) await add(file.name.slice(0, -2), made.file, file); }
+    if (!is_source(file)) { await add(plain(file)); continue; }
+    const made = await assembled(file.text);
+    if (made.file) await add(program_of(file, made));
   }
   return found;
 }
@@ -223,8 +235,8 @@ async function play_record(text) {
     if (!file) { refuse(`the record wants another file ${name}: add it first`); return; }
     files.push({ ...file, name });
   }
-  app.booting = { files: files.map((it) => ({ ...it, text: it.from.text })), config, how: {} };
-  app.symbols = files.map((it) => (it.from.text !== undefined && it.from.name.endsWith(".s") ? layout_of(it.from.text) : functions_of(it.bytes)));
+  app.booting = { files, config, how: {} };
+  app.symbols = files.map((it) => it.symbols);
   tell("boot");
   ask("replay", { config, files: files.map(({ name, bytes }) => ({ name, bytes })), spans });
 }

@@ -43,11 +43,14 @@ export class Run {
   heard(event, told, count) {
     this.line.add(event, told, count);
     this.at += count;
-    if (told.kind === KIND.CALL && (told.number === 7 || told.number === 1)) {
-      const pid = told.number === 1 ? told.value : told.pid;
-      if (told.value >= 0 && pid > 0) this.name(pid);
-    }
+    if (told.kind === KIND.CALL && told.value >= 0) this.heard_call(this.machine.kernel_calls.get(told.number), told);
     if (told.kind === KIND.HALTED || (told.pid === 1 && (told.kind === KIND.EXIT || told.kind === KIND.FAULT))) this.halted = true;
+  }
+
+  /** A call that has changed which program a process runs: that of the child of a fork, or of an exec's own process. */
+  heard_call(call, { pid, value }) {
+    if (call === "fork" && value > 0) this.name(value);
+    else if (call === "exec") this.name(pid);
   }
 
   /** Notes which program a process runs from here on. */

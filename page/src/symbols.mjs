@@ -1,66 +1,9 @@
-// Names of places in a program: the labels and lines of a source, or the functions of an ELF file that has symbols.
+// Names of places in a program: the labels and lines of a source, as the assembler tells them, or the functions of an ELF file that
+// has symbols.
 
-const WORDS = /^(add|sub|sll|slt|sltu|xor|srl|sra|or|and|addw|subw|sllw|srlw|sraw|addi|slti|sltiu|xori|ori|andi|addiw|slli|srli|srai|slliw|srliw|sraiw|lb|lh|lw|ld|lbu|lhu|lwu|jalr|sb|sh|sw|sd|beq|bne|blt|bge|bltu|bgeu|jal|lui|auipc|fence|ecall|ebreak|nop|mv|j|call|ret)$/;
-
-/** A line's parts: its label, its word, its operands and where the comment begins. */
-export function parts_of(line) {
-  let end = line.length, quoted = false;
-  for (let k = 0; k < line.length; k++) {
-    if (quoted && line[k] === "\\") k++;
-    else if (line[k] === '"') quoted = !quoted;
-    else if (line[k] === "#" && !quoted) { end = k; break; }
-  }
-  const found = /^(\s*)(?:([A-Za-z_]\w*):)?(\s*)([\w.]*)(.*)$/s.exec(line.slice(0, end)) || [];
-  return { label: found[2] || "", word: found[4] || "", operands: (found[5] || "").trim(), end };
-}
-
-function value_of(text) {
-  const found = /^(-?)(0x[0-9a-fA-F]+|\d+)$/.exec(text.trim());
-  return found ? (found[1] ? -BigInt(found[2]) : BigInt(found[2])) : null;
-}
-
-function bytes_of(word, operands) {
-  const items = operands.split(",").length;
-  switch (word) {
-    case ".byte": return items;
-    case ".word": return 4 * items;
-    case ".dword": return 8 * items;
-    case ".space": return Number(value_of(operands) ?? 0n);
-    case ".asciz": return new TextEncoder().encode(operands.replace(/^"|"$/g, "").replace(/\\./g, "?")).length + 1;
-    default: return 0;
-  }
-}
-
-function words_of(word, operands) {
-  if (word === "la") return 2;
-  if (word === "li") {
-    const value = value_of(operands.split(",")[1] || "") ?? 0n;
-    if (value >= -2048n && value <= 2047n) return 1;
-    return (value & 0xfffn) === 0n ? 1 : 2;
-  }
-  return WORDS.test(word) ? 1 : 0;
-}
-
-/** Where each line and label of a source lies: {lines: [{line, address}], names: [{name, address}]}, both in order. */
-export function layout_of(source) {
-  const lines = [], names = [];
-  let text = 0, data = 0, in_data = false;
-  source.split("\n").forEach((raw, place) => {
-    const { label, word, operands } = parts_of(raw);
-    if (label) names.push({ name: label, at: in_data ? data : text, in_data, line: place + 1 });
-    if (word === ".text") in_data = false;
-    else if (word === ".data") in_data = true;
-    else if (in_data) data += bytes_of(word, operands);
-    else {
-      const count = words_of(word, operands);
-      if (count) lines.push({ line: place + 1, address: BigInt(text), count });
-      text += 4 * count;
-    }
-  });
-  const base = Math.ceil(text / 4096) * 4096;
-  for (const it of names) it.address = BigInt(it.in_data ? base + it.at : it.at);
-  names.sort((a, b) => (a.address < b.address ? -1 : a.address > b.address ? 1 : 0));
-  return { lines, names, text_end: BigInt(text), source: source.split("\n") };
+/** The places of a source: its text, with the lines and labels that the assembler told. */
+export function places_of(text, { lines, names }) {
+  return { lines, names, source: text.split("\n") };
 }
 
 /** The functions that an ELF-64 file's symbol table names (ELF-64 Object File Format, "Symbol table"). */
@@ -84,14 +27,12 @@ export function functions_of(bytes) {
     }
   } catch { /* a file without a whole table has no names */ }
   names.sort((a, b) => (a.address < b.address ? -1 : 1));
-  return { lines: [], names, source: [], text_end: 0n };
+  return { lines: [], names, source: [] };
 }
 
 /** `main+0x10`, or nothing. */
 export function name_at(symbols, address) {
-  if (!symbols) return "";
-  let found = null;
-  for (const it of symbols.names) { if (it.address > address) break; if (!it.in_data || it.address === address) found = it; }
+  const found = symbols?.names.findLast((it) => it.address <= address);
   if (!found) return "";
   const offset = address - found.address;
   return offset === 0n ? found.name : `${found.name}+0x${offset.toString(16)}`;
@@ -99,7 +40,6 @@ export function name_at(symbols, address) {
 
 /** The line of a source at an address, or null. */
 export function line_at(symbols, address) {
-  if (!symbols) return null;
-  const found = symbols.lines.find((it) => address >= it.address && address < it.address + BigInt(4 * it.count));
+  const found = symbols?.lines.find((it) => it.start <= address && address < it.end);
   return found ? { line: found.line, text: symbols.source[found.line - 1].trim() } : null;
 }

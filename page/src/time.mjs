@@ -1,7 +1,8 @@
 // Time: play and pause, steps forward and back, the slider over the whole run, zoom, break points.
 import { $, app, ask, color_of, element, fresh, grouped, in_time, on, program_name, say, style_of, tell, write } from "./app.mjs";
 import { KIND } from "./machine.mjs";
-import { CALLS, call_name, hex } from "./words.mjs";
+import { all_calls, call_name, call_number } from "./calls.mjs";
+import { hex } from "./words.mjs";
 import { type } from "./terminal.mjs";
 
 /** The part of the run that the slider and the picture of turns show. */
@@ -191,7 +192,7 @@ function add_break() {
   const kind = $("break-kind").value, where = $("break-where").value.trim();
   if (!where) return;
   if (kind === "call") {
-    const number = Object.entries(CALLS).find(([, name]) => name === where)?.[0] ?? where;
+    const number = call_number(where) ?? where;
     if (!/^\d+$/.test(number)) { say(`No such call: ${where}. Write its name, as write, or its number`); return; }
     breaks.push({ kind, number: Number(number), name: where, words: `call ${call_name(Number(number))}` });
   } else {
@@ -263,7 +264,7 @@ export function start() {
   on("play", () => ask("play"));
   on("boot", () => { window_.whole = true; });
   on("booted", () => {
-    $("labels").replaceChildren(...app.symbols.flatMap((it) => it.names.map(({ name }) => element("option", { value: name }))), ...Object.values(CALLS).map((name) => element("option", { value: name })));
+    $("labels").replaceChildren(...app.symbols.flatMap((it) => it.names.map(({ name }) => element("option", { value: name }))), ...all_calls().map((name) => element("option", { value: name })));
     for (const it of breaks) if (it.file) it.program = program_of_file(it.file);
     send_breaks();
   });

@@ -1,11 +1,9 @@
-// Words for people: the kernel's calls, registers, causes of faults, states of processes.
+// Words for people: registers, causes of faults, what sleepers wait for, what to write in place of a mistake.
+import { call_name } from "./calls.mjs";
 
-export const CALLS = { 1: "fork", 2: "exit", 3: "wait", 4: "pipe", 5: "read", 6: "kill", 7: "exec", 10: "dup", 11: "getpid", 12: "sbrk", 13: "sleep", 14: "uptime", 15: "open", 16: "write", 21: "close", 22: "sbrklazy" };
-export const ARGUMENTS = { 1: 0, 2: 1, 3: 1, 4: 1, 5: 3, 6: 1, 7: 2, 10: 1, 11: 0, 12: 1, 13: 1, 14: 0, 15: 2, 16: 3, 21: 1, 22: 1 };
 export const REGISTERS = ["pc", "ra", "sp", "gp", "tp", "t0", "t1", "t2", "s0", "s1", "a0", "a1", "a2", "a3", "a4", "a5", "a6", "a7", "s2", "s3", "s4", "s5", "s6", "s7", "s8", "s9", "s10", "s11", "t3", "t4", "t5", "t6"];
 export const USES = ["", "free", "trapframe", "root table", "middle table", "last table", "page", "pipe"];
 
-export const call_name = (number) => CALLS[number] || `call ${number}`;
 export const hex = (value) => "0x" + BigInt(value).toString(16);
 
 /** How many bytes a store's word stores; 0: it is no store. */
@@ -44,21 +42,22 @@ export function waits_for(process, processes, files) {
   if (!call) return { what: "sleeps", who: "" };
   const fd = Number(call.words[0] & 0xffffffffn);
   const named = files ? files.descriptors.find((it) => it.pid === process.pid && it.fd === fd) : null;
-  switch (call.number) {
-    case 3: {
+  const name = call_name(call.number);
+  switch (name) {
+    case "wait": {
       const children = processes.filter((it) => it.parent === process.pid && it.lives).map((it) => it.pid);
       return { what: "in wait, for a child to end", who: children.length ? `${list_of(children)} can end` : "it has no child" };
     }
-    case 13:
+    case "sleep":
       return { what: `in sleep, until tick ${(call.since + Number(BigInt.asUintN(32, call.words[0]))) >>> 0}`, who: "the timer" };
-    case 5:
+    case "read":
       if (named && named.kind === 3) return { what: `in read on descriptor ${fd}, the read end of a pipe`, who: ends_text(process, named.frame, 4, files, "can write") };
       return { what: `in read on descriptor ${fd}, the console`, who: "a line typed at the terminal" };
-    case 16:
+    case "write":
       if (named && named.kind === 4) return { what: `in write on descriptor ${fd}, the write end of a pipe that is full`, who: ends_text(process, named.frame, 3, files, "can read") };
       return { what: `in write on descriptor ${fd}, the console`, who: "the terminal, when it has taken a byte" };
     default:
-      return { what: `in ${call_name(call.number)}`, who: "" };
+      return { what: `in ${name}`, who: "" };
   }
 }
 

@@ -371,7 +371,7 @@ const obey = {
   module({ bytes }) {
     machine = new Machine(new WebAssembly.Module(bytes));
     run = new Run(machine);
-    postMessage({ ready: true });
+    postMessage({ ready: [...machine.kernel_calls] });
   },
   boot({ config, files, how, play: plays, keys }) {
     playing = false;

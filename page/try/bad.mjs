@@ -94,11 +94,28 @@ is(Number(machine.calls.xv_page_instruction(0x73, 0n, machine.room, 4n)), 0, "ec
 is(machine.assemble("  beqz a0, x\n").kind, "UnknownWord", "beqz");
 is(machine.assemble("  li a0, 1\n  j nowhere\n").line, 2, "the line of an unknown label");
 const at = machine.put(new Uint8Array([32, 255, 10]));
-machine.calls.xv_page_assemble(at, 3n, machine.room, 65536n, machine.told);
+machine.calls.xv_page_assemble(at, 3n, machine.room, 65536n, machine.table, machine.told);
 is(machine.view().getUint32(machine.at, true), 7, "a source that is no text");
 const source = machine.put(new TextEncoder().encode("  ecall\n"));
-machine.calls.xv_page_assemble(source, 8n, machine.room, 20n, machine.told);
+machine.calls.xv_page_assemble(source, 8n, machine.room, 20n, machine.table, machine.told);
 is(machine.view().getUint32(machine.at, true), 8, "a file in a room of 20 bytes");
+
+// Tables: where lines and labels lie, and the kernel's calls. Behind the last row, and without a table, there is none.
+const shown = (it) => JSON.stringify(it, (_, value) => (typeof value === "bigint" ? Number(value) : value));
+const { lines, names } = machine.assemble(".data\nword: .dword 5\n.text\n# Data stands behind the text.\nstart: la a0, word\n\n  li a7, 2  # exit\nend: ecall\n");
+is(shown(lines), shown([{ line: 5, start: 0, end: 8 }, { line: 7, start: 8, end: 12 }, { line: 8, start: 12, end: 16 }]), "the lines of a source");
+is(shown(names), shown([{ name: "word", address: 4096 }, { name: "start", address: 0 }, { name: "end", address: 12 }]), "the labels of a source");
+const row = (call, place) => machine.calls[call](machine.table, place, machine.told, machine.room, 65536n) & 255;
+for (const call of ["xv_page_line", "xv_page_label"]) is(row(call, 0n), 4, `${call} of no table`);
+machine.calls.xv_page_assemble(source, 8n, machine.room, 65536n, machine.table, machine.told);
+for (const [call, place, answer] of [["xv_page_line", 0n, 0], ["xv_page_line", 1n, 4], ["xv_page_line", 2n ** 63n, 4], ["xv_page_label", 0n, 4]]) is(row(call, place), answer, `${call} at the place ${place}`);
+machine.calls.xv_page_assemble(at, 3n, machine.room, 65536n, machine.table, machine.told);
+is(row("xv_page_line", 0n), 4, "a line of what is no text");
+is([...machine.kernel_calls].map(([number, name]) => `${number} ${name}`).join(", "), "1 fork, 2 exit, 3 wait, 4 pipe, 5 read, 6 kill, 7 exec, 10 dup, 11 getpid, 12 sbrk, 13 sleep, 14 uptime, 15 open, 16 write, 21 close, 22 sbrklazy", "the kernel's calls");
+is(machine.calls.xv_page_call(16n, machine.told, machine.room, 65536n) & 255, 4, "a call behind the last");
+machine.memory().fill(0, machine.room_at, machine.room_at + 4);
+is(machine.calls.xv_page_call(0n, machine.told, machine.room, 3n) & 255, 0, "a call");
+is(machine.memory()[machine.room_at], 0, "its name in a room of 3 bytes");
 
 console.log(bad ? `${bad} answers to bad input are not as they should be` : "bad input is told by name, and changes nothing");
 process.exit(bad ? 1 : 0);

@@ -65,6 +65,9 @@ async function programs(page) {
   await page.eval("(() => { const it = document.getElementById('source'); it.value = it.value.replace('ecall', 'beqz a0, x'); it.dispatchEvent(new Event('input')); })()");
   await page.until("document.getElementById('mistake').textContent.includes('UnknownWord')");
   holds((await page.eval("document.getElementById('mistake').textContent")).includes("beq a0, x0"), "a mistake is told with a hint");
+  holds((await page.eval("document.querySelectorAll('.gutter div:not(.no)').length")) === 0, "a source that is refused takes no break point");
+  const offered = await page.eval("[...document.getElementById('labels').children].map((it) => it.value)");
+  holds(offered.includes("sbrklazy") && offered.length > 16, "labels and calls are offered for break points");
   await page.picture(`${folder}/mistake.png`);
 }
 

@@ -16,6 +16,7 @@ out=$root/crates/xv_run/out
 log=$out/xv.log
 stamp=$out/xv.stamp
 unproved=$out/unproved
+. "$root/programs/host/kit.sh"
 
 # The crates that are programs.
 programs() {
@@ -140,15 +141,6 @@ bar() {
     printf '[%.*s%.*s]' "$filled" '####################' "$((20 - filled))" '....................'
 }
 
-# How many checks may go side by side: one for each processor, but no more than there is room for at 4.5 GB each.
-jobs_at_once() {
-    jobs=$(nproc)
-    room=$(awk '/^MemAvailable:/ { print int($2 / 4500000) }' /proc/meminfo)
-    [ "$room" -lt "$jobs" ] && jobs=$room
-    [ "$jobs" -lt 1 ] && jobs=1
-    echo "$jobs"
-}
-
 # The names of all crates.
 crates() {
     sed -n 's/^\([a-z0-9_][a-z0-9_]*\).*:.*/\1/p' "$root/crates.txt"
@@ -162,7 +154,7 @@ count_done() {
 prove_crates() {
     names=$(crates)
     # shellcheck disable=SC2086
-    { rt all check --jobs "$(jobs_at_once)"; echo "== status $?"; } </dev/null 2>&1 9>&- | tee "$log" | tell_progress $names
+    { rt all check --jobs "$("$root/programs/host/jobs.sh")"; echo "== status $?"; } </dev/null 2>&1 9>&- | tee "$log" | tell_progress $names
 }
 
 build_programs() {
@@ -199,29 +191,8 @@ build() {
     fi
 }
 
-# The process that runs the program of a trial build, if it runs by now: its words hold the path $1, and the kit's own
-# loader runs it.
-trial_process() {
-    # shellcheck disable=SC2013
-    for process in $(grep -alF -- "$1" /proc/[0-9]*/cmdline 2>/dev/null); do
-        process=${process%/cmdline}
-        case $(readlink "$process/exe") in
-            */ld-linux-*) echo "${process#/proc/}" && return ;;
-        esac
-    done
-    return 1
-}
-
-# Copies the program that process $1 runs into the folder $2: its first four words are the loader and the loader's options.
-copy_trial() {
-    tr '\0' '\n' <"/proc/$1/cmdline" >"$2/words" &&
-        sed 4q "$2/words" >"$2/loader" &&
-        cp "$(sed -n 5p "$2/words")" "$2/part" &&
-        mv "$2/part" "$2/program"
-}
-
 # Builds without proofs into the folder $1. `rt try` makes such a build, runs it and removes it: so it is given a program
-# without an end, and what runs is copied.
+# without an end, and what runs is copied (kit.sh).
 try_build() {
     printf 'again: j again\n' >"$1/init.s"
     (cd "$root/crates/xv_run" && exec rt try -- --rounds 1000000000 --quantum 1000000 "$1/init.s") >"$unproved.log" 2>&1 9>&- &

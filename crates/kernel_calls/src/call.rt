@@ -26,7 +26,7 @@ pub enum KernelCall {
 }
 
 /// All calls, in the order of their numbers.
-const CALLS: [KernelCall; 16] = [
+pub const CALLS: [KernelCall; 16] = [
     KernelCall::Fork,
     KernelCall::Exit,
     KernelCall::Wait,

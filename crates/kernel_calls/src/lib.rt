@@ -10,4 +10,4 @@ mod call;
 pub mod laws;
 
 pub use argument::{Argument, ArgumentKind};
-pub use call::KernelCall;
+pub use call::{CALLS, KernelCall};

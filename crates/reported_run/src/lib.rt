@@ -8,7 +8,6 @@
 #![tactic(auto)]
 
 mod command_line;
-mod letters;
 mod line;
 mod running;
 mod sources;

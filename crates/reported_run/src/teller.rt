@@ -3,11 +3,11 @@ ghost use Rattle.std.specs.Prelude.{◌≡◌};
 ghost use Rattle.program_files.specs.Statuses.{status_of};
 
 use crate::NAME;
-use crate::letters::{Key, Letter};
 use crate::line::Telling;
 use program_files::{Failure, close_run, show_trace};
 use std::alloc::Global;
 use std::io::Write;
+use trace_picture::{Key, Letter};
 use xk_base::Pid;
 use xk_base::limits::NPROC;
 use xv_machine::{DriveEnd, DriveError, Event, Outcome, ProcessState};

@@ -17,7 +17,7 @@ each : named (Step 1 ∷ Block 2 (pos 3) ∷ Exit 3 (pos 0) ∷ Fault 4 13 ∷ [
 each = refl
 
 -- and those that are of none
-of_none : named (Idle ∷ Tick ∷ Key 13 ∷ Sent 104 ∷ []) ≡ []
+of_none : named (Idle ∷ Tick ∷ Key 13 1 ∷ Sent 104 ∷ []) ≡ []
 of_none = refl
 
 -- a pid has 32 bits

@@ -31,7 +31,7 @@ after pid was (Exit other status) = if other == pid then Ended else was
 after pid was (Fault other cause) = if other == pid then Ended else was
 after pid was Tick = paused was
 after pid was Idle = was
-after pid was (Key byte) = was
+after pid was (Key byte shown) = was
 after pid was (Sent byte) = was
 
 -- what it does behind each note of a list

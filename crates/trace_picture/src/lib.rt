@@ -1,4 +1,5 @@
-//! Pictures of traces, which show what processes did. The program that draws them is `xv_picture`.
+//! Pictures of traces, which show what processes did, and traces in words. The program that draws them is `xv_picture`;
+//! `xv_why --explain` says them.
 //!
 //! A row stands for a process. Its bar shows, event by event, whether the process ran, waited for its turn,
 //! slept, or had ended and was still to be waited for. Lines that tell more than a trace, as `xv_why --notes` writes them,
@@ -7,18 +8,23 @@
 
 mod chart;
 mod label;
+mod letters;
 mod line;
 mod note;
 mod picture;
 mod remark;
 mod row;
+mod saying;
+mod words;
 
 use crate::chart::Chart;
 use crate::line::{Told, lines_of};
 use crate::picture::draw;
 use crate::remark::Remarks;
+use crate::words::Sayer;
+pub use letters::{Key, Letter};
 use std::alloc::Global;
-use std::io::{self, BufWriter, Read, Write};
+use std::io::{self, BufRead, BufReader, BufWriter, Read, Write};
 
 // Writes the picture of a chart.
 fn write_picture<W: Write + Drop>(
@@ -46,4 +52,39 @@ pub fn draw_trace<R: Read + Drop, W: Write + Drop>(
     let Told { notes, remarks } = lines_of(alloc, text.as_str())?;
     let chart = Chart::of(alloc, notes)?;
     write_picture(alloc, &chart, &remarks, output)
+}
+
+// Takes the next line, if there is one, and tells whether there was.
+fn take_line<R: BufRead, W: Write>(
+    alloc: Global,
+    trace: &mut R,
+    sayer: &mut Sayer<W>,
+) -> io::Result<bool> {
+    let mut line = Vec::new(alloc);
+    if trace.read_until(b'\n', &mut line)? == 0 {
+        return Ok(false);
+    }
+    let line = line.as_slice();
+    sayer.take(line.strip_suffix(b"\n").unwrap_or(line))?;
+    Ok(true)
+}
+
+/// Reads a trace, and writes what its lines say in words.
+///
+/// # Errors
+///
+/// Those of the two streams, and that the host has too little memory.
+pub fn say_trace<R: Read + Drop, W: Write + Drop>(
+    alloc: Global,
+    trace: R,
+    output: W,
+) -> io::Result<()> {
+    let mut trace = BufReader::new(alloc, trace)?;
+    let mut sayer = Sayer::new(BufWriter::new(alloc, output)?);
+    for _ in 0..u64::MAX {
+        if !take_line(alloc, &mut trace, &mut sayer)? {
+            break;
+        }
+    }
+    sayer.finish()
 }

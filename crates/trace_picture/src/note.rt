@@ -18,8 +18,8 @@ pub enum Note {
     Idle,
     /// The clock ticked, and the turn has ended.
     Tick,
-    /// This byte was typed.
-    Key(u8),
+    /// This byte was typed, and the console shows so many bytes for it.
+    Key(u8, u32),
     /// This byte was sent.
     Sent(u8),
 }
@@ -47,8 +47,7 @@ fn note_of_process(kind: &str, pid: u32, word: &str) -> Option<Note> {
 // The note of a line of three words.
 fn note_of_three(kind: &str, first: &str, second: &str) -> Option<Note> {
     if kind == "key" {
-        let _echo: u32 = second.parse().ok()?;
-        return Some(Note::Key(first.parse().ok()?));
+        return Some(Note::Key(first.parse().ok()?, second.parse().ok()?));
     }
     note_of_process(kind, first.parse().ok()?, second)
 }

@@ -388,7 +388,7 @@ fn draw_byte<W: Write>(x: Length, base: u64, byte: u8, output: &mut W) -> io::Re
 // The byte that an event shows in the line of this name.
 fn byte_in(line: &str, note: Note) -> Option<u8> {
     match note {
-        Note::Key(byte) if line == "typed" => Some(byte),
+        Note::Key(byte, _) if line == "typed" => Some(byte),
         Note::Sent(byte) if line == "sent" => Some(byte),
         _ => None,
     }

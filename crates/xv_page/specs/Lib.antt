@@ -3,4 +3,5 @@ pub mod Told
 pub mod Observed
 pub mod Booting
 pub mod Calls
+pub mod Tables
 pub mod Texts

@@ -4,6 +4,7 @@ use Rattle.std.specs.Str.{IsUtf8}
 use Rattle.rv64i_core.specs.Table.{decoded}
 use Rattle.rv64i_core.specs.declared.instruction.Instr.{Instr}
 use Rattle.uasm_core.specs.FileFormat.{file_of}
+use Rattle.uasm_core.specs.LineTable.{LineTable, line_table}
 use Rattle.uasm_core.specs.Views.{Stands}
 use Rattle.uasm_core.specs.declared.error.AsmError.{AsmError}
 use Rattle.uasm_core.specs.declared.error.AsmError.TheVariants as errors
@@ -48,18 +49,25 @@ abbrev pub made_laid : Result (List ℕ) AsmError → List ℕ → List ℕ
 made_laid (Ok file) room = laid file room
 made_laid (Err e) room = room
 
--- The very file that the text asks for, or its first refusal, unless memory ran out: it is told, and a file is laid into the room
-pub record IsMade (source before after : List ℕ) (told : Assembled) : Type 0 where
+-- the table of the source is kept, if there is a file; if there is none, no table is
+abbrev pub IsKept : (source : List ℕ) → Result (List ℕ) AsmError → Option LineTable → Type 0
+IsKept source (Ok file) (Some table) = line_table source ≡ Ok table
+IsKept source (Ok file) None = ⊥
+IsKept source (Err e) kept = kept ≡ None
+
+-- The very file that the text asks for, or its first refusal, unless memory ran out: it is told, and a file is laid into the room, and the table of the source's lines and labels kept
+pub record IsMade (source before after : List ℕ) (kept : Option LineTable) (told : Assembled) : Type 0 where
   pub made : Result (List ℕ) AsmError
   pub stands : Stands (λ (file : List ℕ). file) made (file_of source)
   pub is_told : told ≡ made_told (length before) made
   pub is_laid : after ≡ made_laid made before
+  pub is_kept : IsKept source made kept
 
--- bytes that are no text are told so, and leave the room as it is
-abbrev pub IsNoText : (source before after : List ℕ) → Assembled → Type 0
-IsNoText source before after told = (¬ IsUtf8 source) × (told ≡ record { kind = 7; count = 0 }) × (after ≡ before)
+-- bytes that are no text are told so; the room stays as it is, and no table is kept
+abbrev pub IsNoText : (source before after : List ℕ) → Option LineTable → Assembled → Type 0
+IsNoText source before after kept told = (¬ IsUtf8 source) × (told ≡ record { kind = 7; count = 0 }) × (after ≡ before) × (kept ≡ None)
 
 -- a source of UTF-8 is assembled
-pub data IsAssembled (source before after : List ℕ) (told : Assembled) : Type 0 where
-  a-text : IsUtf8 source → IsMade source before after told → IsAssembled source before after told
-  no-text : IsNoText source before after told → IsAssembled source before after told
+pub data IsAssembled (source before after : List ℕ) (kept : Option LineTable) (told : Assembled) : Type 0 where
+  a-text : IsUtf8 source → IsMade source before after kept told → IsAssembled source before after kept told
+  no-text : IsNoText source before after kept told → IsAssembled source before after kept told

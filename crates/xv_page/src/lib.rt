@@ -9,6 +9,8 @@
 
 mod answers;
 mod booting;
+mod call_names;
+mod lines;
 mod named;
 mod outcomes;
 mod reading;

@@ -1,5 +1,7 @@
 //! The one export of the library, from which each call is reached.
 use crate::booting::{BootTold, xv_page_add, xv_page_boot, xv_page_drop};
+use crate::call_names::{CallTold, xv_page_call};
+use crate::lines::{LabelTold, LineTold, xv_page_forget, xv_page_label, xv_page_line};
 use crate::outcomes::{RunsTold, Told};
 use crate::reading::{
     xv_page_address, xv_page_byte, xv_page_console, xv_page_descriptor, xv_page_facts,
@@ -10,6 +12,7 @@ use crate::texts::{Assembled, xv_page_assemble, xv_page_instruction};
 use crate::views::{Facts, descriptor_told, pipe_told, process_told, use_told, word_told};
 use crate::writing::{xv_page_back, xv_page_event, xv_page_run, xv_page_until};
 use std::alloc::Global;
+use uasm_core::SourceLines;
 use xk_base::Program;
 use xv_session::Session;
 
@@ -77,6 +80,31 @@ fn look(session: &Option<Box<Session>>, number: u32) {
     xv_page_use(session, number, &mut frame_use);
 }
 
+/// Makes each call that is about texts.
+fn read(alloc: Global, source: &[u8], number: u32, bytes: &mut [u8]) {
+    let mut table: Option<Box<SourceLines>> = None;
+    let mut answer = Assembled { kind: 0, count: 0 };
+    let mut line = LineTold {
+        line: 0,
+        start: 0,
+        end: 0,
+    };
+    let mut label = LabelTold {
+        address: 0,
+        length: 0,
+    };
+    let mut call = CallTold {
+        number: 0,
+        length: 0,
+    };
+    xv_page_assemble(alloc, source, bytes, &mut table, &mut answer);
+    xv_page_line(&table, 7, &mut line);
+    xv_page_label(&table, 7, &mut label, bytes);
+    xv_page_forget(&mut table);
+    xv_page_instruction(number, answer.count, bytes);
+    xv_page_call(7, &mut call, bytes);
+}
+
 /// Makes each call once: so the library has them all. The host calls them by themselves, and never this one.
 #[unsafe(no_mangle)]
 pub extern "C" fn xv_page_root(alloc: Global, block: &[u8], bytes: &mut [u8]) {
@@ -86,7 +114,5 @@ pub extern "C" fn xv_page_root(alloc: Global, block: &[u8], bytes: &mut [u8]) {
     look_at_process(&session, number);
     look(&session, number);
     xv_page_drop(&mut session);
-    let mut answer = Assembled { kind: 0, count: 0 };
-    xv_page_assemble(alloc, block, bytes, &mut answer);
-    xv_page_instruction(number, answer.count, bytes);
+    read(alloc, block, number, bytes);
 }

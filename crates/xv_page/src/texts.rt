@@ -1,5 +1,9 @@
 //! Sources and instructions.
-ghost use Rattle.std.specs.Prelude.{◌≡◌, nat_le, length, if◌then◌else◌};
+ghost use Rattle.std.specs.Prelude.{◌≡◌, nat_le, length, if◌then◌else◌, IfOk, Ok};
+ghost use Rattle.uasm_core.specs.FileFormat.{file_of};
+ghost use Rattle.uasm_core.specs.LineTable.{line_table, table_seen};
+ghost use Rattle.uasm_core.specs.Views.{Stands};
+ghost use Rattle.xv_page.specs.Tables.{table_kept};
 ghost use Rattle.xv_page.specs.Texts.{line_of, mistake, refusal, filed, IsAssembled, IsMade};
 ghost use Rattle.xv_page.specs.Told.{laid};
 
@@ -7,7 +11,7 @@ use crate::answers::lay;
 use rv64i_core::decode;
 use std::alloc::Global;
 use std::str;
-use uasm_core::{AsmError, AsmErrorKind, assemble};
+use uasm_core::{AsmError, AsmErrorKind, SourceLines, assemble_with_lines};
 use uasm_text::text_at;
 
 /// What the assembler made.
@@ -61,24 +65,67 @@ fn filed(file: &[u8], room: &mut [u8]) -> Assembled
     }
 }
 
-/// Assembles a text into a room.
-fn made(alloc: Global, source: &str, room: &mut [u8]) -> Assembled
-    ensures { IsMade source.now room.old room.new result }
+/// What the assembler makes of a text.
+#[derive(Drop)]
+struct Translation {
+    /// The file.
+    file: Vec<u8>,
+    /// Where the text's lines and labels stand in it.
+    table: Box<SourceLines>,
+}
+
+/// Assembles a text.
+fn translated(alloc: Global, source: &str) -> Result<Translation, AsmError>
+    ensures file { Stands (λ t. t.file.items) result (file_of source.now) }
+    ensures table { IfOk result (λ t. line_table source.now ≡ Ok (table_seen t.table.value)) }
 {
-    match assemble(alloc, source) {
-        Err(error) => refusal(error),
-        Ok(file) => filed(file.as_slice(), room),
+    let assembled = assemble_with_lines(alloc, source)?;
+    let table = Box::new(alloc, assembled.lines)?;
+    Ok(Translation {
+        file: assembled.file,
+        table,
+    })
+}
+
+/// Assembles a text into a room, and keeps its table.
+fn made(
+    alloc: Global,
+    source: &str,
+    room: &mut [u8],
+    table: &mut Option<Box<SourceLines>>,
+) -> Assembled
+    ensures { IsMade source.now room.old room.new (table_kept table.new) result }
+{
+    match translated(alloc, source) {
+        Err(error) => {
+            *table = None;
+            refusal(error)
+        }
+        Ok(translation) => {
+            *table = Some(translation.table);
+            filed(translation.file.as_slice(), room)
+        }
     }
 }
 
-/// Assembles a source of UTF-8 into the room for a file.
+/// Assembles a source of UTF-8 into the room for a file, and puts the table of its lines and labels into the host's
+/// place for one, in place of the table that is there; if there is no file, there is no table afterwards.
 #[inline(never)]
-pub fn xv_page_assemble(alloc: Global, source: &[u8], room: &mut [u8], answer: &mut Assembled)
-    ensures { IsAssembled source.now room.old room.new answer.new }
+pub fn xv_page_assemble(
+    alloc: Global,
+    source: &[u8],
+    room: &mut [u8],
+    table: &mut Option<Box<SourceLines>>,
+    answer: &mut Assembled,
+)
+    ensures { IsAssembled source.now room.old room.new (table_kept table.new) answer.new }
 {
     match str::from_utf8(source) {
-        Ok(text) => *answer = made(alloc, text, room),
-        Err(_) => *answer = Assembled { kind: 7, count: 0 },
+        Ok(text) => *answer = made(alloc, text, room, table),
+        Err(_) => {
+            *table = None;
+            *answer = Assembled { kind: 7, count: 0 };
+        }
     }
 }
 

@@ -11,19 +11,51 @@ mod tool;
 
 use crate::behind::Behind;
 use crate::tool::{NAMES, Tool};
+use std::env::FillError;
 use std::io::{self, Write};
 use std::process::ExitCode;
 use std::rt::Env;
-use trace_picture::draw_trace;
+use trace_picture::{draw_trace, say_trace};
+
+// The exit status behind what was made of the trace on standard input. An error is told under the program's name.
+fn status_of(rt: &HostRuntime, name: &str, made: io::Result<()>) -> u8 {
+    match made {
+        Ok(()) => 0,
+        Err(error) => {
+            let _ = writeln!(rt.stderr(), "{name}: {error}");
+            1
+        }
+    }
+}
 
 // Draws the trace on standard input.
 fn draw(rt: &HostRuntime) -> u8 {
-    match draw_trace(rt.alloc(), rt.stdin(), rt.stdout()) {
-        Ok(()) => 0,
-        Err(error) => {
-            let _ = writeln!(rt.stderr(), "xv_picture: {error}");
-            1
-        }
+    let drawn = draw_trace(rt.alloc(), rt.stdin(), rt.stdout());
+    status_of(rt, "xv_picture", drawn)
+}
+
+// Says the trace on standard input in words.
+fn say(rt: &HostRuntime) -> u8 {
+    let said = say_trace(rt.alloc(), rt.stdin(), rt.stdout());
+    status_of(rt, "xv_why", said)
+}
+
+// Whether `--explain` is the only word: then there is no FILE to be run, and the trace on standard input is meant.
+fn is_explain_alone<W: Env>(words: &W) -> bool {
+    let mut room = [0; 16];
+    let Ok(length) = words.arg(1, &mut room) else {
+        return false;
+    };
+    let is_explain = matches!(str::from_utf8(&room[..length]), Ok("--explain"));
+    is_explain && matches!(words.arg(2, &mut room), Err(FillError::NotPresent))
+}
+
+// Tells why the programs end or wait that the words name, or says a trace.
+fn tell_why<W: Env + AllocGlobal>(rt: &HostRuntime, words: &W) -> u8 {
+    if is_explain_alone(words) {
+        say(rt)
+    } else {
+        reported_run::obey(rt, words)
     }
 }
 
@@ -35,7 +67,7 @@ fn play<W: Env + AllocGlobal>(rt: &HostRuntime, words: &W, tool: Tool) -> u8 {
         Tool::Grade => grade_submissions::obey(rt, words),
         Tool::Picture => draw(rt),
         Tool::Terminal => terminal_session::obey(rt, words),
-        Tool::Why => reported_run::obey(rt, words),
+        Tool::Why => tell_why(rt, words),
     }
 }
 

@@ -3,7 +3,7 @@ use std::fmt;
 
 /// A byte that was sent.
 #[derive(Clone, Copy)]
-pub(crate) struct Letter(pub u8);
+pub struct Letter(pub u8);
 
 impl fmt::Display for Letter {
     fn fmt<W: fmt::Write>(&self, f: &mut fmt::Formatter<W>) -> fmt::Result {
@@ -21,7 +21,7 @@ impl fmt::Display for Letter {
 
 /// A key that was typed.
 #[derive(Clone, Copy)]
-pub(crate) struct Key(pub u8);
+pub struct Key(pub u8);
 
 impl fmt::Display for Key {
     fn fmt<W: fmt::Write>(&self, f: &mut fmt::Formatter<W>) -> fmt::Result {
