@@ -8,7 +8,6 @@
 //! What a name is found by is written in `specs/Symbols.antt`.
 #![tactic(auto)]
 
-mod number;
 mod section;
 mod symbol;
 mod table;

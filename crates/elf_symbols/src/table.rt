@@ -3,9 +3,9 @@ ghost use Rattle.std.specs.Prelude.{◌≡◌, ◌≤◌, ◌+◌, ◌*◌, leng
 ghost use Rattle.xk_base.specs.ProgramFile.{is_elf as elf};
 ghost use Rattle.elf_symbols.specs.Symbols as meant;
 
-use crate::number::{u16_at, u64_at};
 use crate::section::{STRING_TABLE, Section, read_section, symbol_table};
 use crate::symbol::{first_function, name_at};
+use xk_base::file_number::{u16_at, u64_at};
 
 /// Bytes of a file header (ELF-64 Object File Format, "ELF Header": `Elf64_Ehdr`).
 const FILE_HEADER_BYTES: usize = 64;
