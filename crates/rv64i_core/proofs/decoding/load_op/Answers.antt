@@ -1,5 +1,4 @@
-use Rattle.std.proofs.Common.{rules}
-use Rattle.rv64i_core.specs.Table.{load_op}
+use Rattle.rv64i_core.proofs.Prelude.{load_op, rules}
 use Rattle.rv64i_core.proofs.decoding.load_op.Goals as goal
 
 pub returns-in-6 : goal.returns-in-6

@@ -1,4 +1,4 @@
-use Rattle.std.proofs.Common.{rules}
+use Rattle.rv64i_core.proofs.Prelude.{rules}
 use Rattle.rv64i_core.proofs.encoding.spell.Goals as goal
 
 pub returns-in-Ecall-clause-word : goal.returns-in-Ecall-clause-word

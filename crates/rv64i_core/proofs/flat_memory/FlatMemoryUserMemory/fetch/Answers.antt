@@ -1,4 +1,4 @@
-use Rattle.std.proofs.Common.{rules}
+use Rattle.rv64i_core.proofs.Prelude.{rules}
 use Rattle.rv64i_core.proofs.FlatBytes.{fetch_inside, fetch_outside}
 use Rattle.rv64i_core.proofs.flat_memory.FlatMemoryUserMemory.fetch.Goals as goal
 

@@ -1,4 +1,4 @@
-use Rattle.std.proofs.Common.{rules}
+use Rattle.rv64i_core.proofs.Prelude.{rules}
 use Rattle.rv64i_core.proofs.Numbered.{read_is}
 use Rattle.rv64i_core.proofs.registers.Regs.read.Goals as goal
 

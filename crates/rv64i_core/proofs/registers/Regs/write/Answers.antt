@@ -1,4 +1,4 @@
-use Rattle.std.proofs.Common.{rules}
+use Rattle.rv64i_core.proofs.Prelude.{rules}
 use Rattle.rv64i_core.proofs.Numbered.{write_is, write_begins}
 use Rattle.rv64i_core.proofs.registers.Regs.write.Goals as goal
 
