@@ -1,3 +1,4 @@
+mod Prelude
 pub mod Listings
 pub mod Owned
 pub mod Places

@@ -1,9 +1,6 @@
 -- A partial function's values below a bound, as it changes at one place.
-use Rattle.std.proofs.Common.{◌≡◌, ◌≢◌, ℕ, zero, suc, ◌+◌, ◌<◌, ◌≤◌, List, Option, Some, None, inl, inr, refl, sym, ap, ◌∙◌, arith}
-use Rattle.std.proofs.lemmas.Bool.{cases_eq}
-use Rattle.xk_base.specs.Frames.{copies}
-use Rattle.xk_base.proofs.Frames.{at, at-same, copies-cons}
-use Rattle.sv39_core.specs.Listed.{push_some, listed}
+use Rattle.sv39_core.proofs.Prelude.{ℕ, ◌+◌, ◌<◌, ◌∙◌, ◌≡◌, ◌≢◌, ◌≤◌, ap, arith, at, at-same, cases_eq, copies, copies-cons, inl, inr, List, listed, None, Option, push_some, refl, Some, suc, sym}
+use Rattle.sv39_core.proofs.Prelude.{zero}
 
 push-some : (x y : ℕ) (o : Option ℕ) (xs : List ℕ) → o ≡ Some y → copies x (push_some o xs) ≡ at x y + copies x xs
 push-some x y o xs e = ap (λ v. copies x (push_some v xs)) e ∙ copies-cons x y xs

@@ -1,13 +1,7 @@
 -- How the owned frames and the pages change.
-use Rattle.std.proofs.Common.{◌≡◌, ℕ, zero, suc, ◌+◌, ◌*◌, ◌/◌, ◌%◌, ◌^◌, ◌<◌, ◌≤◌, List, ◌∷◌, ◌++◌, length, Option, Some, None, refl, ap, ◌∙◌, arith}
-use Rattle.xk_base.specs.Frames.{copies}
-use Rattle.xk_base.proofs.Frames.{at, copies-cons, SameFrames}
-use Rattle.phys_ram.specs.Ram.{frame_at, word_at, WordWritten}
-use Rattle.phys_ram.proofs.Words.{word_at-same}
-use Rattle.sv39_core.specs.declared.entry.Entry.{Entry}
-use Rattle.sv39_core.specs.declared.entry.Entry.TheVariants.{Invalid, Table, Leaf}
-use Rattle.sv39_core.specs.Sv39.{given, entry_of, table_of, below, table_at, last, page_entry}
-use Rattle.sv39_core.specs.Tree.{page_of, page_at, frame_of, uppers, lowers, page_frames, owned, IsTree}
+use Rattle.sv39_core.proofs.Prelude.{ℕ, ◌%◌, ◌*◌, ◌++◌, ◌+◌, ◌/◌, ◌<◌, ◌^◌, ◌∙◌, ◌∷◌, ◌≡◌, ◌≤◌, ap, arith, at, below, copies, copies-cons, Entry, entry_of, frame_at, frame_of, given, Invalid, IsTree}
+use Rattle.sv39_core.proofs.Prelude.{last, Leaf, length, List, lowers, None, Option, owned, page_at, page_entry, page_frames, page_of, refl, SameFrames, Some, suc, Table, table_at, table_of, uppers}
+use Rattle.sv39_core.proofs.Prelude.{word_at, word_at-same, WordWritten, zero}
 use Rattle.sv39_core.proofs.Listings.{listed-same, listed-more}
 use Rattle.sv39_core.proofs.Tree.{Spot, Hung, hung-here, hung-others, hung-pages, leaf-tables, leaf-here, leaf-others}
 use Rattle.sv39_core.proofs.Places.{copies-owned, table-owned, page-owned}

@@ -1,12 +1,7 @@
 -- Each frame of a tree has one place in it.
-use Rattle.std.proofs.Common.{◌≡◌, ℕ, zero, suc, ◌+◌, ◌-◌, ◌/◌, ◌%◌, ◌^◌, ◌<◌, ◌≤◌, List, ◌++◌, length, Option, Some, None, inl, inr, refl, sym, ap, ◌∙◌, arith}
-use Rattle.std.proofs.lemmas.Bool.{cases_lt, cases_eq}
-use Rattle.xk_base.specs.Frames.{copies}
-use Rattle.xk_base.proofs.Frames.{at, at-same, copies-cons, copies-append}
-use Rattle.phys_ram.specs.Ram.{word_at}
-use Rattle.sv39_core.specs.Sv39.{entry_at, table_of, below, table_at, last, page_entry}
-use Rattle.sv39_core.specs.Listed.{listed}
-use Rattle.sv39_core.specs.Tree.{frame_of, uppers, lowers, page_frames, owned, IsTree}
+use Rattle.sv39_core.proofs.Prelude.{ℕ, ◌%◌, ◌++◌, ◌+◌, ◌-◌, ◌/◌, ◌<◌, ◌^◌, ◌∙◌, ◌≡◌, ◌≤◌, ap, arith, at, at-same, below, cases_eq, cases_lt, copies, copies-append, copies-cons, entry_at, frame_of}
+use Rattle.sv39_core.proofs.Prelude.{inl, inr, IsTree, last, length, List, listed, lowers, None, Option, owned, page_entry, page_frames, refl, Some, suc, sym, table_at, table_of, uppers, word_at}
+use Rattle.sv39_core.proofs.Prelude.{zero}
 use Rattle.sv39_core.proofs.Listings.{listed-has, listed-twice}
 use Rattle.sv39_core.proofs.Tree.{Spot}
 use Rattle.sv39_core.proofs.Words.{entry_of-invalid}

@@ -1,10 +1,6 @@
 -- What one write to a table changes of the tree of tables.
-use Rattle.std.proofs.Common.{◌≡◌, ◌≢◌, ℕ, zero, suc, ◌+◌, ◌*◌, ◌/◌, ◌%◌, ◌<◌, ◌≤◌, List, length, Option, Some, None, inl, inr, ◌⊎◌, refl, sym, ap, ◌∙◌, arith}
-use Rattle.std.proofs.lemmas.Bool.{cases_eq}
-use Rattle.phys_ram.specs.Ram.{word_at, WordWritten}
-use Rattle.phys_ram.proofs.Words.{word_at-other}
-use Rattle.sv39_core.specs.declared.entry.Entry.TheVariants.{Invalid, Table}
-use Rattle.sv39_core.specs.Sv39.{entry_of, entry_at, table_of, below, table_at, last, page_entry}
+use Rattle.sv39_core.proofs.Prelude.{ℕ, ◌%◌, ◌*◌, ◌+◌, ◌/◌, ◌<◌, ◌∙◌, ◌≡◌, ◌≢◌, ◌≤◌, ◌⊎◌, ap, arith, below, cases_eq, entry_at, entry_of, inl, inr, Invalid, last, length, List, None, Option}
+use Rattle.sv39_core.proofs.Prelude.{page_entry, refl, Some, suc, sym, Table, table_at, table_of, word_at, word_at-other, WordWritten, zero}
 
 -- frame f is the table at place p of level l, and no other table
 pub record Spot (ram : List (List ℕ)) (root l p f : ℕ) : Type 0 where

@@ -1,9 +1,6 @@
 -- The walk, one level at a time.
-use Rattle.std.proofs.Common.{◌≡◌, ℕ, ◌/◌, ◌%◌, true, false, cond, List, Some, None, ap, ◌∙◌, arith}
-use Rattle.xk_base.specs.declared.access.Access.{Access}
-use Rattle.sv39_core.specs.declared.entry.Entry.{Entry}
-use Rattle.sv39_core.specs.declared.entry.Entry.TheVariants.{Invalid}
-use Rattle.sv39_core.specs.Sv39.{entry_at, table_of, below, table_at, last, page_entry, is_canonical, allowed, walked}
+use Rattle.sv39_core.proofs.Prelude.{ℕ, ◌%◌, ◌/◌, ◌∙◌, ◌≡◌, Access, allowed, ap, arith, below, cond, Entry, entry_at, false, Invalid, is_canonical, last, List, None, page_entry, Some, table_at}
+use Rattle.sv39_core.proofs.Prelude.{table_of, true, walked}
 
 top_index : (va : ℕ) → va / 4096 % 134217728 / 512 / 512 % 512 ≡ va / 1073741824 % 512
 top_index va = omega arith

@@ -1,17 +1,11 @@
 -- What the words that the kernel writes say.
-use Rattle.std.proofs.Common.{◌≡◌, ℕ, ◌+◌, ◌-◌, ◌*◌, ◌/◌, ◌%◌, ◌^◌, ◌<◌, ◌&&◌, ◌||◌, Bool, true, false, not, cond, eqb, leb, ltb, Option, Some, None, inl, inr, refl, sym, ap, ◌∙◌, arith}
+use Rattle.sv39_core.proofs.Prelude.{ℕ, ◌%◌, ◌&&◌, ◌*◌, ◌+◌, ◌-◌, ◌/◌, ◌<◌, ◌^◌, ◌||◌, ◌∙◌, ◌≡◌, Access, allowed, ap, arith, bit_if, Bool, cases_eq, cases_lt, cond, Entry, entry_of, entry_permits}
+use Rattle.sv39_core.proofs.Prelude.{eq-eqb, eqb, false, false≢true, Fetch, flag, given, inl, inr, Invalid, is_in_ram, is_perm, is_usable, le-leb, le-ltb, Leaf, leaf_word, leb, Load, lt-ltb, ltb}
+use Rattle.sv39_core.proofs.Prelude.{ne_eqb, None, not, Option, page_number, permits, refl, right_for, Rights, rights_of, Some, Store, sym, Table, table_of, table_word, true}
 use Rattle.std.specs.Int.{bit_at}
 use Rattle.std.specs.Int.RustNames.{bit_and}
 use Rattle.std.proofs.Math.Nat.{mod-lt, one-le-pow}
 use Rattle.std.proofs.lemmas.Nat.Bits.{and_pow}
-use Rattle.std.proofs.lemmas.Bool.{cases_lt, cases_eq, false≢true, eq-eqb, ne_eqb, le-leb, lt-ltb, le-ltb}
-use Rattle.xk_base.specs.declared.access.Rights.{Rights}
-use Rattle.xk_base.specs.declared.access.Access.{Access}
-use Rattle.xk_base.specs.declared.access.Access.TheVariants.{Fetch, Load, Store}
-use Rattle.xk_base.specs.Access.{is_perm, right_for}
-use Rattle.sv39_core.specs.declared.entry.Entry.{Entry}
-use Rattle.sv39_core.specs.declared.entry.Entry.TheVariants.{Invalid, Table, Leaf}
-use Rattle.sv39_core.specs.Sv39.{allowed, flag, given, is_in_ram, page_number, permits, rights_of, is_usable, entry_of, entry_permits, table_of, bit_if, leaf_word, table_word}
 
 -- user code may make an access by U and the access's right
 pub permits_by_right : (access : Access) (r : Rights) → (r.user && right_for access r) ≡ permits access r

@@ -1,5 +1,4 @@
-use Rattle.std.proofs.Common.{◌%◌, get_or, length, sym, ap, ◌∙◌}
-use Rattle.sv39_core.specs.Sv39.{allowed, entry_at, entry_of, table_of}
+use Rattle.sv39_core.proofs.Prelude.{◌%◌, ◌∙◌, allowed, ap, entry_at, entry_of, get_or, length, sym, table_of}
 use Rattle.sv39_core.proofs.Walks.{walked-not_canonical, walked-no_upper, walked-no_lower, walked-last}
 use Rattle.sv39_core.proofs.walking.last_entry.Goals as goal
 

@@ -1,4 +1,4 @@
-use Rattle.std.proofs.Common.{rules}
+use Rattle.sv39_core.proofs.Prelude.{rules}
 use Rattle.sv39_core.proofs.walking.split.Goals as goal
 
 pub returns : goal.returns

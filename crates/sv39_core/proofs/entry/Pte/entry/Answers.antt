@@ -1,6 +1,4 @@
-use Rattle.std.proofs.Common.{◌≡◌, ◌||◌, true, false, sym, ap, ◌∙◌}
-use Rattle.xk_base.specs.Access.{is_perm}
-use Rattle.sv39_core.specs.Sv39.{flag, is_usable, rights_of}
+use Rattle.sv39_core.proofs.Prelude.{◌||◌, ◌∙◌, ◌≡◌, ap, false, flag, is_perm, is_usable, rights_of, sym, true}
 use Rattle.sv39_core.proofs.Words.{flag-has, entry_of-unusable, entry_of-as_leaf, entry_of-as_table, usable-is_perm}
 use Rattle.sv39_core.proofs.entry.Pte.entry.Goals as goal
 

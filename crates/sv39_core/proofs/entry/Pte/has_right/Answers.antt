@@ -1,5 +1,4 @@
-use Rattle.std.proofs.Common.{◌≡◌, Bool, true, false, not, ◌&&◌, ◌||◌, refl, ◌∙◌}
-use Rattle.sv39_core.specs.Sv39.{flag}
+use Rattle.sv39_core.proofs.Prelude.{◌&&◌, ◌||◌, ◌∙◌, ◌≡◌, Bool, false, flag, not, refl, true}
 use Rattle.sv39_core.proofs.Words.{flag-has}
 use Rattle.sv39_core.proofs.entry.Pte.has_right.Goals as goal
 

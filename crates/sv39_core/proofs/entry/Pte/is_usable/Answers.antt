@@ -1,6 +1,4 @@
-use Rattle.std.proofs.Common.{◌≡◌, Bool, true, false, ◌&&◌, ◌||◌, refl, ◌∙◌}
-use Rattle.std.specs.Prelude.{not}
-use Rattle.sv39_core.specs.Sv39.{flag}
+use Rattle.sv39_core.proofs.Prelude.{◌&&◌, ◌||◌, ◌∙◌, ◌≡◌, Bool, false, flag, not, refl, true}
 use Rattle.sv39_core.proofs.Words.{flag-has}
 use Rattle.sv39_core.proofs.entry.Pte.is_usable.Goals as goal
 

@@ -1,4 +1,4 @@
-use Rattle.std.proofs.Common.{refl, ◌∙◌}
+use Rattle.sv39_core.proofs.Prelude.{◌∙◌, refl}
 use Rattle.sv39_core.proofs.Words.{flag-has}
 use Rattle.sv39_core.proofs.entry.Pte.leads_on.Goals as goal
 

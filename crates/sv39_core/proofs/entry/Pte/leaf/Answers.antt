@@ -1,5 +1,4 @@
-use Rattle.std.proofs.Common.{◌≡◌, arith}
-use Rattle.sv39_core.specs.Sv39.{leaf_word}
+use Rattle.sv39_core.proofs.Prelude.{◌≡◌, arith, leaf_word}
 use Rattle.sv39_core.proofs.entry.Pte.leaf.Goals as goal
 
 pub returns : goal.returns

@@ -1,5 +1,4 @@
-use Rattle.std.proofs.Common.{◌-◌, ◌&&◌, cond, Some, None, sym, ap, ◌∙◌}
-use Rattle.sv39_core.specs.Sv39.{is_in_ram, page_number}
+use Rattle.sv39_core.proofs.Prelude.{◌&&◌, ◌-◌, ◌∙◌, ap, cond, is_in_ram, None, page_number, Some, sym}
 use Rattle.sv39_core.proofs.Words.{table_of-entry_of}
 use Rattle.sv39_core.proofs.entry.Pte.next_table.Goals as goal
 

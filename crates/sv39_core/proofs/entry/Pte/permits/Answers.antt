@@ -1,8 +1,4 @@
-use Rattle.std.proofs.Common.{◌≡◌, Bool, true, false, not, ◌&&◌, ◌||◌, refl, ◌∙◌}
-use Rattle.xk_base.specs.declared.access.Access.{Access}
-use Rattle.xk_base.specs.declared.access.Access.TheVariants.{Fetch, Load, Store}
-use Rattle.xk_base.specs.declared.access.Rights.{Rights}
-use Rattle.sv39_core.specs.Sv39.{flag, given, permits, rights_of}
+use Rattle.sv39_core.proofs.Prelude.{◌&&◌, ◌||◌, ◌∙◌, ◌≡◌, Access, Bool, false, Fetch, flag, given, Load, not, permits, refl, Rights, rights_of, Store, true}
 use Rattle.sv39_core.proofs.Words.{flag-has}
 use Rattle.sv39_core.proofs.entry.Pte.permits.Goals as goal
 

@@ -1,5 +1,4 @@
-use Rattle.std.proofs.Common.{arith}
-use Rattle.sv39_core.specs.Sv39.{table_word}
+use Rattle.sv39_core.proofs.Prelude.{arith, table_word}
 use Rattle.sv39_core.proofs.entry.Pte.table.Goals as goal
 
 pub returns : goal.returns
