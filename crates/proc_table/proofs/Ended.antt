@@ -1,9 +1,6 @@
 -- The ended child of least pid, slot by slot.
-use Rattle.std.proofs.Common.{◌≡◌, ℕ, ◌<◌, ◌≤◌, List, Option, Some, None, arith}
-use Rattle.std.proofs.Common.{length}
+use Rattle.proc_table.proofs.Prelude.{ℕ, ◌<◌, ◌≡◌, ◌≤◌, arith, IsLeastEnded, length, List, None, Option, Process, Some}
 use Rattle.std.specs.Option.{ForSome}
-use Rattle.proc_table.specs.declared.process.Process.{Process}
-use Rattle.proc_table.specs.Reaping.{IsLeastEnded}
 
 -- the slot that was found lies within the table
 pub inside : (xs : List (Option Process)) (parent n : ℕ) (o : Option ℕ) → IsLeastEnded xs parent n o → n ≤ length xs → ForSome o (λ k. k < length xs)

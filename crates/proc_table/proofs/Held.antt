@@ -1,10 +1,6 @@
 -- Which slots are held, by what was told of them.
-use Rattle.std.proofs.Common.{◌≡◌, ℕ, true, Option, Some, None, get_or, refl, sym, subst}
-use Rattle.std.specs.Prelude.{IsSome}
+use Rattle.proc_table.proofs.Prelude.{ℕ, ◌≡◌, false≢true, get_or, IsHeld, IsSome, None, Option, place_at, place_has_pid, Process, refl, slot_of, Slots, Some, subst, sym, true}
 use Rattle.std.proofs.lemmas.List.Quantifiers.{position-Some}
-use Rattle.std.proofs.lemmas.Bool.{false≢true}
-use Rattle.proc_table.specs.declared.process.Process.{Process}
-use Rattle.proc_table.specs.Slots.{Slots, IsHeld, slot_of, place_at, place_has_pid}
 
 -- only a process has a pid
 has_one : (pid : ℕ) (place : Option Process) → place_has_pid pid place ≡ true → IsSome place

@@ -1,13 +1,6 @@
 -- Pids through the changes of a table.
-use Rattle.std.proofs.Common.{◌≡◌, ℕ, ◌+◌, ◌<◌, ◌≤◌, List, length, set, map, get_or, Option, Some, None, inl, inr, refl, sym, ap, ◌∙◌, arith}
-use Rattle.std.specs.Prelude.{option_map}
-use Rattle.std.proofs.lemmas.Bool.{cases_lt, cases_eq}
-use Rattle.std.proofs.lemmas.List.{get_or-set_same, get_or-set_other, get_or_past, get_or-map, length-map, set_past}
-use Rattle.proc_table.specs.declared.process.Process.{Process}
-use Rattle.proc_table.specs.Slots.{Slots, ArePids, IsTable}
-use Rattle.std.proofs.Common.{length-set}
-use Rattle.std.specs.Prelude.{◌^◌}
-use Rattle.std.proofs.lemmas.List.{get_or_read}
+use Rattle.proc_table.proofs.Prelude.{ℕ, ◌+◌, ◌<◌, ◌^◌, ◌∙◌, ◌≡◌, ◌≤◌, ap, ArePids, arith, cases_eq, cases_lt, get_or, get_or-map, get_or-set_other, get_or-set_same, get_or_past, get_or_read, inl}
+use Rattle.proc_table.proofs.Prelude.{inr, IsTable, length, length-map, length-set, List, map, None, Option, option_map, Process, refl, set, set_past, Slots, Some, sym}
 
 -- nothing is no process
 pub none_is : (p : Process) (X : Type 0) → None ≡ Some p → X

@@ -1,10 +1,6 @@
 -- From which slot on no slot is held, through the changes of a table.
-use Rattle.std.proofs.Common.{◌≡◌, ℕ, zero, suc, ◌<◌, ◌≤◌, List, [], ◌∷◌, ◌++◌, length, set, map, take, drop, get_or, Option, Some, None, inl, inr, refl, sym, ap, ◌∙◌, arith}
-use Rattle.std.specs.Prelude.{option_map}
-use Rattle.std.proofs.lemmas.Bool.{cases_lt}
-use Rattle.std.proofs.lemmas.List.{get_or-set_other, get_or_read, get_or_past, get_or-map, length-map, take_all, drop_all, append-nil}
-use Rattle.proc_table.specs.declared.process.Process.{Process}
-use Rattle.proc_table.specs.Slots.{HoldsNoneFrom}
+use Rattle.proc_table.proofs.Prelude.{[], ℕ, ◌++◌, ◌<◌, ◌∙◌, ◌∷◌, ◌≡◌, ◌≤◌, ap, append-nil, arith, cases_lt, drop, drop_all, get_or, get_or-map, get_or-set_other, get_or_past, get_or_read}
+use Rattle.proc_table.proofs.Prelude.{HoldsNoneFrom, inl, inr, length, length-map, List, map, None, Option, option_map, Process, refl, set, Some, suc, sym, take, take_all, zero}
 use Rattle.proc_table.proofs.Pids.{none_is}
 
 -- a process comes into a slot below the bound

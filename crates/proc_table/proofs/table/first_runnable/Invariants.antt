@@ -1,5 +1,4 @@
-use Rattle.std.proofs.Common.{◌≡◌, ℕ, ◌<◌, ◌≤◌, false, get_or, None}
-use Rattle.proc_table.specs.Turns.{place_is_runnable}
+use Rattle.proc_table.proofs.Prelude.{ℕ, ◌<◌, ◌≡◌, ◌≤◌, false, get_or, None, place_is_runnable}
 use Rattle.proc_table.proofs.table.first_runnable.Given as goal
 
 abbrev pub invariant-loop-slot : goal.invariant-loop-slot

@@ -1,9 +1,8 @@
-use Rattle.std.proofs.Common.{◌<◌, length, arith, ◌∙◌}
-use Rattle.proc_table.specs.Processes.{given}
+use Rattle.proc_table.proofs.Prelude.{◌<◌, ◌∙◌, arith, given, length}
 use Rattle.proc_table.proofs.Changes.{changed_more, empty_more}
 use Rattle.proc_table.proofs.Tops.{all_changed}
-use Rattle.proc_table.proofs.table.give_places.Goals as goal
 use Rattle.proc_table.proofs.table.give_places.Goals.{in-Some, in_default}
+use Rattle.proc_table.proofs.table.give_places.Goals as goal
 
 pub loop-slot-preserved : goal.loop-slot-preserved
 loop-slot-preserved c =

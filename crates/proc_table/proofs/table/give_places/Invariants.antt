@@ -1,6 +1,4 @@
-use Rattle.std.proofs.Common.{◌≡◌, ◌++◌, map, take, drop}
-use Rattle.std.specs.Prelude.{option_map}
-use Rattle.proc_table.specs.Processes.{given}
+use Rattle.proc_table.proofs.Prelude.{◌++◌, ◌≡◌, drop, given, map, option_map, take}
 use Rattle.proc_table.proofs.table.give_places.Given as goal
 
 abbrev pub invariant-loop-slot : goal.invariant-loop-slot

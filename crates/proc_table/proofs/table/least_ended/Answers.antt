@@ -1,4 +1,4 @@
-use Rattle.std.proofs.Common.{arith}
+use Rattle.proc_table.proofs.Prelude.{arith}
 use Rattle.proc_table.proofs.Ended.{inside}
 use Rattle.proc_table.proofs.table.least_ended.Goals as goal
 

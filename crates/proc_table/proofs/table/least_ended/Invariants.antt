@@ -1,4 +1,4 @@
-use Rattle.proc_table.specs.Reaping.{IsLeastEnded}
+use Rattle.proc_table.proofs.Prelude.{IsLeastEnded}
 use Rattle.proc_table.proofs.table.least_ended.Given as goal
 
 abbrev pub invariant-loop-slot : goal.invariant-loop-slot

@@ -1,4 +1,4 @@
-use Rattle.proc_table.specs.Slots.{HoldsNoneFrom}
+use Rattle.proc_table.proofs.Prelude.{HoldsNoneFrom}
 use Rattle.proc_table.proofs.table.top_of.Given as goal
 
 abbrev pub invariant-slots : goal.invariant-slots

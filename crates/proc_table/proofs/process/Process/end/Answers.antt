@@ -1,4 +1,4 @@
-use Rattle.std.proofs.Common.{rules}
+use Rattle.proc_table.proofs.Prelude.{rules}
 use Rattle.proc_table.proofs.process.Process.end.Goals as goal
 
 pub returns : goal.returns

@@ -1,6 +1,4 @@
-use Rattle.std.proofs.Common.{arith, refl}
-use Rattle.std.specs.Prelude.{option_map}
-use Rattle.proc_table.specs.Processes.{given}
+use Rattle.proc_table.proofs.Prelude.{arith, given, option_map, refl}
 use Rattle.proc_table.proofs.Pids.{table_each}
 use Rattle.proc_table.proofs.Tops.{top_each, written_back}
 use Rattle.proc_table.proofs.table.Table.adopt.Goals as goal

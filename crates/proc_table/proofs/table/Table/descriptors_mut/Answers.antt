@@ -1,5 +1,4 @@
-use Rattle.std.proofs.Common.{arith}
-use Rattle.std.proofs.lemmas.Grind.{common_steps}
+use Rattle.proc_table.proofs.Prelude.{arith, common_steps}
 use Rattle.proc_table.proofs.table.Table.descriptors_mut.Goals as goal
 
 pub returns : goal.returns

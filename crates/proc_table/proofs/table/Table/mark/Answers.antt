@@ -1,6 +1,4 @@
-use Rattle.std.proofs.Common.{get_or, ap, sym, ◌∙◌, rules}
-use Rattle.proc_table.specs.declared.process.Process.{Process}
-use Rattle.proc_table.specs.Slots.{Slots}
+use Rattle.proc_table.proofs.Prelude.{◌∙◌, ap, get_or, Process, rules, Slots, sym}
 use Rattle.proc_table.proofs.Held.{found_is_some}
 use Rattle.proc_table.proofs.Pids.{table_at}
 use Rattle.proc_table.proofs.Tops.{top_at}

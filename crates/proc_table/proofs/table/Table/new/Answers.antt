@@ -1,4 +1,4 @@
-use Rattle.std.proofs.Common.{rules}
+use Rattle.proc_table.proofs.Prelude.{rules}
 use Rattle.proc_table.proofs.table.Table.new.Goals as goal
 
 pub returns-clause-made : goal.returns-clause-made

@@ -1,4 +1,4 @@
-use Rattle.std.proofs.Common.{◌≡◌, replicate, None}
+use Rattle.proc_table.proofs.Prelude.{◌≡◌, None, replicate}
 use Rattle.file_table.specs.Named.{none_named}
 use Rattle.proc_table.proofs.table.Table.new.Given as goal
 

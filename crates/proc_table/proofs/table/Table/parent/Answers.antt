@@ -1,4 +1,4 @@
-use Rattle.std.proofs.Common.{rules}
+use Rattle.proc_table.proofs.Prelude.{rules}
 use Rattle.proc_table.proofs.table.Table.parent.Goals as goal
 
 pub returns : goal.returns

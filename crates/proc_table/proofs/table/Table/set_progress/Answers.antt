@@ -1,8 +1,6 @@
-use Rattle.std.proofs.Common.{ap, arith}
-use Rattle.proc_table.specs.declared.process.Process.{Process}
+use Rattle.proc_table.proofs.Prelude.{ap, arith, common_steps, Process}
 use Rattle.proc_table.proofs.Pids.{table_at}
 use Rattle.proc_table.proofs.Tops.{top_at}
-use Rattle.std.proofs.lemmas.Grind.{common_steps}
 use Rattle.proc_table.proofs.table.Table.set_progress.Goals as goal
 
 pub invariant_of-self : goal.invariant_of-self

@@ -1,5 +1,4 @@
-use Rattle.std.proofs.Common.{ap}
-use Rattle.proc_table.specs.declared.process.Process.{Process}
+use Rattle.proc_table.proofs.Prelude.{ap, Process}
 use Rattle.proc_table.proofs.Pids.{table_at}
 use Rattle.proc_table.proofs.Tops.{top_at}
 use Rattle.proc_table.proofs.table.Table.sleep.Goals as goal

@@ -1,4 +1,4 @@
-use Rattle.std.proofs.Common.{arith, rules}
+use Rattle.proc_table.proofs.Prelude.{arith, rules}
 use Rattle.proc_table.proofs.Pids.{table_new}
 use Rattle.proc_table.proofs.Tops.{top_new}
 use Rattle.proc_table.proofs.table.Table.spawn.Goals as goal

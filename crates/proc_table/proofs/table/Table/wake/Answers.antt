@@ -1,6 +1,4 @@
-use Rattle.std.proofs.Common.{arith, refl}
-use Rattle.std.specs.Prelude.{option_map}
-use Rattle.proc_table.specs.Processes.{woken}
+use Rattle.proc_table.proofs.Prelude.{arith, option_map, refl, woken}
 use Rattle.proc_table.proofs.Pids.{table_each}
 use Rattle.proc_table.proofs.Tops.{top_each, written_back}
 use Rattle.proc_table.proofs.table.Table.wake.Goals as goal
