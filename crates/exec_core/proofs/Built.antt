@@ -1,26 +1,11 @@
 -- The image that is built step by step is the one that the file and the texts give.
-use Rattle.std.proofs.Common.{◌≡◌, ℕ, suc, ◌+◌, ◌*◌, ◌^◌, ◌<◌, ◌≤◌, cond, ltb, eqb, List, [], ◌∷◌, ◌++◌, length, drop, Option, Some, None, inl, inr, refl, sym, ap, ◌∙◌, arith}
-use Rattle.std.proofs.lemmas.List.{length-take, length-append}
-use Rattle.std.specs.Option.{option_map}
-use Rattle.std.specs.List.{flat_map}
-use Rattle.std.proofs.lemmas.Bool.{cases_lt, cases_eq, eq-eqb, ne_eqb}
-use Rattle.std.specs.FinMap.{get}
-use Rattle.xk_base.specs.declared.access.Rights.{Rights}
-use Rattle.xk_base.specs.declared.program.Segment.{Segment}
-use Rattle.xk_base.specs.Gathered.{gathered}
-use Rattle.xk_base.specs.Words.{le_bytes}
-use Rattle.xk_base.proofs.Words.{length-le_bytes}
-use Rattle.xk_base.specs.ProgramFile.{page_up, Fit}
-use Rattle.xk_base.specs.Image.{Image, page_count, no_pages, price}
-use Rattle.xk_base.specs.Bytes.{HasPage, write_image}
-use Rattle.xk_base.specs.Loaded.{over, zeros, page_by, image_by, end_after, perm_at, file_bytes, segments_over, down}
-use Rattle.xk_base.specs.Loaded.{text_places, lowest, stack_pointer, pointers, texts_over, stack_over, guard, page_perm, program_image}
-use Rattle.addr_space.specs.Changes.{grown}
-use Rattle.exec_core.specs.Building.{with_segment, with_segments, protected_in, with_stack, with_texts, price_first}
+use Rattle.exec_core.proofs.Prelude.{[], ℕ, ◌*◌, ◌++◌, ◌+◌, ◌<◌, ◌^◌, ◌∙◌, ◌∷◌, ◌≡◌, ◌≤◌, ap, arith, cases_eq, cases_lt, cond, data_rights, down, drop, end_after, eq-eqb, eqb, file_bytes, Fit}
+use Rattle.exec_core.proofs.Prelude.{flat_map, gathered, get, grown, guard, HasPage, Image, image_by, inl, inr, le_bytes, length, length-append, length-le_bytes, length-take, List, lowest, lowest-le}
+use Rattle.exec_core.proofs.Prelude.{ltb, ne_eqb, no_pages, None, Option, option_map, over, page_by, page_count, page_perm, page_up, perm_at, pointers, price, price_first, program_image, protected_in}
+use Rattle.exec_core.proofs.Prelude.{refl, Rights, Segment, segments_over, Some, stack_over, stack_pointer, suc, sym, text_places, texts_over, with_segment, with_segments, with_stack, with_texts}
+use Rattle.exec_core.proofs.Prelude.{write_image, zeros}
 use Rattle.exec_core.proofs.Images.{cond-lt, cond-ge, get-image_by, image-same, perm_grown, grown-by, without_user, perm_protected, protected-by, over-above, written-by}
 use Rattle.exec_core.proofs.Prices.{price-by}
-use Rattle.xk_base.specs.Access.{data_rights}
-use Rattle.xk_base.proofs.Laid.{lowest-le}
 
 -- the image with the first stack
 abbrev pub with_first_stack : Image → ℕ → List (List ℕ) → Image

@@ -1,23 +1,10 @@
 -- Images that are said by rights of pages and bytes at addresses, through growth, writes and the guard page.
-use Rattle.std.proofs.Common.{◌≡◌, ◌≢◌, ℕ, zero, suc, ◌+◌, ◌-◌, ◌*◌, ◌/◌, ◌%◌, ◌<◌, ◌≤◌, Bool, true, false, cond, ltb, leb, eqb}
-use Rattle.std.proofs.Common.{◌&&◌, List, [], ◌∷◌, length, map, replicate, set, get_or, Option, Some, None, inl, inr, refl, sym, ap, ◌∙◌, arith}
-use Rattle.std.specs.Option.{option_map}
-use Rattle.std.specs.List.{range_with_len}
-use Rattle.std.proofs.lemmas.Bool.{cases_lt, cases_eq, eq-eqb, le-ltb, lt-ltb, ne_eqb}
-use Rattle.std.specs.Ordering.{nat_cmp}
-use Rattle.std.specs.FinMap.{FinMap, get, same_map, nat_cmp-IsAntisymmetric}
-use Rattle.std.specs.Cmp.{nat_cmp_total}
-use Rattle.xk_base.specs.declared.access.Rights.{Rights}
-use Rattle.xk_base.specs.Image.{Page, Image, with_page, page_count}
-use Rattle.xk_base.specs.Bytes.{put_in, put_byte, write_image}
-use Rattle.xk_base.specs.Loaded.{over, addresses, page_by, image_by}
+use Rattle.exec_core.proofs.Prelude.{[], ℕ, ◌%◌, ◌&&◌, ◌*◌, ◌+◌, ◌-◌, ◌/◌, ◌<◌, ◌∙◌, ◌∷◌, ◌≡◌, ◌≢◌, ◌≤◌, absent-new, absent-out, addresses, ap, arith, Bool, cases_eq, cases_lt, cond, eq-eqb, eqb}
+use Rattle.exec_core.proofs.Prelude.{false, FinMap, gathered-get, get, get_or, grown, Image, image_by, inl, inr, le-ltb, leb, length, List, lt-ltb, ltb, map, nat_cmp, nat_cmp-IsAntisymmetric}
+use Rattle.exec_core.proofs.Prelude.{nat_cmp_total, ne_eqb, None, Option, option_map, over, over-below, over-in, Page, page_by, page_count, protected_in, put_byte, put_in, range_with_len, refl}
+use Rattle.exec_core.proofs.Prelude.{replicate, Rights, same_map, set, Some, suc, sym, true, with_absent, with_page, write_image, zero, zeroed}
 use Rattle.phys_ram.specs.Ram.{zero_frame}
-use Rattle.xk_base.proofs.Gathered.{gathered-get}
-use Rattle.xk_base.proofs.Laid.{over-in, over-below}
 use Rattle.xk_base.proofs.Maps.{get_other, get_here}
-use Rattle.addr_space.specs.Changes.{zeroed, with_absent, grown}
-use Rattle.addr_space.proofs.Growing.{absent-out, absent-new}
-use Rattle.exec_core.specs.Building.{protected_in}
 
 pub cond-lt : {X : Type 0} (a b : ℕ) (x y : X) → a < b → cond (ltb a b) x y ≡ x
 cond-lt a b x y lt = ap (λ t. cond t x y) (lt-ltb a b lt)

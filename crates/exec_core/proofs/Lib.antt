@@ -1,3 +1,4 @@
+mod Prelude
 pub mod Built
 pub mod Images
 pub mod Planned

@@ -1,13 +1,9 @@
 -- A plan is the loaded program.
-use Rattle.std.proofs.Common.{◌≡◌, ℕ, ◌+◌, ◌*◌, ◌/◌, ◌<◌, ◌≤◌, cond, List, [], ◌∷◌, length, Result, Ok, Err, sym, ap, ◌∙◌, arith}
-use Rattle.std.proofs.lemmas.Bool.{lt-ltb, le-ltb}
+use Rattle.exec_core.proofs.Prelude.{[], ℕ, ◌*◌, ◌+◌, ◌/◌, ◌<◌, ◌>>=◌, ◌∙◌, ◌∷◌, ◌≡◌, ◌≤◌, aligned, ap, ArgsTooLong, arith, cond, end_after, Err, Fit, header_of, le-ltb, length, List, loaded, lt-ltb}
+use Rattle.exec_core.proofs.Prelude.{Ok, page_up, program_image, Result, Segment, segments_of, stack_pointer, sym, Within}
 use Rattle.xk_base.specs.declared.errors.ExecError.{ExecError}
-use Rattle.xk_base.specs.declared.errors.ExecError.TheVariants.{ArgsTooLong}
 use Rattle.xk_base.specs.declared.program.Header.{Header}
-use Rattle.xk_base.specs.declared.program.Segment.{Segment}
-use Rattle.xk_base.specs.ProgramFile.{page_up, header_of, segments_of, Fit}
-use Rattle.xk_base.specs.Loaded.{end_after, stack_pointer, program_image, aligned, with_texts, loaded, ◌>>=◌}
-use Rattle.exec_core.specs.Plans.{Within}
+use Rattle.xk_base.specs.Loaded.{with_texts}
 
 loaded-at : (file : List ℕ) (texts : List (List ℕ)) (header : Header) (segments : List Segment) → header_of file ≡ Ok header
     → segments_of file header ≡ Ok segments → loaded file texts ≡ with_texts file header texts segments

@@ -1,17 +1,7 @@
 -- The price of an image whose pages are the first ones.
-use Rattle.std.proofs.Common.{◌≡◌, ℕ, zero, suc, ◌+◌, ◌*◌, ◌/◌, ◌^◌, ◌<◌, ◌≤◌, Bool, true, false, cond, ◌||◌, Option, Some, None, is_some, inl, inr, refl, ap, ◌∙◌, arith}
-use Rattle.std.specs.Option.{option_map}
-use Rattle.std.proofs.lemmas.Bool.{cases_lt, or_right}
-use Rattle.std.specs.Ordering.{nat_cmp}
-use Rattle.std.specs.Cmp.{nat_cmp_total}
-use Rattle.std.specs.FinMap.{FinMap, get, len, len-empty, len-insert}
-use Rattle.xk_base.specs.declared.access.Rights.{Rights}
-use Rattle.xk_base.specs.Words.{count_below}
-use Rattle.xk_base.specs.Gathered.{gathered, insert_some}
-use Rattle.xk_base.specs.Image.{Page, some_below, groups, price, page_count}
-use Rattle.xk_base.specs.Loaded.{page_by, image_by}
-use Rattle.xk_base.proofs.Gathered.{gathered-get}
-use Rattle.exec_core.specs.Building.{price_first}
+use Rattle.exec_core.proofs.Prelude.{ℕ, ◌*◌, ◌+◌, ◌/◌, ◌<◌, ◌^◌, ◌||◌, ◌∙◌, ◌≡◌, ◌≤◌, ap, arith, Bool, cases_lt, cond, count_below, false, FinMap, gathered, gathered-get, get, groups, image_by, inl}
+use Rattle.exec_core.proofs.Prelude.{inr, insert_some, is_some, len, len-empty, len-insert, nat_cmp, nat_cmp_total, None, Option, option_map, or_right, Page, page_by, page_count, price, price_first}
+use Rattle.exec_core.proofs.Prelude.{refl, Rights, Some, some_below, suc, true, zero}
 use Rattle.exec_core.proofs.Images.{cond-lt, cond-ge, get-image_by}
 
 -- the pages below m are there, and no others

@@ -1,30 +1,13 @@
 -- The loops and steps of building: what each turn keeps.
-use Rattle.std.proofs.Common.{◌≡◌, ℕ, ◌+◌, ◌-◌, ◌*◌, ◌/◌, ◌<◌, ◌≤◌, true, List, [], ◌∷◌, ◌++◌, length, take, drop, get_or, Option, Some, None, is_some, refl, sym, ap, ◌∙◌, subst, arith}
-use Rattle.std.proofs.lemmas.List.{length-take, length-take-le, length-drop, drop_more, drop-drop, take_more}
-use Rattle.std.specs.FinMap.{get}
-use Rattle.xk_base.specs.declared.access.Rights.{Rights}
-use Rattle.xk_base.specs.declared.program.Segment.{Segment}
-use Rattle.xk_base.specs.Words.{le_bytes}
-use Rattle.xk_base.proofs.Words.{length-le_bytes}
-use Rattle.xk_base.specs.ProgramFile.{Fit}
-use Rattle.xk_base.specs.Image.{Page, Image, with_page, page_count, no_pages, price}
-use Rattle.xk_base.specs.Bytes.{HasPage, IsMapped, write_image}
+use Rattle.exec_core.proofs.Prelude.{[], ℕ, ◌*◌, ◌++◌, ◌+◌, ◌-◌, ◌/◌, ◌<◌, ◌∙◌, ◌∷◌, ◌≡◌, ◌≤◌, absent-in, ap, arith, Belongs, belongs-after, Changed, changed-join, changed-none, data_rights, down}
+use Rattle.exec_core.proofs.Prelude.{drop, drop-drop, drop_more, end_after, file_bytes, Fit, free-after, free_in, get, get_or, grown, HasPage, Image, image_of, is_some, IsMapped, IsSpace, IsSplit}
+use Rattle.exec_core.proofs.Prelude.{le_bytes, length, length-drop, length-le_bytes, length-take, length-take-le, List, lowest_by, no_pages, None, Option, over, Page, page_count, pointers_by, Pool}
+use Rattle.exec_core.proofs.Prelude.{price, price_first, protected, protected_in, refl, Rights, Segment, Some, Space, subst, sym, take, take_more, texts_of, true, with_page, with_segment}
+use Rattle.exec_core.proofs.Prelude.{with_segments, with_stack, with_texts, write_image, zeros}
 use Rattle.xk_base.proofs.Bytes.{write_image-append, has-write_image}
-use Rattle.xk_base.specs.Loaded.{over, zeros, end_after, file_bytes, down}
-use Rattle.frame_list.specs.declared.Pool.{Pool}
-use Rattle.frame_list.specs.Pool.{free_in}
-use Rattle.addr_space.specs.declared.Space.{Space}
-use Rattle.addr_space.specs.Changes.{grown, protected}
-use Rattle.addr_space.specs.Space.{image_of, Belongs, Changed, IsSpace}
-use Rattle.addr_space.proofs.Growing.{absent-in}
-use Rattle.addr_space.proofs.Freeing.{changed-join, changed-none}
-use Rattle.addr_space.proofs.Trades.{free-after, belongs-after}
-use Rattle.exec_core.specs.ArgTexts.{texts_of, IsSplit, pointers_by, lowest_by}
-use Rattle.exec_core.specs.Building.{with_segment, with_segments, protected_in, with_stack, with_texts, price_first}
 use Rattle.exec_core.proofs.Images.{perm_grown}
 use Rattle.exec_core.proofs.Built.{Laid, laid-none, laid-grown, laid-segment, laid-price, laid-has, fit-end, no-image}
 use Rattle.exec_core.proofs.Texts.{lowest_by-le, next-place}
-use Rattle.xk_base.specs.Access.{data_rights}
 
 -- ---- the segments
 

@@ -1,13 +1,7 @@
 -- Texts that are kept as lengths and bytes.
-use Rattle.std.proofs.Common.{◌≡◌, ℕ, suc, ◌+◌, ◌*◌, ◌<◌, ◌≤◌, cond, ltb, List, [], ◌∷◌, ◌++◌, length, take, drop, get_or, Ok, Err, refl, sym, ap, ◌∙◌, arith}
-use Rattle.std.proofs.lemmas.Bool.{eq-eqb, ne_eqb, lt-ltb, le-ltb}
-use Rattle.std.proofs.lemmas.List.{length-append, length-take-le, length-drop, take-append-le, drop-append-le, get_or_append_left, drop_all, at_drop_more}
-use Rattle.std.specs.List.{flat_map}
-use Rattle.xk_base.specs.Words.{le_bytes}
-use Rattle.xk_base.specs.declared.limits.TheConstants.{MAXARG, ARG_BYTES}
-use Rattle.xk_base.specs.declared.errors.ExecError.TheVariants.{TooManyArgs, ArgsTooLong}
-use Rattle.xk_base.specs.Loaded.{down, text_places, lowest, stack_pointer, pointers}
-use Rattle.exec_core.specs.ArgTexts.{terminated, push_refusal, texts_of, IsSplit, lowest_by, places_by, pointers_by}
+use Rattle.exec_core.proofs.Prelude.{[], ℕ, ◌*◌, ◌++◌, ◌+◌, ◌<◌, ◌∙◌, ◌∷◌, ◌≡◌, ◌≤◌, ap, ARG_BYTES, ArgsTooLong, arith, at_drop_more, cond, down, drop, drop-append-le, drop_all, eq-eqb, Err, flat_map}
+use Rattle.exec_core.proofs.Prelude.{get_or, get_or_append_left, IsSplit, le-ltb, le_bytes, length, length-append, length-drop, length-take-le, List, lowest, lowest_by, lt-ltb, ltb, MAXARG, ne_eqb}
+use Rattle.exec_core.proofs.Prelude.{Ok, places_by, pointers, pointers_by, push_refusal, refl, stack_pointer, suc, sym, take, take-append-le, terminated, text_places, texts_of, TooManyArgs}
 
 pub length-texts_of : (ns bytes : List ℕ) → length (texts_of ns bytes) ≡ length ns
 length-texts_of [] bytes = refl

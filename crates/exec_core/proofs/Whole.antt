@@ -1,26 +1,12 @@
 -- All steps of building together.
-use Rattle.std.proofs.Common.{◌≡◌, ℕ, ◌+◌, ◌*◌, ◌^◌, ◌<◌, ◌≤◌, List, [], length, None, sym, ap, ◌∙◌, subst, arith}
-use Rattle.xk_base.specs.declared.limits.TheConstants.{SIZE_LIMIT}
-use Rattle.xk_base.specs.declared.program.Segment.{Segment}
-use Rattle.xk_base.specs.ProgramFile.{Fit}
-use Rattle.xk_base.specs.Image.{Image, page_count, no_pages, price}
-use Rattle.xk_base.specs.Bytes.{HasPage, write_image}
-use Rattle.xk_base.specs.Loaded.{zeros, end_after, stack_pointer, lowest, text_places, pointers, program_image, Loaded, segments_over, page_perm, texts_over}
-use Rattle.frame_list.specs.declared.Pool.{Pool}
-use Rattle.frame_list.specs.Pool.{free_in, Good}
+use Rattle.exec_core.proofs.Prelude.{[], ℕ, ◌*◌, ◌+◌, ◌<◌, ◌^◌, ◌∙◌, ◌≡◌, ◌≤◌, ap, arith, Changed, data_rights, end_after, Fit, frames_of, free_in, Good, grown, HasPage, Image, image_of, IsPlan}
+use Rattle.exec_core.proofs.Prelude.{IsSplit, length, List, Loaded, lowest, lowest-le, Made, no_pages, None, page_count, page_perm, pointers, pointers_by, Pool, price, price_first, program_image}
+use Rattle.exec_core.proofs.Prelude.{Segment, segments_over, SIZE_LIMIT, Space, space-price, SparesOthers, stack_pointer, subst, sym, text_places, texts_of, texts_over, with_segments, with_stack}
+use Rattle.exec_core.proofs.Prelude.{with_texts, write_image, zeros}
 use Rattle.frame_list.proofs.Trades.{trade-join, trade-lengths, free-few}
-use Rattle.addr_space.specs.declared.Space.{Space}
-use Rattle.addr_space.specs.Changes.{grown}
-use Rattle.addr_space.specs.Space.{image_of, frames_of, Changed, Made, SparesOthers}
 use Rattle.addr_space.proofs.Isolation.{spared}
-use Rattle.addr_space.proofs.Trades.{space-price}
-use Rattle.exec_core.specs.ArgTexts.{texts_of, IsSplit, pointers_by}
-use Rattle.exec_core.specs.Building.{with_segments, with_stack, with_texts, price_first}
-use Rattle.exec_core.specs.Plans.{IsPlan}
 use Rattle.exec_core.proofs.Built.{laid-none, no-image, laid-grown, laid-price, laid-has, laid-texts, all-segments, all-stacked, built-is, built-price}
 use Rattle.exec_core.proofs.Texts.{pointers-is}
-use Rattle.xk_base.specs.Access.{data_rights}
-use Rattle.xk_base.proofs.Laid.{lowest-le}
 
 -- the stack pointer lies in the stack page
 pub plan-some : (file : List ℕ) (segments : List Segment) (guard : ℕ) (texts : List (List ℕ)) (sp : ℕ) → IsPlan file segments guard texts sp → 0 < stack_pointer (4096 * (guard + 2)) texts

@@ -1,12 +1,8 @@
-use Rattle.std.proofs.Common.{◌≡◌, ◌+◌, ◌*◌, ◌≤◌, length, refl, sym, ap, ◌∙◌, subst, arith, rules}
-use Rattle.xk_base.specs.Image.{price}
-use Rattle.xk_base.specs.Loaded.{lowest, text_places}
-use Rattle.addr_space.specs.Space.{image_of}
-use Rattle.addr_space.proofs.Trades.{free-after, belongs-after, belongs-made}
-use Rattle.exec_core.specs.Building.{price_first, with_stack, with_texts}
+use Rattle.exec_core.proofs.Prelude.{◌*◌, ◌+◌, ◌∙◌, ◌≡◌, ◌≤◌, ap, arith, belongs-after, belongs-made, free-after, image_of, length, lowest, price, price_first, refl, rules, subst, sym, text_places}
+use Rattle.exec_core.proofs.Prelude.{with_stack, with_texts}
 use Rattle.exec_core.proofs.Texts.{length-texts_of}
-use Rattle.exec_core.proofs.Whole.{loaded_image, plan-some, plan-price, made-free, made-then, made-spares, empty-price, room-limit}
-use Rattle.exec_core.proofs.Whole.{mapped-size, mapped-price, stacked-has, texts-have, room-lowest, room-pointers, whole-image}
+use Rattle.exec_core.proofs.Whole.{loaded_image, plan-some, plan-price, made-free, made-then, made-spares, empty-price, room-limit, mapped-size, mapped-price, stacked-has, texts-have, room-lowest}
+use Rattle.exec_core.proofs.Whole.{room-pointers, whole-image}
 use Rattle.exec_core.proofs.building.build.Goals as goal
 
 pub returns-then-from-price-clause-refused : goal.returns-then-from-price-clause-refused

@@ -1,5 +1,4 @@
-use Rattle.std.proofs.Common.{rules, ◌∙◌}
-use Rattle.xk_base.proofs.Words.{bytes_low_first-le}
+use Rattle.exec_core.proofs.Prelude.{◌∙◌, bytes_low_first-le, rules}
 use Rattle.exec_core.proofs.Steps.{pointing-turn}
 use Rattle.exec_core.proofs.building.lay_pointers.Goals as goal
 

@@ -1,7 +1,4 @@
-use Rattle.std.proofs.Common.{rules, ◌+◌, ◌-◌, ◌*◌, ◌<◌, ◌≤◌, length, drop, get_or, subst, arith}
-use Rattle.std.proofs.lemmas.List.{length-take}
-use Rattle.addr_space.specs.Space.{image_of}
-use Rattle.exec_core.specs.ArgTexts.{lowest_by}
+use Rattle.exec_core.proofs.Prelude.{◌*◌, ◌+◌, ◌-◌, ◌<◌, ◌≤◌, arith, drop, get_or, image_of, length, length-take, lowest_by, rules, subst}
 use Rattle.exec_core.proofs.Texts.{lowest-split}
 use Rattle.exec_core.proofs.Steps.{page-mapped, laying-text, laying-turn}
 use Rattle.exec_core.proofs.building.lay_texts.Goals as goal

@@ -1,4 +1,4 @@
-use Rattle.std.proofs.Common.{sym, subst}
+use Rattle.exec_core.proofs.Prelude.{subst, sym}
 use Rattle.exec_core.proofs.Steps.{Mapping, mapping-start, mapping-room, mapping-mapped, mapping-next}
 use Rattle.exec_core.proofs.building.map_segments.Goals as goal
 

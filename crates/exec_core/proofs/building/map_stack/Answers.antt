@@ -1,14 +1,6 @@
-use Rattle.std.proofs.Common.{◌≡◌, ◌+◌, ◌*◌, Some, sym, ap, ◌∙◌, subst, arith}
-use Rattle.std.specs.FinMap.{get}
-use Rattle.xk_base.specs.Image.{with_page}
-use Rattle.xk_base.specs.Bytes.{HasPage}
-use Rattle.addr_space.specs.Space.{image_of}
-use Rattle.addr_space.specs.Changes.{protected, grown}
-use Rattle.addr_space.proofs.Freeing.{changed-join}
-use Rattle.addr_space.proofs.Trades.{belongs-after}
+use Rattle.exec_core.proofs.Prelude.{◌*◌, ◌+◌, ◌∙◌, ◌≡◌, ap, arith, belongs-after, changed-join, data_rights, get, grown, HasPage, image_of, protected, Some, subst, sym, with_page}
 use Rattle.exec_core.proofs.Steps.{grown-has, stack-is}
 use Rattle.exec_core.proofs.building.map_stack.Goals as goal
-use Rattle.xk_base.specs.Access.{data_rights}
 
 pub protect-requires-clause-there : goal.protect-requires-clause-there
 protect-requires-clause-there c =

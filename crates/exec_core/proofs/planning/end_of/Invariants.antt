@@ -1,7 +1,4 @@
-use Rattle.std.proofs.Common.{◌≡◌, ◌≤◌}
-use Rattle.xk_base.specs.declared.limits.TheConstants.{SIZE_LIMIT}
-use Rattle.xk_base.specs.Loaded.{end_after}
-use Rattle.exec_core.specs.Plans.{Within}
+use Rattle.exec_core.proofs.Prelude.{◌≡◌, ◌≤◌, end_after, SIZE_LIMIT, Within}
 use Rattle.exec_core.proofs.planning.end_of.Given as goal
 
 abbrev pub invariant-loop-segment : goal.invariant-loop-segment

@@ -1,6 +1,4 @@
-use Rattle.std.proofs.Common.{◌≡◌, ◌+◌, ◌*◌, ◌/◌, length, Ok, sym, ap, ◌∙◌, arith}
-use Rattle.xk_base.specs.ProgramFile.{segments_of}
-use Rattle.xk_base.specs.Loaded.{end_after, stack_pointer}
+use Rattle.exec_core.proofs.Prelude.{◌*◌, ◌+◌, ◌/◌, ◌∙◌, ◌≡◌, ap, arith, end_after, length, Ok, segments_of, stack_pointer, sym}
 use Rattle.exec_core.proofs.Planned.{plan-loaded, refused-loaded, same-segments, fit-within}
 use Rattle.exec_core.proofs.Texts.{length-texts_of, pointer-is}
 use Rattle.exec_core.proofs.planning.plan.Goals as goal

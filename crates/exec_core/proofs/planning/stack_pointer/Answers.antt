@@ -1,5 +1,4 @@
-use Rattle.std.proofs.Common.{◌+◌, ◌*◌, length, ap, ◌∙◌, arith}
-use Rattle.xk_base.specs.Loaded.{down}
+use Rattle.exec_core.proofs.Prelude.{◌*◌, ◌+◌, ◌∙◌, ap, arith, down, length}
 use Rattle.exec_core.proofs.Texts.{lowest-done}
 use Rattle.exec_core.proofs.planning.stack_pointer.Goals as goal
 

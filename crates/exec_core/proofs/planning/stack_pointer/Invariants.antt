@@ -1,5 +1,4 @@
-use Rattle.std.proofs.Common.{◌≡◌, drop}
-use Rattle.exec_core.specs.ArgTexts.{lowest_by}
+use Rattle.exec_core.proofs.Prelude.{◌≡◌, drop, lowest_by}
 use Rattle.exec_core.proofs.planning.stack_pointer.Given as goal
 
 abbrev pub invariant-loop-length : goal.invariant-loop-length

@@ -1,4 +1,4 @@
-use Rattle.std.proofs.Common.{rules}
+use Rattle.exec_core.proofs.Prelude.{rules}
 use Rattle.exec_core.proofs.arg_list.ArgList.new.Goals as goal
 
 pub invariant_of-result : goal.invariant_of-result

@@ -1,6 +1,4 @@
-use Rattle.std.proofs.Common.{rules, sym, ap, ◌∙◌, arith}
-use Rattle.std.proofs.lemmas.List.{append_assoc}
-use Rattle.exec_core.specs.ArgTexts.{push_refusal}
+use Rattle.exec_core.proofs.Prelude.{◌∙◌, ap, append_assoc, arith, push_refusal, rules, sym}
 use Rattle.exec_core.proofs.Texts.{refusal-full, refusal-long, refusal-none, split-more, texts-more}
 use Rattle.exec_core.proofs.arg_list.ArgList.push.Goals as goal
 

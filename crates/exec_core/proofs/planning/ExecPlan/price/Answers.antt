@@ -1,6 +1,4 @@
-use Rattle.std.proofs.Common.{◌≡◌, ◌+◌, sym, ap, ◌∙◌}
-use Rattle.xk_base.specs.Image.{price}
-use Rattle.exec_core.specs.Building.{price_first}
+use Rattle.exec_core.proofs.Prelude.{◌+◌, ◌∙◌, ◌≡◌, ap, price, price_first, sym}
 use Rattle.exec_core.proofs.Whole.{loaded_image, plan-price}
 use Rattle.exec_core.proofs.planning.ExecPlan.price.Goals as goal
 
