@@ -1,3 +1,4 @@
+mod Prelude
 pub mod Ranges
 pub mod Texts
 pub mod WorkedReach

@@ -1,17 +1,10 @@
 -- Bytes between a process's pages and a pipe, part by part.
-use Rattle.std.proofs.Common.{◌≡◌, ℕ, ◌+◌, ◌≤◌, List, length, sym, ap, ◌∙◌, subst, arith}
-use Rattle.std.proofs.lemmas.List.{length-append}
+use Rattle.user_copy.proofs.Prelude.{ℕ, ◌+◌, ◌∙◌, ◌≡◌, ◌≤◌, ap, arith, Becomes, becomes-more, frames_of, image_bytes, image_bytes-append, image_of, IsPipe, IsSpace, length, length-append}
+use Rattle.user_copy.proofs.Prelude.{length-image_bytes, List, Pipe, pipe_in, pipe_kept, Space, Spared, subst, sym, with_more, WrittenInPlace}
 use Rattle.xk_base.specs.declared.limits.TheConstants.{PIPE_BYTES}
 use Rattle.xk_base.specs.Frames.{copies}
-use Rattle.xk_base.specs.Bytes.{image_bytes}
 use Rattle.phys_ram.specs.Ram.{OthersStay}
-use Rattle.addr_space.specs.declared.Space.{Space}
-use Rattle.addr_space.specs.Space.{image_of, frames_of, IsSpace, Spared}
-use Rattle.addr_space.specs.InPlace.{WrittenInPlace}
 use Rattle.addr_space.proofs.Isolation.{is-isolated}
-use Rattle.addr_space.proofs.Parts.{image_bytes-append, length-image_bytes}
-use Rattle.pipe_core.specs.Pipe.{Pipe, Becomes, IsPipe, pipe_in, with_more}
-use Rattle.pipe_core.proofs.Changes.{becomes-more, pipe_kept}
 
 -- a change of a pipe's frame spares each space that has no such frame
 pipe_spares : (ram ram' : List (List ℕ)) (space : Space) (f : ℕ) → IsSpace ram space → copies f (frames_of ram space) ≡ 0 → OthersStay ram ram' f → Spared ram ram' space

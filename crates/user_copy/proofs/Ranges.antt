@@ -1,20 +1,12 @@
 -- Ranges of a process's memory, page by page.
-use Rattle.std.proofs.Common.{◌≡◌, ℕ, zero, suc, ◌+◌, ◌*◌, ◌/◌, ◌%◌, ◌^◌, ◌<◌, ◌≤◌, Bool, true, false, ◌&&◌, List, Option, Some, None, inl, inr, refl, sym, ap, ◌∙◌, arith, ◌-◌}
-use Rattle.std.proofs.lemmas.Bool.{cases_lt, and_from, false≢true, and_right}
+use Rattle.user_copy.proofs.Prelude.{ℕ, ◌%◌, ◌&&◌, ◌*◌, ◌+◌, ◌-◌, ◌/◌, ◌<◌, ◌^◌, ◌∙◌, ◌≡◌, ◌≤◌, allows, and_from, and_right, ap, arith, Bool, cases_lt, false, false≢true, get, Image, image_byte}
+use Rattle.user_copy.proofs.Prelude.{image_of, image_seen, inl, inr, IsMapped, List, low-pages, LowPages, may, None, Option, option_map, Page, perm_of_page, reaches, refl, Some, Space, suc, sym, true}
+use Rattle.user_copy.proofs.Prelude.{whole-byte, whole-low, whole-there, zero}
 use Rattle.std.specs.List.{list_all, range_with_len}
-use Rattle.std.specs.Option.{option_map}
-use Rattle.std.specs.FinMap.{get}
 use Rattle.xk_base.specs.declared.access.Access.{Access}
-use Rattle.xk_base.specs.Image.{Page, Image}
-use Rattle.xk_base.specs.Bytes.{IsMapped, image_byte}
-use Rattle.addr_space.specs.declared.Space.{Space}
-use Rattle.addr_space.specs.Changes.{perm_of_page}
-use Rattle.addr_space.specs.Space.{image_of}
 use Rattle.addr_space.specs.Permits.{page_permits}
-use Rattle.addr_space.proofs.Touching.{LowPages, low-pages, whole-low, whole-byte, whole-there}
 use Rattle.user_copy.specs.declared.AbsentPages.{AbsentPages}
 use Rattle.user_copy.specs.declared.AbsentPages.TheVariants.{Refused, Zeros}
-use Rattle.user_copy.specs.Reach.{allows, may, image_seen, reaches}
 
 -- ---- what holds at n numbers from a on
 

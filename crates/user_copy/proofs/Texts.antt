@@ -1,13 +1,9 @@
 -- Texts of a process's memory, page by page.
-use Rattle.std.proofs.Common.{◌≡◌, ◌≢◌, ℕ, zero, suc, ◌+◌, ◌-◌, ◌%◌, ◌<◌, ◌≤◌, Bool, true, false, ◌&&◌, eqb, List, get_or, Option, Some, None, inl, inr, refl, sym, ap, ◌∙◌, arith}
-use Rattle.std.proofs.lemmas.Bool.{cases_lt, and_from, and_parts, eq-eqb, ne_eqb, and_right}
+use Rattle.user_copy.proofs.Prelude.{ℕ, ◌%◌, ◌&&◌, ◌+◌, ◌-◌, ◌<◌, ◌∙◌, ◌≡◌, ◌≢◌, ◌≤◌, and_from, and_parts, and_right, ap, arith, Bool, cases_lt, ends_after, eq-eqb, eqb, false, get_or, Image}
+use Rattle.user_copy.proofs.Prelude.{image_byte, image_bytes, inl, inr, List, Load, may, ne_eqb, None, Option, reaches, refl, Some, suc, sym, text_length, true, zero}
 use Rattle.std.proofs.lemmas.List.FromFn.{get_or-map-range_with_len}
-use Rattle.xk_base.specs.Image.{Image}
-use Rattle.xk_base.specs.Bytes.{image_byte, image_bytes}
 use Rattle.xk_base.specs.Words.{least_below, or_here}
-use Rattle.xk_base.specs.declared.access.Access.TheVariants.{Load}
 use Rattle.xk_base.proofs.Least.{least_below-zero, least_below-next, least_below-found, none_below}
-use Rattle.user_copy.specs.Reach.{may, reaches, ends_after, text_length}
 use Rattle.user_copy.proofs.Ranges.{reaches-not, reaches-more}
 
 -- where each number fails, none is found

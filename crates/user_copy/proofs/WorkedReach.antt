@@ -1,13 +1,7 @@
 -- Worked cases of copies from a process with an absent page: an image of size 12289 without pages, whose page 3 is absent.
-use Rattle.std.proofs.Common.{◌≡◌, true, false, ap}
-use Rattle.std.specs.Option.{option_map}
+use Rattle.user_copy.proofs.Prelude.{◌≡◌, allows, ap, false, Fetch, get-empty, Load, may, option_map, perm_of_page, Store, true, whole}
 use Rattle.std.specs.Ordering.{nat_cmp}
-use Rattle.std.specs.FinMap.{get-empty}
-use Rattle.xk_base.specs.declared.access.Access.TheVariants.{Fetch, Load, Store}
-use Rattle.addr_space.specs.Changes.{perm_of_page}
-use Rattle.addr_space.specs.Absent.{whole}
 use Rattle.addr_space.proofs.WorkedTouches.{bare, an_absent_page_comes, no_page_comes_past_the_size}
-use Rattle.user_copy.specs.Reach.{allows, may}
 
 -- an absent page may be read and written as it will come, and not executed
 a_lazy_copy_reads_an_absent_page : may Load (whole bare) 0x3005 ≡ true

@@ -1,7 +1,4 @@
-use Rattle.std.proofs.Common.{rules, length}
-use Rattle.xk_base.specs.declared.access.Access.TheVariants.{Load}
-use Rattle.addr_space.specs.Space.{image_of}
-use Rattle.addr_space.proofs.Touching.{low-pages}
+use Rattle.user_copy.proofs.Prelude.{image_of, length, Load, low-pages, rules}
 use Rattle.user_copy.proofs.Ranges.{reached-mapped, mapped-inside}
 use Rattle.user_copy.proofs.copy_in.Goals as goal
 

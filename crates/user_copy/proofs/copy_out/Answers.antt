@@ -1,6 +1,4 @@
-use Rattle.std.proofs.Common.{rules}
-use Rattle.xk_base.specs.declared.access.Access.TheVariants.{Store}
-use Rattle.addr_space.specs.Space.{image_of}
+use Rattle.user_copy.proofs.Prelude.{image_of, rules, Store}
 use Rattle.user_copy.proofs.Ranges.{reached-mapped}
 use Rattle.user_copy.proofs.copy_out.Goals as goal
 

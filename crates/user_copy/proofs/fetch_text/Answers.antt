@@ -1,9 +1,4 @@
-use Rattle.std.proofs.Common.{arith, ◌+◌, ◌++◌, length, drop, sym, ap, ◌∙◌}
-use Rattle.std.proofs.lemmas.List.{length-take-le}
-use Rattle.xk_base.specs.declared.access.Access.TheVariants.{Load}
-use Rattle.xk_base.specs.Bytes.{image_bytes}
-use Rattle.addr_space.specs.Space.{image_of}
-use Rattle.addr_space.proofs.Touching.{low-pages}
+use Rattle.user_copy.proofs.Prelude.{◌++◌, ◌+◌, ◌∙◌, ap, arith, drop, image_bytes, image_of, length, length-take-le, Load, low-pages, sym}
 use Rattle.user_copy.proofs.Ranges.{reached-mapped, mapped-inside}
 use Rattle.user_copy.proofs.Texts.{text-readable}
 use Rattle.user_copy.proofs.fetch_text.Goals as goal

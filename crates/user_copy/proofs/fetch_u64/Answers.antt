@@ -1,4 +1,4 @@
-use Rattle.std.proofs.Common.{rules}
+use Rattle.user_copy.proofs.Prelude.{rules}
 use Rattle.user_copy.proofs.fetch_u64.Goals as goal
 
 pub returns-clause-number : goal.returns-clause-number

@@ -1,4 +1,4 @@
-use Rattle.std.proofs.Common.{◌+◌}
+use Rattle.user_copy.proofs.Prelude.{◌+◌}
 use Rattle.user_copy.proofs.Ranges.{seen-permitted}
 use Rattle.user_copy.proofs.pages_reached.Goals as goal
 

@@ -1,9 +1,5 @@
-use Rattle.std.proofs.Common.{rules, arith, ◌≡◌, ◌≢◌, ℕ, zero, suc, ◌≤◌, ◌<◌, ◌+◌, ◌-◌, ◌*◌, ◌/◌, ◌%◌, ◌^◌, true, false, refl, sym, ap, ◌∙◌}
-use Rattle.std.specs.Option.{option_map}
-use Rattle.std.specs.FinMap.{get}
-use Rattle.addr_space.specs.Changes.{perm_of_page}
-use Rattle.addr_space.specs.Space.{image_of}
-use Rattle.user_copy.specs.Reach.{allows, may, image_seen}
+use Rattle.user_copy.proofs.Prelude.{ℕ, ◌%◌, ◌*◌, ◌+◌, ◌-◌, ◌/◌, ◌<◌, ◌^◌, ◌∙◌, ◌≡◌, ◌≢◌, ◌≤◌, allows, ap, arith, false, get, image_of, image_seen, may, option_map, perm_of_page, refl, rules, suc}
+use Rattle.user_copy.proofs.Prelude.{sym, true, zero}
 use Rattle.user_copy.proofs.Ranges.{reaches-none, reaches-pages, reaches-not, may-past, seen-low}
 use Rattle.user_copy.proofs.reaches.Goals as goal
 

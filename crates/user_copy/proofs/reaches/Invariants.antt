@@ -1,6 +1,4 @@
-use Rattle.std.proofs.Common.{◌≡◌, ◌-◌, ◌≤◌, true}
-use Rattle.addr_space.specs.Space.{image_of}
-use Rattle.user_copy.specs.Reach.{image_seen, reaches}
+use Rattle.user_copy.proofs.Prelude.{◌-◌, ◌≡◌, ◌≤◌, image_of, image_seen, reaches, true}
 use Rattle.user_copy.proofs.reaches.Given as goal
 
 abbrev pub invariant-pages : goal.invariant-pages

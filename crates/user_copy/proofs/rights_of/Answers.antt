@@ -1,4 +1,4 @@
-use Rattle.std.proofs.Common.{rules}
+use Rattle.user_copy.proofs.Prelude.{rules}
 use Rattle.user_copy.proofs.rights_of.Goals as goal
 
 pub returns-in-Zeros : goal.returns-in-Zeros

@@ -1,12 +1,5 @@
-use Rattle.std.proofs.Common.{rules, arith, ◌≡◌, ◌≢◌, ◌≤◌, ◌<◌, ◌+◌, ◌-◌, ◌/◌, ◌%◌, ◌^◌, true, false, ℕ, List, Some, None, length, take, drop, get_or, sym, ap, ◌∙◌}
-use Rattle.std.specs.Option.{option_map}
-use Rattle.std.specs.FinMap.{get}
-use Rattle.xk_base.specs.Bytes.{byte_in, image_byte, image_bytes}
-use Rattle.xk_base.specs.declared.access.Access.TheVariants.{Load}
-use Rattle.addr_space.specs.Changes.{perm_of_page}
-use Rattle.addr_space.specs.Space.{image_of}
-use Rattle.addr_space.proofs.Parts.{part-read, length-image_bytes}
-use Rattle.user_copy.specs.Reach.{allows, may, image_seen}
+use Rattle.user_copy.proofs.Prelude.{ℕ, ◌%◌, ◌+◌, ◌-◌, ◌/◌, ◌<◌, ◌^◌, ◌∙◌, ◌≡◌, ◌≢◌, ◌≤◌, allows, ap, arith, byte_in, drop, false, get, get_or, image_byte, image_bytes, image_of, image_seen, length}
+use Rattle.user_copy.proofs.Prelude.{length-image_bytes, List, Load, may, None, option_map, part-read, perm_of_page, rules, Some, sym, take, true}
 use Rattle.user_copy.proofs.Ranges.{reaches-none, reaches-more, seen-there, seen-byte, may-past, seen-low}
 use Rattle.user_copy.proofs.Texts.{none-at-first, none-past, none-more, none-in-all, end-found, part-byte}
 use Rattle.user_copy.proofs.text_end.Goals as goal

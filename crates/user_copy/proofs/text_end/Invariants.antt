@@ -1,7 +1,4 @@
-use Rattle.std.proofs.Common.{◌≡◌, ◌-◌, ◌≤◌, true}
-use Rattle.xk_base.specs.declared.access.Access.TheVariants.{Load}
-use Rattle.addr_space.specs.Space.{image_of}
-use Rattle.user_copy.specs.Reach.{image_seen, reaches}
+use Rattle.user_copy.proofs.Prelude.{◌-◌, ◌≡◌, ◌≤◌, image_of, image_seen, Load, reaches, true}
 use Rattle.user_copy.proofs.Texts.{NoneWithin}
 use Rattle.user_copy.proofs.text_end.Given as goal
 

@@ -1,8 +1,4 @@
-use Rattle.std.proofs.Common.{rules, length, sym, ◌∙◌}
-use Rattle.xk_base.specs.declared.access.Access.TheVariants.{Load}
-use Rattle.addr_space.specs.Absent.{whole}
-use Rattle.addr_space.specs.Space.{image_of}
-use Rattle.addr_space.proofs.Touching.{whole-low, low-pages, whole-bytes}
+use Rattle.user_copy.proofs.Prelude.{◌∙◌, image_of, length, Load, low-pages, rules, sym, whole, whole-bytes, whole-low}
 use Rattle.user_copy.proofs.Ranges.{reached-mapped, mapped-inside}
 use Rattle.user_copy.proofs.lazily.copy_in_lazily.Goals as goal
 

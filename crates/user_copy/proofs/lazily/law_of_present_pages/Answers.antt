@@ -1,6 +1,4 @@
-use Rattle.addr_space.specs.Absent.{all_pages}
-use Rattle.addr_space.specs.Space.{image_of}
-use Rattle.addr_space.proofs.Touching.{none-absent}
+use Rattle.user_copy.proofs.Prelude.{all_pages, image_of, none-absent}
 use Rattle.user_copy.proofs.lazily.law_of_present_pages.Goals as goal
 
 pub returns : goal.returns

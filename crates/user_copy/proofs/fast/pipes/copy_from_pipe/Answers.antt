@@ -1,12 +1,8 @@
-use Rattle.std.proofs.Common.{rules, arith, ◌≡◌, ◌+◌, ◌*◌, ◌-◌, ◌/◌, ◌≤◌, length, take, drop, sym, ap, ◌∙◌, subst}
-use Rattle.xk_base.specs.Bytes.{HasPage, write_image}
+use Rattle.user_copy.proofs.Prelude.{◌*◌, ◌+◌, ◌-◌, ◌/◌, ◌∙◌, ◌≡◌, ◌≤◌, ap, arith, drop, HasPage, image_of, in_place-join, in_place-none, length, page-small, pipe_in, rules, subst, sym, take}
+use Rattle.user_copy.proofs.Prelude.{write-more, write_image}
 use Rattle.xk_base.proofs.Bytes.{write_image-nil, has-write_image}
-use Rattle.addr_space.specs.Space.{image_of}
-use Rattle.addr_space.proofs.InPlace.{page-small, in_place-none, in_place-join}
 use Rattle.addr_space.proofs.Freeing.{changed-none, changed-join}
 use Rattle.addr_space.proofs.Trades.{belongs-after}
-use Rattle.addr_space.proofs.Parts.{write-more}
-use Rattle.pipe_core.specs.Pipe.{pipe_in}
 use Rattle.user_copy.proofs.PipeParts.{pipe_still, pages_apart, bytes_same}
 use Rattle.user_copy.proofs.fast.pipes.copy_from_pipe.Goals as goal
 

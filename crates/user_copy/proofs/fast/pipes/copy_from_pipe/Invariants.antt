@@ -1,9 +1,5 @@
-use Rattle.std.proofs.Common.{◌≡◌, ◌-◌, ◌≤◌, take}
-use Rattle.xk_base.specs.Bytes.{write_image}
+use Rattle.user_copy.proofs.Prelude.{◌-◌, ◌≡◌, ◌≤◌, Belongs, Changed, image_of, pipe_in, take, write_image, WrittenInPlace}
 use Rattle.frame_list.specs.declared.Pool.{Pool}
-use Rattle.addr_space.specs.Space.{image_of, Belongs, Changed}
-use Rattle.addr_space.specs.InPlace.{WrittenInPlace}
-use Rattle.pipe_core.specs.Pipe.{pipe_in}
 use Rattle.user_copy.proofs.fast.pipes.copy_from_pipe.Given as goal
 
 abbrev pub invariant-parts : goal.invariant-parts

@@ -1,8 +1,5 @@
-use Rattle.std.proofs.Common.{◌≡◌, length, take, drop, sym, arith}
-use Rattle.std.proofs.lemmas.List.{length-take-le, length-drop}
-use Rattle.addr_space.proofs.InPlace.{page-small}
+use Rattle.user_copy.proofs.Prelude.{◌≡◌, arith, drop, length, length-drop, length-take-le, page-small, pipe_in, sym, take}
 use Rattle.addr_space.proofs.FromFrames.{frame-written}
-use Rattle.pipe_core.specs.Pipe.{pipe_in}
 use Rattle.user_copy.proofs.fast.pipes.fill_page.Goals as goal
 
 pub returns-clause-image : goal.returns-clause-image

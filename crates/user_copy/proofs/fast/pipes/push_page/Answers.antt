@@ -1,8 +1,4 @@
-use Rattle.std.proofs.Common.{arith, ◌≡◌, ◌+◌, ◌*◌, ◌/◌, ◌%◌, length, take, drop, sym, ap, ◌∙◌, subst}
-use Rattle.std.specs.FinMap.{get}
-use Rattle.addr_space.specs.Space.{image_of}
-use Rattle.addr_space.proofs.Parts.{part-read, part-zeros}
-use Rattle.pipe_core.specs.Pipe.{Becomes, pipe_in, with_more}
+use Rattle.user_copy.proofs.Prelude.{◌%◌, ◌*◌, ◌+◌, ◌/◌, ◌∙◌, ◌≡◌, ap, arith, Becomes, drop, get, image_of, length, part-read, part-zeros, pipe_in, subst, sym, take, with_more}
 use Rattle.user_copy.proofs.fast.pipes.push_page.Goals as goal
 
 pub returns-in-Some : goal.returns-in-Some

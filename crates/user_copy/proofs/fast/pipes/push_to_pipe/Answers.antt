@@ -1,5 +1,4 @@
-use Rattle.std.proofs.Common.{rules, arith}
-use Rattle.pipe_core.proofs.Changes.{becomes-none}
+use Rattle.user_copy.proofs.Prelude.{arith, becomes-none, rules}
 use Rattle.user_copy.proofs.PipeParts.{still_space, still_apart, room_left, more_pushed}
 use Rattle.user_copy.proofs.fast.pipes.push_to_pipe.Goals as goal
 

@@ -1,7 +1,4 @@
-use Rattle.std.proofs.Common.{◌-◌, ◌≤◌}
-use Rattle.xk_base.specs.Bytes.{image_bytes}
-use Rattle.addr_space.specs.Space.{image_of}
-use Rattle.pipe_core.specs.Pipe.{Becomes, pipe_in, with_more}
+use Rattle.user_copy.proofs.Prelude.{◌-◌, ◌≤◌, Becomes, image_bytes, image_of, pipe_in, with_more}
 use Rattle.user_copy.proofs.fast.pipes.push_to_pipe.Given as goal
 
 abbrev pub invariant-parts : goal.invariant-parts
