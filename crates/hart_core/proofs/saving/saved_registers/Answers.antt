@@ -1,4 +1,4 @@
-use Rattle.std.proofs.Common.{◌≤◌, sym, arith}
+use Rattle.hart_core.proofs.Prelude.{◌≤◌, arith, sym}
 use Rattle.hart_core.proofs.Saved.{saved-is}
 use Rattle.hart_core.proofs.saving.saved_registers.Goals as goal
 
