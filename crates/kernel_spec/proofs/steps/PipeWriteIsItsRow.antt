@@ -1,26 +1,8 @@
 -- One pipe changes, and a write to a pipe.
-use Rattle.std.proofs.Common.{◌≡◌, ℕ, ◌+◌, ◌-◌, Bool, true, false, cond, not, refl, ap, sym, ◌∙◌, lt-ltb}
-use Rattle.std.specs.Prelude.{Option, None, Some, ℤ, pos, option_map, nat_eq, nat_le}
-use Rattle.std.specs.FinMap.{insert}
-use Rattle.xk_base.specs.declared.limits.TheConstants.{NOFILE}
-use Rattle.rv64i_core.specs.Registers.{Registers}
-use Rattle.xk_base.specs.Image.{Image}
-use Rattle.kernel_spec.specs.views.Words.{c_int, word, minus_one}
-use Rattle.kernel_spec.specs.rows.Buffers.{readable}
-use Rattle.pipe_core.specs.Pipe.{Pipe, with_more}
-use Rattle.file_table.specs.declared.open_file.End.{End}
-use Rattle.kernel_spec.specs.views.PipeEnds.{fit}
-use Rattle.file_table.specs.declared.open_file.OpenFile.{OpenFile}
-use Rattle.kernel_spec.specs.views.Processes.{Live}
-use Rattle.proc_table.specs.declared.process.Call.{Call}
-use Rattle.kernel_spec.specs.views.State.{State, live_part}
-use Rattle.kernel_spec.specs.views.View.{View, Shown_pipe, named, numbered, rename, or_else, or_gone, descriptor_at, descriptor_on, least_on_file, view_of, in_use}
-use Rattle.kernel_spec.specs.steps.Own.{Called, Blocked, goes_on}
-use Rattle.kernel_spec.specs.rows.Tables.{change_pipe}
-use Rattle.kernel_spec.specs.rows.Calls.{write, done, waits, with_a0, done_at, next_bytes}
-use Rattle.kernel_spec.specs.others.Quiet.{pipe_at, pipe_of_file, file_of, pipe_of_open}
-use Rattle.kernel_spec.specs.laws.RowLaws.{OnPipe}
-use Rattle.kernel_spec.specs.steps.Updates.{changed_state}
+use Rattle.kernel_spec.proofs.Prelude.{ℕ, ℤ, ◌+◌, ◌-◌, ◌∙◌, ◌≡◌, ap, Blocked, Bool, c_int, Call, Called, change_pipe, changed_state, cond, descriptor_at, descriptor_on, done, done_at, End, false}
+use Rattle.kernel_spec.proofs.Prelude.{file_of, fit, goes_on, Image, in_use, insert, least_on_file, Live, live_part, lt-ltb, minus_one, named, nat_eq, nat_le, next_bytes, NOFILE, None, not, numbered}
+use Rattle.kernel_spec.proofs.Prelude.{OnPipe, OpenFile, Option, option_map, or_else, or_gone, Pipe, pipe_at, pipe_of_file, pipe_of_open, pos, readable, refl, Registers, rename, Shown_pipe, Some}
+use Rattle.kernel_spec.proofs.Prelude.{State, sym, true, View, view_of, waits, with_a0, with_more, word, write}
 use Rattle.kernel_spec.proofs.steps.MapsAfterChange.{get_other}
 use Rattle.kernel_spec.proofs.steps.OthersTableIsSeen.{Spares}
 use Rattle.kernel_spec.proofs.steps.OnePipeChanges.{numbered_set, named_change}

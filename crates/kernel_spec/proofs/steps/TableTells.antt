@@ -1,20 +1,8 @@
 -- A process's own table tells what its descriptors are on.
-use Rattle.std.proofs.Common.{◌≡◌, ◌≢◌, ℕ, ◌<◌, Bool, cond, ◌||◌, refl, ap, sym, ◌∙◌}
-use Rattle.std.proofs.Common.{lt-ltb}
-use Rattle.std.specs.Prelude.{Option, None, Some, option_map}
-use Rattle.std.specs.FinMap.{get, keys}
-use Rattle.std.proofs.lemmas.Option.{same_Some}
-use Rattle.xk_base.specs.declared.limits.TheConstants.{NOFILE}
-use Rattle.kernel_spec.specs.views.Words.{is_this}
-use Rattle.pipe_core.specs.Pipe.{Pipe}
-use Rattle.file_table.specs.declared.open_file.OpenFile.{OpenFile}
-use Rattle.file_table.specs.declared.open_file.Target.{Target}
-use Rattle.file_table.specs.declared.open_file.Target.TheVariants.{Console as Terminal, Program as File, Pipe as Pipe_end}
-use Rattle.kernel_spec.specs.views.Processes.{Live}
-use Rattle.kernel_spec.specs.views.State.{State, live}
-use Rattle.kernel_spec.specs.steps.Own.{Own, gone_with}
-use Rattle.kernel_spec.specs.views.View.{View, Descriptors, named, numbered, rename, rename_shown, descriptor_at, descriptor_on, show, or_gone, view, view_of, child_of}
-use Rattle.kernel_spec.specs.others.Quiet.{file_at, file_of, pipe_of_file, pipe_of_open, pipe_of_target, offset_left, pipe_left, shown_offset, shown_pipe, seen, seen_children, Quiet}
+use Rattle.kernel_spec.proofs.Prelude.{ℕ, ◌<◌, ◌||◌, ◌∙◌, ◌≡◌, ◌≢◌, ap, Bool, child_of, cond, descriptor_at, descriptor_on, Descriptors, File, file_at, file_of, get, gone_with, is_this, keys, Live}
+use Rattle.kernel_spec.proofs.Prelude.{live, lt-ltb, named, NOFILE, None, numbered, offset_left, OpenFile, Option, option_map, or_gone, Own, Pipe, Pipe_end, pipe_left, pipe_of_file, pipe_of_open}
+use Rattle.kernel_spec.proofs.Prelude.{pipe_of_target, Quiet, refl, rename, rename_shown, same_Some, seen, seen_children, show, shown_offset, shown_pipe, Some, State, sym, Target, Terminal, View}
+use Rattle.kernel_spec.proofs.Prelude.{view, view_of}
 use Rattle.kernel_spec.proofs.steps.OthersTableIsSeen.{open_offset, target_offset, kind, Tells, Spares, seen_table_is, kind_pipe}
 
 shown_offset_is : (t : State) (names : Descriptors) (n : ℕ) (x : Target) → shown_offset n (rename_shown names (show t x)) ≡ target_offset n x
