@@ -1,8 +1,5 @@
 -- A segment's header behind a list.
-use Rattle.std.proofs.Common.{◌≡◌, ℕ, Bool, cond, List, [], ◌++◌, append_assoc, sym, ap, ◌∙◌}
-use Rattle.std.proofs.lemmas.Bool.{ne_eqb}
-use Rattle.xk_base.specs.Words.{le_bytes}
-use Rattle.uasm_core.specs.FileFormat.{segment_header, program_header, to_be_loaded}
+use Rattle.uasm_core.proofs.Prelude.{[], ℕ, ◌++◌, ◌∙◌, ◌≡◌, ap, append_assoc, Bool, cond, le_bytes, List, ne_eqb, program_header, segment_header, sym, to_be_loaded}
 
 -- eight lists one behind another
 behind_all : (file a b c d e f g h : List ℕ) → file ++ a ++ b ++ c ++ d ++ e ++ f ++ g ++ h ≡ file ++ (a ++ b ++ c ++ d ++ e ++ f ++ g ++ h)

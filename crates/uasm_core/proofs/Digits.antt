@@ -1,10 +1,6 @@
 -- A number that digits write, one digit more.
-use Rattle.std.proofs.Common.{◌≡◌, ℕ, ◌+◌, ◌*◌, ◌^◌, ◌<◌, ◌≤◌, List, length, take, get_or, sym, ap, ◌∙◌, arith}
-use Rattle.std.specs.Prelude.{min}
+use Rattle.uasm_core.proofs.Prelude.{ℕ, ◌*◌, ◌+◌, ◌<◌, ◌^◌, ◌∙◌, ◌≡◌, ◌≤◌, ap, arith, fold_more, get_or, length, List, min, mul-le-mul_left, number_in, sym, take}
 use Rattle.std.specs.Char.{digit_value}
-use Rattle.std.proofs.lemmas.List.Sums.{fold_more}
-use Rattle.std.proofs.Math.Nat.{mul-le-mul_left}
-use Rattle.uasm_core.specs.Line.{number_in}
 
 -- found is the number, or both are 2^64 or more
 abbrev pub IsCapped : ℕ → ℕ → Type 0

@@ -1,8 +1,7 @@
 -- Reading a list one by one, with what was read so far.
-use Rattle.std.proofs.Common.{◌≡◌, ℕ, List, [], ◌∷◌, ◌++◌, Result, Ok, Err, Option, Some, None, refl, sym, ap, ◌∙◌, append_assoc, append-nil}
-use Rattle.uasm_core.specs.declared.error.AsmErrorKind.{AsmErrorKind}
-use Rattle.uasm_core.specs.Statement.{each, joined, put_behind, ◌>>=◌}
-use Rattle.uasm_core.specs.Views.{text_behind}
+use Rattle.uasm_core.proofs.Prelude.{[], ℕ, ◌++◌, ◌∙◌, ◌∷◌, ◌≡◌, ap, append-nil, append_assoc, AsmErrorKind, each, Err, joined, List, None, Ok, Option, put_behind, refl, Result, Some, sym}
+use Rattle.uasm_core.proofs.Prelude.{text_behind}
+use Rattle.uasm_core.specs.Statement.{◌>>=◌}
 
 -- each of a list, behind those that were found
 abbrev pub each_onto : {A B : Type 0} → (A → Result B AsmErrorKind) → List B → List A → Result (List B) AsmErrorKind

@@ -1,3 +1,4 @@
+mod Prelude
 pub mod Pieces
 pub mod Digits
 pub mod Table

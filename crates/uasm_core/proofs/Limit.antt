@@ -1,11 +1,7 @@
 -- Values are no fewer than their bytes.
-use Rattle.std.proofs.Common.{◌≤◌, List, [], ◌∷◌, length, map, arith}
-use Rattle.std.specs.Prelude.{sum_by}
-use Rattle.std.proofs.lemmas.List.Sums.{sum_by-cons}
-use Rattle.uasm_core.specs.declared.statement.Datum as code
+use Rattle.uasm_core.proofs.Prelude.{[], ◌∷◌, ◌≤◌, arith, datum_seen as datum, datum_size, length, List, map, sum_by, sum_by-cons}
 use Rattle.uasm_core.specs.declared.statement.Datum.TheVariants.{Byte, Word, Dword, Address}
-use Rattle.uasm_core.specs.Statement.{datum_size}
-use Rattle.uasm_core.specs.Views.{datum}
+use Rattle.uasm_core.specs.declared.statement.Datum as code
 
 -- a value has a byte or more
 some_bytes : (d : code.Datum) → 1 ≤ datum_size (datum d)

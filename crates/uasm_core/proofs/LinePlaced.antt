@@ -1,15 +1,7 @@
 -- Each way in which a line is placed or refused.
-use Rattle.std.proofs.Common.{◌≡◌, ℕ, Bool, true, false, cond, List, Option, Some, None, Result, Ok, Err, refl, sym, ap, ◌∙◌}
-use Rattle.uasm_core.specs.declared.error.AsmErrorKind.{AsmErrorKind}
-use Rattle.uasm_core.specs.declared.error.AsmErrorKind.TheVariants.{OutOfRange, DuplicateLabel}
-use Rattle.uasm_core.specs.declared.error.Refusal.{Refusal}
-use Rattle.uasm_core.specs.declared.error.Refusal.TheVariants.{NoMemory, Kind}
-use Rattle.uasm_core.specs.declared.place.Place.{Place}
-use Rattle.uasm_core.specs.Line.{Parts, parts_of}
-use Rattle.uasm_core.specs.Places.{is_past_limit, within_limit}
-use Rattle.uasm_core.specs.Statement.{Statement, statement}
-use Rattle.uasm_core.specs.Views.{Answers, Fails, error_at}
-use Rattle.uasm_core.specs.Written.{Placed, Fault, ◌>>=◌, on_line, behind, is_taken, placed}
+use Rattle.uasm_core.proofs.Prelude.{ℕ, ◌>>=◌, ◌∙◌, ◌≡◌, Answers, ap, AsmErrorKind, behind, Bool, cond, DuplicateLabel, Err, error_at, Fails, false, Fault, is_past_limit, is_taken, Kind, List}
+use Rattle.uasm_core.proofs.Prelude.{NoMemory, None, Ok, on_line, Option, OutOfRange, Parts, parts_of, Place, Placed, placed, refl, Refusal, Result, Some, Statement, statement, sym, true}
+use Rattle.uasm_core.proofs.Prelude.{within_limit}
 
 -- a statement behind which a file isn't too long
 abbrev short : ℕ → Place → Parts → Statement → Bool → Result Placed Fault

@@ -1,16 +1,9 @@
 -- A source that both passes take means its program.
-use Rattle.std.proofs.Common.{◌≡◌, ℕ, ◌+◌, ◌≤◌, Bool, true, false, cond, List, [], ◌∷◌, length, Option, Some, None, Ok, refl, sym, ap, ◌∙◌, subst, arith, length-append}
-use Rattle.std.specs.Option.{option_map}
-use Rattle.std.specs.Str.Lines.{lines}
-use Rattle.std.proofs.lemmas.Bool.{ltb-false}
-use Rattle.xk_base.specs.declared.limits.TheConstants.{PROGRAM_BYTES}
-use Rattle.uasm_core.specs.declared.words.Section.{Section}
-use Rattle.uasm_core.specs.declared.words.Section.TheVariants.{Text, Data}
-use Rattle.uasm_core.specs.declared.place.Place.{Place}
-use Rattle.uasm_core.specs.Places.{start, grown, address, file_len}
-use Rattle.uasm_core.specs.Statement.{Statement, Empty, Switch, Code, BranchTo, JumpTo, LoadAddress, Bytes, Labels, spelled, size_of}
-use Rattle.uasm_core.specs.Written.{Placed, is_label_of, label_place, behind, end_of, addresses, SectionBytes, all_placed, all_spelled, no_bytes, program_of}
-use Rattle.uasm_core.specs.Meaning.{Follow, after_bytes, bytes_in, addresses_of, as_list, Means}
+use Rattle.uasm_core.proofs.Prelude.{[], ℕ, ◌+◌, ◌∙◌, ◌∷◌, ◌≡◌, ◌≤◌, address, addresses, addresses_of, after_bytes, all_placed, all_spelled, ap, arith, as_list, behind, Bool, BranchTo, Bytes, Code}
+use Rattle.uasm_core.proofs.Prelude.{cond, Data, Empty, end_of, false, file_len, Follow, grown, is_label_of, JumpTo, label_place, Labels, length, length-append, lines, List, LoadAddress, ltb-false}
+use Rattle.uasm_core.proofs.Prelude.{Means, no_bytes, None, Ok, Option, option_map, Place, Placed, PROGRAM_BYTES, program_of, refl, Section, SectionBytes, size_of, Some, spelled, start, Statement}
+use Rattle.uasm_core.proofs.Prelude.{subst, Switch, sym, Text, true}
+use Rattle.uasm_core.specs.Meaning.{bytes_in}
 use Rattle.uasm_core.proofs.Sizes.{length-spelled}
 use Rattle.uasm_core.proofs.Once.{Distinct, nowhere}
 use Rattle.uasm_core.proofs.Passes.{From, Spelled, lines_of, or_skipped, all_found, all_spelled_is}

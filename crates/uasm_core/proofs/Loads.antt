@@ -1,24 +1,13 @@
 -- The file of a program loads as that program.
-use Rattle.std.proofs.Common.{◌≡◌, ℕ, zero, suc, ◌+◌, ◌*◌, ◌/◌, ◌%◌, ◌^◌, ◌<◌, ◌≤◌, Bool, true, false, cond, List, [], ◌∷◌, ◌++◌, length, take, Result, Ok, Err, refl, sym, ap, ◌∙◌, subst, arith}
-use Rattle.std.proofs.Common.{length-append, append-nil}
-use Rattle.std.specs.Prelude.{◌==◌, ◌&&◌, nat_lt, nat_eq}
-use Rattle.std.specs.List.{starts_with}
+use Rattle.uasm_core.proofs.Prelude.{[], ℕ, ◌%◌, ◌&&◌, ◌*◌, ◌++◌, ◌+◌, ◌/◌, ◌<◌, ◌==◌, ◌^◌, ◌∙◌, ◌∷◌, ◌≡◌, ◌≤◌, ap, append-nil, arith, Bool, cond, data_flags, div-lt_iff_lt-mul, elf_of, Err}
+use Rattle.uasm_core.proofs.Prelude.{ExecError, false, file_header, Header, header_count, header_of, headers_len, is_bad, is_elf, is_loaded, is_refused_after, le, le-leb, le-ltb, le_bytes}
+use Rattle.uasm_core.proofs.Prelude.{least_below, length, length-append, List, LoadsAs, nat_eq, nat_lt, NotElf, Ok, page_up, pow-suc, Program, Puts, refl, Result, segment, segment_header, segments_of}
+use Rattle.uasm_core.proofs.Prelude.{SIZE_LIMIT, starts_with, Stretch, subst, suc, sym, take, text_flags, true, zero}
 use Rattle.std.proofs.Math.Dec.{eqb-suc-zero}
-use Rattle.std.proofs.Math.Nat.{pow-suc, div-lt_iff_lt-mul}
 use Rattle.std.proofs.Math.Seq.{take-append_seam, take-length, drop-append_seam, drop-append-add}
-use Rattle.std.proofs.lemmas.Bool.{le-ltb, le-leb}
-use Rattle.xk_base.specs.Words.{le, le_bytes, least_below}
-use Rattle.xk_base.specs.declared.limits.TheConstants.{SIZE_LIMIT}
-use Rattle.xk_base.specs.declared.program.Header.{Header}
 use Rattle.xk_base.specs.declared.program.ProgramHeader.{ProgramHeader}
-use Rattle.xk_base.specs.declared.errors.ExecError.{ExecError}
-use Rattle.xk_base.specs.declared.errors.ExecError.TheVariants.{NotElf}
+use Rattle.xk_base.specs.ProgramFile.{program_header}
 use Rattle.xk_base.specs.ProgramFile as elf
-use Rattle.xk_base.specs.ProgramFile.{page_up, is_elf, header_of, program_header, is_loaded, is_bad, is_refused_after, segment, segments_of}
-use Rattle.uasm_core.specs.Places.{header_count, headers_len}
-use Rattle.uasm_core.specs.Written.{Program}
-use Rattle.uasm_core.specs.FileFormat.{elf_of, file_header, segment_header, text_flags, data_flags}
-use Rattle.uasm_core.specs.Meaning.{Puts, LoadsAs, Stretch}
 
 -- without its lowest byte a number has one byte less
 quotient : (x n : ℕ) → x < 256 ^ suc n → x / 256 < 256 ^ n

@@ -1,11 +1,6 @@
 -- Each label stands on one line.
-use Rattle.std.proofs.Common.{◌≡◌, ℕ, Bool, true, false, cond, List, [], ◌∷◌, ◌++◌, Option, Some, None, refl, sym, ap, ◌∙◌, subst}
-use Rattle.std.specs.Str.{bytes_eq}
-use Rattle.std.specs.Option.{is_some}
-use Rattle.uasm_core.specs.declared.place.Place.{Place}
-use Rattle.uasm_core.specs.Written.{Placed, label_place, is_label_of, is_taken}
-use Rattle.std.proofs.lemmas.Slice.Eq.{bytes_eq-Decides}
-use Rattle.xk_base.proofs.Options.{none_from_is_some}
+use Rattle.uasm_core.proofs.Prelude.{[], ℕ, ◌++◌, ◌∙◌, ◌∷◌, ◌≡◌, ap, Bool, bytes_eq, bytes_eq-Decides, cond, false, is_label_of, is_some, is_taken, label_place, List, None, none_from_is_some, Option}
+use Rattle.uasm_core.proofs.Prelude.{Place, Placed, refl, Some, subst, sym, true}
 use Rattle.uasm_core.proofs.OneMore.{or_else, label_more}
 
 -- no line has the label of a line behind it

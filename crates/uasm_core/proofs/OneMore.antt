@@ -1,14 +1,6 @@
 -- The labels of lines, one line more.
-use Rattle.std.proofs.Common.{◌≡◌, ℕ, Bool, true, false, cond, List, [], ◌∷◌, ◌++◌, Option, Some, None, refl, sym, ◌∙◌, subst}
-use Rattle.std.specs.Str.{bytes_eq}
-use Rattle.std.specs.Option.{is_some}
-use Rattle.std.proofs.Math.Path.{fun_ext}
-use Rattle.std.proofs.lemmas.Slice.Eq.{bytes_eq-Decides}
-use Rattle.xk_base.proofs.Options.{none_from_is_some}
-use Rattle.uasm_core.specs.declared.place.Place.{Place}
-use Rattle.uasm_core.specs.Written.{is_label_of}
-use Rattle.uasm_core.specs.Views.{with_label_of}
-use Rattle.uasm_core.specs.Written.{Placed, label_place, is_taken, end_of, behind}
+use Rattle.uasm_core.proofs.Prelude.{[], ℕ, ◌++◌, ◌∙◌, ◌∷◌, ◌≡◌, behind, Bool, bytes_eq, bytes_eq-Decides, cond, end_of, false, fun_ext, is_label_of, is_some, is_taken, label_place, List, None}
+use Rattle.uasm_core.proofs.Prelude.{none_from_is_some, Option, Place, Placed, refl, Some, subst, sym, true, with_label_of}
 
 -- what was found, else the place where the test passes
 abbrev pub or_else : Option Place → Bool → Place → Option Place

@@ -1,15 +1,8 @@
 -- What the two passes found of each line.
-use Rattle.std.proofs.Common.{◌≡◌, ℕ, ◌+◌, Bool, true, false, cond, List, [], ◌∷◌, ◌++◌, length, Option, Result, Ok, Err, refl, sym, ap, ◌∙◌, append_assoc, append-nil, subst}
-use Rattle.uasm_core.specs.declared.error.AsmErrorKind.{AsmErrorKind}
-use Rattle.uasm_core.specs.declared.error.AsmErrorKind.TheVariants.{DuplicateLabel, OutOfRange}
-use Rattle.uasm_core.specs.declared.words.Section.{Section}
-use Rattle.uasm_core.specs.declared.words.Section.TheVariants.{Text, Data}
-use Rattle.uasm_core.specs.Line.{parts_of}
-use Rattle.uasm_core.specs.declared.place.Place.{Place}
-use Rattle.uasm_core.specs.Places.{start, is_past_limit, address}
-use Rattle.uasm_core.specs.Statement.{Statement, statement, Labels, spelled}
-use Rattle.uasm_core.specs.Written.{Placed, Fault, ◌>>=◌, on_line, one_by_one, placed, end_of, with_line, label_place, is_taken, behind, SectionBytes, put_end, put_in, spelled_line}
-use Rattle.uasm_core.specs.Meaning.{ProgramLine, is_same, bytes_in}
+use Rattle.uasm_core.proofs.Prelude.{[], ℕ, ◌++◌, ◌+◌, ◌>>=◌, ◌∙◌, ◌∷◌, ◌≡◌, address, ap, append-nil, append_assoc, AsmErrorKind, behind, Bool, cond, Data, DuplicateLabel, end_of, Err, false, Fault}
+use Rattle.uasm_core.proofs.Prelude.{is_past_limit, is_same, is_taken, label_place, Labels, length, List, Ok, on_line, one_by_one, Option, OutOfRange, parts_of, Place, Placed, placed, ProgramLine}
+use Rattle.uasm_core.proofs.Prelude.{put_end, put_in, refl, Result, Section, SectionBytes, spelled, spelled_line, start, Statement, statement, subst, sym, Text, true, with_line}
+use Rattle.uasm_core.specs.Meaning.{bytes_in}
 use Rattle.uasm_core.proofs.Once.{Distinct, distinct_more}
 use Rattle.uasm_core.proofs.OneMore.{end_more}
 

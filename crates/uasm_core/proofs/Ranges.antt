@@ -1,9 +1,7 @@
 -- A number in its range, and what is made of it.
-use Rattle.std.proofs.Common.{◌≡◌, ℕ, Bool, true, false, cond, Result, Ok, Err, ap}
-use Rattle.uasm_core.specs.declared.error.AsmErrorKind.{AsmErrorKind}
-use Rattle.uasm_core.specs.declared.error.AsmErrorKind.TheVariants.{OutOfRange}
+use Rattle.uasm_core.proofs.Prelude.{ℕ, ◌≡◌, ap, AsmErrorKind, Bool, cond, Err, false, is_within, low_bits, Ok, OutOfRange, ranged, Result, Statement, true}
 use Rattle.uasm_core.specs.declared.numeral.Number.{Number}
-use Rattle.uasm_core.specs.Statement.{Statement, ◌>>=◌, ranged, low_bits, is_within}
+use Rattle.uasm_core.specs.Statement.{◌>>=◌}
 
 -- two registers and twelve bits
 abbrev Bits : Type 0

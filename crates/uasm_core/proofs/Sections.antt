@@ -1,12 +1,5 @@
 -- What was spelled behind the bytes of one section.
-use Rattle.std.proofs.Common.{◌≡◌, ℕ, List, ◌++◌, Result, Ok, Err, ap}
-use Rattle.uasm_core.specs.declared.error.Refusal.{Refusal}
-use Rattle.uasm_core.specs.declared.error.Refusal.TheVariants.{NoMemory, Kind}
-use Rattle.uasm_core.specs.declared.error.AsmErrorKind.{AsmErrorKind}
-use Rattle.uasm_core.specs.declared.words.Section.TheVariants.{Text, Data}
-use Rattle.uasm_core.specs.Views.{Answers}
-use Rattle.uasm_core.specs.Statement.{put_behind}
-use Rattle.uasm_core.specs.Written.{SectionBytes, put_in}
+use Rattle.uasm_core.proofs.Prelude.{ℕ, ◌++◌, ◌≡◌, Answers, ap, AsmErrorKind, Data, Err, Kind, List, NoMemory, Ok, put_behind, put_in, Refusal, Result, SectionBytes, Text}
 
 -- behind text
 pub in_text : {U : Type 0} (r : Result U Refusal) (x : Result (List ℕ) AsmErrorKind) (o : SectionBytes) (new : List ℕ)

@@ -1,16 +1,12 @@
 -- A statement spells as many bytes as its size says.
-use Rattle.std.proofs.Common.{◌≡◌, ℕ, ◌+◌, ◌*◌, List, [], ◌∷◌, length, Result, Ok, Err, refl, sym, ap, ◌∙◌, arith, length-append}
-use Rattle.std.specs.Prelude.{sum_by}
-use Rattle.xk_base.specs.Words.{le_bytes}
+use Rattle.uasm_core.proofs.Prelude.{[], ℕ, ◌*◌, ◌+◌, ◌∙◌, ◌∷◌, ◌≡◌, Address, address_of, ap, arith, AsmErrorKind, Auipc, Branch, BranchTo, Bytes, Code, code_bytes, Datum, datum_bytes, datum_size}
+use Rattle.uasm_core.proofs.Prelude.{distance, each, Empty, Err, from_to, Jal, joined, JumpTo, Known, Labels, le_bytes, length, length-append, List, LoadAddress, low_bits, lower, Ok, OpImm, refl}
+use Rattle.uasm_core.proofs.Prelude.{Result, size_of, spelled, Statement, sum_by, sum_by-cons, Switch, sym, upper}
 use Rattle.xk_base.proofs.Words.{length-le_bytes}
 use Rattle.rv64i_core.specs.Table.{word}
 use Rattle.rv64i_core.specs.declared.instruction.Instr.{Instr}
-use Rattle.rv64i_core.specs.declared.instruction.Instr.TheVariants.{Branch, Jal, Auipc, OpImm}
 use Rattle.rv64i_core.specs.declared.instruction.ImmOp.TheVariants.{Addi}
-use Rattle.std.proofs.lemmas.List.Sums.{sum_by-cons}
-use Rattle.uasm_core.specs.declared.error.AsmErrorKind.{AsmErrorKind}
-use Rattle.uasm_core.specs.Statement.{Statement, Empty, Switch, Code, BranchTo, JumpTo, LoadAddress, Bytes, Datum, Known, Address, Labels, size_of, datum_size, spelled, datum_bytes, address_of}
-use Rattle.uasm_core.specs.Statement.{distance, code_bytes, joined, each, ◌>>=◌, low_bits, from_to, upper, lower}
+use Rattle.uasm_core.specs.Statement.{◌>>=◌}
 
 -- four bytes for each instruction
 length-code_bytes : (is : List Instr) → length (code_bytes is) ≡ 4 * length is

@@ -1,22 +1,15 @@
 -- A file that loads as a program becomes that program in memory, with each list of texts that fits.
-use Rattle.std.proofs.Common.{◌≡◌, ℕ, zero, suc, ◌+◌, ◌-◌, ◌*◌, ◌/◌, ◌%◌, ◌<◌, ◌≤◌, Bool, true, cond, List, [], ◌∷◌, ◌++◌, length, map, Option, Some, None, Result, Ok, Err, refl, sym, ap, ◌∙◌, subst}
-use Rattle.std.proofs.Common.{arith}
-use Rattle.std.specs.Prelude.{◌==◌, ◌&&◌, nat_lt, nat_le, if◌then◌else◌, slice_index, option_map}
-use Rattle.std.specs.List.{range_with_len}
+use Rattle.uasm_core.proofs.Prelude.{[], ℕ, ◌%◌, ◌&&◌, ◌*◌, ◌++◌, ◌+◌, ◌-◌, ◌/◌, ◌<◌, ◌==◌, ◌∙◌, ◌∷◌, ◌≡◌, ◌≤◌, AllPut, ap, ArgsTooLong, arith, Assembles, Becomes, Bool, cond, Err, ExecError}
+use Rattle.uasm_core.proofs.Prelude.{guard_at, Header, Holds, if◌then◌else◌, le-ltb, length, List, LoadsAs, lt-ltb, map, nat_le, nat_lt, ne_eqb, None, Ok, Option, page_up, Program, range_with_len}
+use Rattle.uasm_core.proofs.Prelude.{refl, Result, segments_of, slice_index, Some, stack_of, Starts, Stretch, stretch_of, subst, suc, sym, text_rights, TextsFit, true, zero}
+use Rattle.std.specs.Prelude.{option_map}
 use Rattle.std.specs.FinMap.{get}
-use Rattle.std.proofs.lemmas.Bool.{ne_eqb, lt-ltb, le-ltb}
 use Rattle.xk_base.specs.declared.access.Rights.{Rights}
-use Rattle.xk_base.specs.declared.errors.ExecError.{ExecError}
-use Rattle.xk_base.specs.declared.errors.ExecError.TheVariants.{ArgsTooLong}
-use Rattle.xk_base.specs.declared.program.Header.{Header}
 use Rattle.xk_base.specs.declared.program.Segment.{Segment}
-use Rattle.xk_base.specs.ProgramFile.{page_up, segments_of}
 use Rattle.xk_base.specs.Image.{Page, page_count}
 use Rattle.xk_base.specs.Bytes.{byte_in, image_byte}
 use Rattle.xk_base.specs.Loaded.{over, zeros, addresses, page_by, end_after, perm_at, file_bytes, segments_over, down, text_places, lowest, stack_pointer, pointers, texts_over, stack_over, guard}
 use Rattle.xk_base.specs.Loaded.{page_perm, program_image, Loaded, aligned, with_texts, loaded, ◌>>=◌}
-use Rattle.uasm_core.specs.Written.{Program}
-use Rattle.uasm_core.specs.Meaning.{Stretch, stretch_of, text_rights, AllPut, LoadsAs, Assembles, guard_at, stack_of, TextsFit, Holds, Becomes, Starts}
 use Rattle.xk_base.specs.Access.{data_rights}
 use Rattle.xk_base.proofs.Laid.{over-in, over-below, lowest-le}
 use Rattle.xk_base.proofs.Gathered.{gathered-some}

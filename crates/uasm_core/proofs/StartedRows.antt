@@ -1,7 +1,5 @@
 -- What the words on a file in memory say of small programs, computed.
-use Rattle.std.proofs.Common.{◌≡◌, ℕ, ◌+◌, ◌<◌, ◌≤◌, List, [], ◌∷◌, length, replicate, refl, arith}
-use Rattle.uasm_core.specs.Written.{Program}
-use Rattle.uasm_core.specs.Meaning.{guard_at, stack_of, TextsFit}
+use Rattle.uasm_core.proofs.Prelude.{[], ℕ, ◌+◌, ◌<◌, ◌∷◌, ◌≡◌, ◌≤◌, arith, guard_at, length, List, Program, refl, replicate, stack_of, TextsFit}
 
 -- a program of so many bytes of text and of data
 abbrev sized : (text_len data_len : ℕ) → Program

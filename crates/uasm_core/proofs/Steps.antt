@@ -1,11 +1,7 @@
 -- One line more in the first pass.
-use Rattle.std.proofs.Common.{◌≡◌, ℕ, ◌+◌, ◌<◌, List, [], ◌∷◌, ◌++◌, length, Option, Result, Ok, sym, ap, ◌∙◌, Bor, get_or, map, drop, add-one, drop-cons}
-use Rattle.uasm_core.specs.declared.error.AsmError.{AsmError}
+use Rattle.uasm_core.proofs.Prelude.{[], ℕ, ◌++◌, ◌+◌, ◌<◌, ◌>>=◌, ◌∙◌, ◌∷◌, ◌≡◌, add-one, ap, AsmError, Bor, drop, drop-cons, end_of, Fails, Fault, get_or, label_place, length, List, map, Ok}
+use Rattle.uasm_core.proofs.Prelude.{one_by_one, Option, Place, Placed, placed, Result, start, sym, with_line}
 use Rattle.uasm_core.specs.declared.error.AsmError.TheVariants as error
-use Rattle.uasm_core.specs.declared.place.Place.{Place}
-use Rattle.uasm_core.specs.Views.{Fails}
-use Rattle.uasm_core.specs.Places.{start}
-use Rattle.uasm_core.specs.Written.{Placed, Fault, ◌>>=◌, one_by_one, placed, end_of, with_line, label_place}
 
 -- the line is placed the same by equal labels
 same : (ps : List Placed) (n : ℕ) (labels : List ℕ → Option Place) (at : Place) (source : List ℕ)

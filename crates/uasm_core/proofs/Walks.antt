@@ -1,21 +1,11 @@
 -- A loop that walks a list from its front, against a definition by recursion on the list.
-use Rattle.std.proofs.Common.{◌≡◌, ℕ, ◌+◌, ◌<◌, ◌≤◌, List, [], ◌∷◌, ◌++◌, length, map, drop, get_or, Option, None, Result, Ok, Err, refl, sym, ap, ◌∙◌, add-one, drop-cons, append-nil}
-use Rattle.std.proofs.lemmas.List.{at_drop_all}
-use Rattle.uasm_core.specs.declared.error.AsmErrorKind.{AsmErrorKind}
-use Rattle.uasm_core.specs.declared.error.AsmErrorKind.TheVariants.{BadOperand}
-use Rattle.uasm_core.specs.declared.error.AsmError.{AsmError}
-use Rattle.uasm_core.specs.declared.error.AsmError.TheVariants as error
-use Rattle.uasm_core.specs.declared.error.Refusal.{Refusal}
-use Rattle.uasm_core.specs.declared.error.Refusal.TheVariants.{NoMemory, Kind}
-use Rattle.uasm_core.specs.declared.scan.Quote.{Quote}
-use Rattle.uasm_core.specs.declared.scan.Quote.TheVariants.{Outside, Inside, Escaped}
-use Rattle.uasm_core.specs.Line.{text_from}
-use Rattle.uasm_core.specs.Statement as by_kind
-use Rattle.uasm_core.specs.Statement.{put_behind, or_bad}
-use Rattle.uasm_core.specs.Views.{Answers, Fails, Reads, text_behind}
-use Rattle.uasm_core.specs.Written as by_line
-use Rattle.uasm_core.specs.Written.{Fault, one_by_one}
+use Rattle.uasm_core.proofs.Prelude.{[], ℕ, ◌++◌, ◌+◌, ◌<◌, ◌∙◌, ◌∷◌, ◌≡◌, ◌≤◌, add-one, Answers, ap, append-nil, AsmError, AsmErrorKind, at_drop_all, BadOperand, drop, drop-cons, Err, Escaped, Fails}
+use Rattle.uasm_core.proofs.Prelude.{Fault, get_or, Inside, Kind, length, List, map, NoMemory, None, Ok, one_by_one, Option, or_bad, Outside, put_behind, Quote, Reads, refl, Refusal, Result, sym}
+use Rattle.uasm_core.proofs.Prelude.{text_behind, text_from}
 use Rattle.uasm_core.proofs.Each.{each_onto, put_each}
+use Rattle.uasm_core.specs.declared.error.AsmError.TheVariants as error
+use Rattle.uasm_core.specs.Statement as by_kind
+use Rattle.uasm_core.specs.Written as by_line
 
 -- what is left begins with the element at the index
 pub drop_view : {A B : Type 0} (view : A → B) (xs : List A) (i : ℕ) (d : A) (b : B) → i < length xs → b ≡ view (get_or xs i d)

@@ -1,17 +1,9 @@
 -- Both passes, joined.
-use Rattle.std.proofs.Common.{◌≡◌, ℕ, ◌+◌, ◌^◌, ◌<◌, ◌≤◌, List, length, Option, Result, Ok, Err, sym, ap, subst, ◌∙◌, arith}
-use Rattle.std.specs.Str.Lines.{lines}
-use Rattle.xk_base.specs.declared.limits.TheConstants.{PROGRAM_BYTES}
-use Rattle.uasm_core.specs.declared.error.AsmError.{AsmError}
-use Rattle.uasm_core.specs.declared.error.AsmError.TheVariants as error
-use Rattle.uasm_core.specs.declared.place.Place.{Place}
-use Rattle.uasm_core.specs.Views.{Fails}
-use Rattle.uasm_core.specs.Places.{start, headers_len}
-use Rattle.uasm_core.specs.Written.{Placed, Fault, SectionBytes, Program, ◌>>=◌, all_placed, all_spelled, label_place, addresses, end_of, second_pass, program_of, entry_of}
-use Rattle.uasm_core.specs.FileFormat.{file_of, elf_of}
-use Rattle.uasm_core.specs.Meaning.{Assembles}
+use Rattle.uasm_core.proofs.Prelude.{ℕ, ◌+◌, ◌<◌, ◌>>=◌, ◌^◌, ◌∙◌, ◌≡◌, ◌≤◌, addresses, all_placed, all_spelled, ap, arith, AsmError, Assembles, elf_of, end_of, entry_of, Err, Fails, Fault, file_of}
+use Rattle.uasm_core.proofs.Prelude.{headers_len, label_place, length, lines, List, Ok, Option, Place, Placed, Program, PROGRAM_BYTES, program_of, Result, second_pass, SectionBytes, start, subst, sym}
 use Rattle.uasm_core.proofs.Lines.{Known, known}
 use Rattle.uasm_core.proofs.Loads.{whole_file}
+use Rattle.uasm_core.specs.declared.error.AsmError.TheVariants as error
 
 -- the file where the second pass gives this
 abbrev pub of_second : ℕ → (List ℕ → Option Place) → Result SectionBytes Fault → Result (List ℕ) Fault

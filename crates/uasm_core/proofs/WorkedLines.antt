@@ -1,10 +1,5 @@
 -- Worked cases of tables of lines, computed.
-use Rattle.std.proofs.Common.{◌≡◌, ℕ, List, [], ◌∷◌, Ok, Err, refl}
-use Rattle.std.specs.Prelude.{codes}
-use Rattle.uasm_core.specs.declared.error.AsmErrorKind.TheVariants.{UnknownWord}
-use Rattle.uasm_core.specs.declared.source_lines.CodeLine.{CodeLine}
-use Rattle.uasm_core.specs.Line.{label_end, form_of, register_of}
-use Rattle.uasm_core.specs.LineTable.{LineTable, Label, line_table}
+use Rattle.uasm_core.proofs.Prelude.{[], ℕ, ◌∷◌, ◌≡◌, CodeLine, codes, Err, form_of, Label, label_end, line_table, LineTable, List, Ok, refl, register_of, UnknownWord}
 
 -- a line, and the addresses of its instructions
 abbrev row : (n from to : ℕ) → CodeLine

@@ -1,9 +1,5 @@
 -- Worked cases of what small sources ask for, computed.
-use Rattle.std.proofs.Common.{◌≡◌, [], ◌∷◌, Ok, Err, refl}
-use Rattle.std.specs.Prelude.{codes}
-use Rattle.uasm_core.specs.declared.error.AsmErrorKind.TheVariants.{UnknownWord, DuplicateLabel, UnknownLabel}
-use Rattle.uasm_core.specs.Line.{label_end, form_of, register_of}
-use Rattle.uasm_core.specs.Written.{written}
+use Rattle.uasm_core.proofs.Prelude.{[], ◌∷◌, ◌≡◌, codes, DuplicateLabel, Err, form_of, label_end, Ok, refl, register_of, UnknownLabel, UnknownWord, written}
 
 -- exit with 7: the number of the call, its argument, the call. No label names the entry, so it is 0
 exits : written (codes "li a7, 2\n li a0, 7 # the status\n\tecall\n")

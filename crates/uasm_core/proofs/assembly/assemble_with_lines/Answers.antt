@@ -1,14 +1,8 @@
-use Rattle.std.proofs.Common.{◌≡◌, ℕ, Option, List, map, Result, Ok, sym, ap, ◌∙◌, subst}
-use Rattle.std.specs.Str.Lines.{lines}
-use Rattle.uasm_core.specs.declared.place.Place.{Place}
-use Rattle.uasm_core.specs.Views.{seen, bytes_in, places_of}
-use Rattle.uasm_core.specs.Written as meant
-use Rattle.uasm_core.specs.Written.{Program, Fault, all_placed, all_spelled, addresses, no_bytes, entry_of, label_place, program_of}
-use Rattle.uasm_core.specs.FileFormat.{elf_of}
-use Rattle.uasm_core.specs.Meaning.{Assembles}
-use Rattle.std.proofs.lemmas.Result.{err_from_is_err_and}
+use Rattle.uasm_core.proofs.Prelude.{ℕ, ◌∙◌, ◌≡◌, addresses, all_placed, all_spelled, ap, Assembles, bytes_in, elf_of, entry_of, err_from_is_err_and, Fault, label_place, lines, List, map, no_bytes}
+use Rattle.uasm_core.proofs.Prelude.{Ok, Option, Place, places_of, Program, program_of, Result, seen, subst, sym}
 use Rattle.uasm_core.proofs.Whole.{by_second, fails_second, known_second, lengths, assembles}
 use Rattle.uasm_core.proofs.Started.{started}
+use Rattle.uasm_core.specs.Written as meant
 use Rattle.uasm_core.proofs.assembly.assemble_with_lines.Goals as goal
 
 pub elf_file-requires : goal.elf_file-requires

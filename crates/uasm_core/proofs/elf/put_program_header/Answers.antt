@@ -1,4 +1,4 @@
-use Rattle.std.proofs.Common.{◌∙◌}
+use Rattle.uasm_core.proofs.Prelude.{◌∙◌}
 use Rattle.uasm_core.proofs.Appended.{with_some}
 use Rattle.uasm_core.proofs.elf.put_program_header.Goals as goal
 

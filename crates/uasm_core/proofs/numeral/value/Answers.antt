@@ -1,7 +1,7 @@
-use Rattle.std.proofs.Common.{◌<◌, length, arith}
+use Rattle.uasm_core.proofs.Prelude.{◌<◌, arith, length}
 use Rattle.uasm_core.proofs.Digits.{capped_below, capped_past, bounded}
-use Rattle.uasm_core.proofs.numeral.value.Goals as goal
 use Rattle.uasm_core.proofs.numeral.value.Goals.{then-number-lt-CAP, else-number-lt-CAP}
+use Rattle.uasm_core.proofs.numeral.value.Goals as goal
 
 pub loop-byte-preserved : goal.loop-byte-preserved
 loop-byte-preserved c =

@@ -1,5 +1,4 @@
-use Rattle.std.proofs.Common.{take, ◌<◌, ◌^◌}
-use Rattle.uasm_core.specs.Line.{number_in}
+use Rattle.uasm_core.proofs.Prelude.{◌<◌, ◌^◌, number_in, take}
 use Rattle.uasm_core.proofs.Digits.{IsCapped}
 use Rattle.uasm_core.proofs.numeral.value.Given as goal
 

@@ -1,17 +1,8 @@
-use Rattle.std.proofs.Common.{◌≡◌, ◌+◌, ℕ, List, [], ◌∷◌, ◌++◌, map, drop, length, Option, false, refl, sym, ap, ◌∙◌, arith, length-append}
-use Rattle.std.specs.List.{flat_map}
-use Rattle.std.proofs.lemmas.List.{flat_map_more, map-append, length-map}
-use Rattle.std.proofs.lemmas.Result.{err_from_is_err_and}
-use Rattle.uasm_core.specs.declared.place.Place.{Place}
-use Rattle.uasm_core.specs.declared.source_lines.CodeLine.{CodeLine}
-use Rattle.uasm_core.specs.LineTable.{code_between, code_of}
-use Rattle.uasm_core.specs.Places.{start}
-use Rattle.uasm_core.specs.Views.{seen}
-use Rattle.uasm_core.specs.Views.{places_of}
-use Rattle.uasm_core.specs.Views.{with_label_of}
-use Rattle.uasm_core.specs.Written as meant
+use Rattle.uasm_core.proofs.Prelude.{[], ℕ, ◌++◌, ◌+◌, ◌∙◌, ◌∷◌, ◌≡◌, ap, arith, code_between, code_of, CodeLine, drop, err_from_is_err_and, false, flat_map, flat_map_more, length, length-append}
+use Rattle.uasm_core.proofs.Prelude.{length-map, List, map, map-append, Option, Place, places_of, refl, seen, start, sym, with_label_of}
 use Rattle.uasm_core.proofs.Steps.{more, fails_more, drop_here}
 use Rattle.uasm_core.proofs.OneMore.{with_more, end_more}
+use Rattle.uasm_core.specs.Written as meant
 use Rattle.uasm_core.proofs.placing.place_all.Goals as goal
 
 pub loop-index-init : goal.loop-index-init

@@ -1,10 +1,4 @@
-use Rattle.std.proofs.Common.{◌≡◌, map, drop, length}
-use Rattle.uasm_core.specs.Views.{seen}
-use Rattle.uasm_core.specs.Views.{places_of}
-use Rattle.uasm_core.specs.Written.{one_by_one, with_line, all_placed, label_place, end_of}
-use Rattle.std.specs.List.{flat_map}
-use Rattle.uasm_core.specs.LineTable.{code_of}
-use Rattle.uasm_core.specs.Places.{start}
+use Rattle.uasm_core.proofs.Prelude.{◌≡◌, all_placed, code_of, drop, end_of, flat_map, label_place, length, map, one_by_one, places_of, seen, start, with_line}
 use Rattle.uasm_core.proofs.placing.place_all.Given as goal
 
 abbrev pub invariant-loop-index : goal.invariant-loop-index

@@ -1,6 +1,5 @@
-use Rattle.std.proofs.Common.{sym, ap, ◌∙◌}
-use Rattle.std.proofs.lemmas.Result.{err_from_is_err_and}
-use Rattle.uasm_core.specs.Views.{parts, places_of, with_label_of, statement}
+use Rattle.uasm_core.proofs.Prelude.{◌∙◌, ap, err_from_is_err_and, parts, places_of, sym, with_label_of}
+use Rattle.uasm_core.specs.Views.{statement}
 use Rattle.uasm_core.proofs.LinePlaced.{is_duplicate, is_refused, is_too_long, is_placed, is_behind}
 use Rattle.uasm_core.proofs.placing.place_line.Goals as goal
 

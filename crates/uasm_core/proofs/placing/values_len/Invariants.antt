@@ -1,7 +1,4 @@
-use Rattle.std.proofs.Common.{◌≡◌, ◌*◌, ◌≤◌, map, take}
-use Rattle.std.specs.Prelude.{sum_by}
-use Rattle.uasm_core.specs.Statement.{datum_size}
-use Rattle.uasm_core.specs.Views.{datum as datum_seen}
+use Rattle.uasm_core.proofs.Prelude.{◌*◌, ◌≡◌, ◌≤◌, datum_seen, datum_size, map, sum_by, take}
 use Rattle.uasm_core.proofs.placing.values_len.Given as goal
 
 abbrev pub invariant-loop-value : goal.invariant-loop-value

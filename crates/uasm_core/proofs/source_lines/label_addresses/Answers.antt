@@ -1,11 +1,7 @@
-use Rattle.std.proofs.Common.{◌≡◌, ℕ, ◌+◌, ◌≤◌, List, ◌∷◌, ◌++◌, length, map, drop, sym, ap, ◌∙◌, append_assoc, append-nil}
-use Rattle.std.proofs.lemmas.List.{at_drop_all}
+use Rattle.uasm_core.proofs.Prelude.{ℕ, ◌++◌, ◌+◌, ◌∙◌, ◌∷◌, ◌≡◌, ◌≤◌, ap, append-nil, append_assoc, at_drop_all, drop, Label, label_of, label_seen, labels_of, length, List, map, Placed, seen, sym}
 use Rattle.std.proofs.lemmas.List.Concat.{flat_map-cons}
-use Rattle.uasm_core.specs.declared.placing.Placed as code
-use Rattle.uasm_core.specs.LineTable.{Label, label_of, label_seen, labels_of}
-use Rattle.uasm_core.specs.Views.{seen}
-use Rattle.uasm_core.specs.Written.{Placed}
 use Rattle.uasm_core.proofs.Walks.{drop_view}
+use Rattle.uasm_core.specs.declared.placing.Placed as code
 use Rattle.uasm_core.proofs.source_lines.label_addresses.Goals as goal
 
 -- the label of one line more

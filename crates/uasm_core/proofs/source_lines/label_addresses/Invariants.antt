@@ -1,6 +1,4 @@
-use Rattle.std.proofs.Common.{◌≡◌, ◌++◌, map, drop}
-use Rattle.uasm_core.specs.LineTable.{label_seen, labels_of}
-use Rattle.uasm_core.specs.Views.{seen}
+use Rattle.uasm_core.proofs.Prelude.{◌++◌, ◌≡◌, drop, label_seen, labels_of, map, seen}
 use Rattle.uasm_core.proofs.source_lines.label_addresses.Given as goal
 
 abbrev pub invariant-loop-line : goal.invariant-loop-line

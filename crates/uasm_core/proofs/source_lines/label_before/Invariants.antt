@@ -1,6 +1,4 @@
-use Rattle.std.proofs.Common.{◌≡◌, drop}
-use Rattle.std.specs.Option.{option_map}
-use Rattle.uasm_core.specs.LineTable.{label_before, or_else}
+use Rattle.uasm_core.proofs.Prelude.{◌≡◌, drop, label_before, option_map, or_else}
 use Rattle.uasm_core.proofs.source_lines.label_before.Given as goal
 
 abbrev pub invariant-loop-label : goal.invariant-loop-label

@@ -1,5 +1,4 @@
-use Rattle.std.proofs.Common.{◌≡◌, drop}
-use Rattle.uasm_core.specs.LineTable.{line_in}
+use Rattle.uasm_core.proofs.Prelude.{◌≡◌, drop, line_in}
 use Rattle.uasm_core.proofs.source_lines.line_in.Given as goal
 
 abbrev pub invariant-loop-row : goal.invariant-loop-row

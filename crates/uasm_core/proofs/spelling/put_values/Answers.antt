@@ -1,9 +1,4 @@
-use Rattle.std.proofs.Common.{map, ap}
-use Rattle.std.proofs.lemmas.Result.{err_from_is_err_and}
-use Rattle.uasm_core.specs.Views.{places_of}
-use Rattle.uasm_core.specs.Statement.{datum_bytes}
-use Rattle.uasm_core.specs.Views.{datum as datum_seen}
-use Rattle.uasm_core.specs.Written.{addresses}
+use Rattle.uasm_core.proofs.Prelude.{addresses, ap, datum_bytes, datum_seen, err_from_is_err_and, map, places_of}
 use Rattle.uasm_core.proofs.Each.{put_each-put_behind}
 use Rattle.uasm_core.proofs.Walks.{put_next, put_fails}
 use Rattle.uasm_core.proofs.spelling.put_values.Goals as goal

@@ -1,8 +1,4 @@
-use Rattle.std.proofs.Common.{◌≡◌, map, drop}
-use Rattle.uasm_core.specs.Views.{places_of}
-use Rattle.uasm_core.specs.Statement.{datum_bytes, values_bytes, put_behind}
-use Rattle.uasm_core.specs.Views.{datum as datum_seen}
-use Rattle.uasm_core.specs.Written.{addresses}
+use Rattle.uasm_core.proofs.Prelude.{◌≡◌, addresses, datum_bytes, datum_seen, drop, map, places_of, put_behind, values_bytes}
 use Rattle.uasm_core.proofs.Each.{put_each}
 use Rattle.uasm_core.proofs.spelling.put_values.Given as goal
 

@@ -1,5 +1,4 @@
-use Rattle.std.proofs.Common.{◌≡◌, ◌++◌}
-use Rattle.std.specs.Prelude.{replicate}
+use Rattle.uasm_core.proofs.Prelude.{◌++◌, ◌≡◌, replicate}
 use Rattle.uasm_core.proofs.spelling.put_zeros.Given as goal
 
 abbrev pub invariant-loop : goal.invariant-loop

@@ -1,7 +1,4 @@
-use Rattle.std.proofs.Common.{ap}
-use Rattle.std.proofs.lemmas.Result.{err_from_is_err_and}
-use Rattle.uasm_core.specs.Views.{seen, bytes_in, places_of}
-use Rattle.uasm_core.specs.Written.{spelled_line, addresses}
+use Rattle.uasm_core.proofs.Prelude.{addresses, ap, bytes_in, err_from_is_err_and, places_of, seen, spelled_line}
 use Rattle.uasm_core.proofs.Walks.{one_next, one_fails}
 use Rattle.uasm_core.proofs.spelling.spell_all.Goals as goal
 

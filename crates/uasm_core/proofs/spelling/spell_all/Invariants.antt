@@ -1,7 +1,4 @@
-use Rattle.std.proofs.Common.{◌≡◌, map, drop}
-use Rattle.uasm_core.specs.Views.{seen, bytes_in}
-use Rattle.uasm_core.specs.Views.{places_of}
-use Rattle.uasm_core.specs.Written.{one_by_one, spelled_line, all_spelled, addresses}
+use Rattle.uasm_core.proofs.Prelude.{◌≡◌, addresses, all_spelled, bytes_in, drop, map, one_by_one, places_of, seen, spelled_line}
 use Rattle.uasm_core.proofs.spelling.spell_all.Given as goal
 
 abbrev pub invariant-loop-line : goal.invariant-loop-line

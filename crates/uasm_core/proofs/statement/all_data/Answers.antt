@@ -1,8 +1,4 @@
-use Rattle.std.proofs.Common.{◌≡◌, ◌++◌, ◌∷◌, [], map, ap, ◌∙◌}
-use Rattle.std.proofs.lemmas.List.{map-append}
-use Rattle.std.proofs.lemmas.Result.{err_from_is_err_and}
-use Rattle.uasm_core.specs.Statement.{datum as datum_in}
-use Rattle.uasm_core.specs.Views.{given as given_seen, datum as datum_seen}
+use Rattle.uasm_core.proofs.Prelude.{[], ◌++◌, ◌∙◌, ◌∷◌, ◌≡◌, ap, datum_in, datum_seen, err_from_is_err_and, given_seen, map, map-append}
 use Rattle.uasm_core.proofs.Each.{each_onto_nothing}
 use Rattle.uasm_core.proofs.Walks.{each_next, each_fails}
 use Rattle.uasm_core.proofs.statement.all_data.Goals as goal

@@ -1,6 +1,4 @@
-use Rattle.std.proofs.Common.{◌≡◌, map, drop}
-use Rattle.uasm_core.specs.Statement.{datum as datum_in, each}
-use Rattle.uasm_core.specs.Views.{given as given_seen, datum as datum_seen}
+use Rattle.uasm_core.proofs.Prelude.{◌≡◌, datum_in, datum_seen, drop, each, given_seen, map}
 use Rattle.uasm_core.proofs.Each.{each_onto}
 use Rattle.uasm_core.proofs.statement.all_data.Given as goal
 

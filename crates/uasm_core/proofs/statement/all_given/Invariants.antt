@@ -1,6 +1,4 @@
-use Rattle.std.proofs.Common.{◌≡◌, map, drop}
-use Rattle.uasm_core.specs.Statement.{given as given_in, each}
-use Rattle.uasm_core.specs.Views.{given as given_seen}
+use Rattle.uasm_core.proofs.Prelude.{◌≡◌, drop, each, given_in, given_seen, map}
 use Rattle.uasm_core.proofs.Each.{each_onto}
 use Rattle.uasm_core.proofs.statement.all_given.Given as goal
 

@@ -1,7 +1,4 @@
-use Rattle.std.proofs.Common.{◌∷◌, [], map, sym}
-use Rattle.std.proofs.lemmas.Result.{err_from_is_err_and}
-use Rattle.rv64i_core.specs.declared.instruction.Instr.TheVariants.{Load}
-use Rattle.uasm_core.specs.Statement.{indirect, Code}
+use Rattle.uasm_core.proofs.Prelude.{[], ◌∷◌, Code, err_from_is_err_and, indirect, Load, map, sym}
 use Rattle.uasm_core.proofs.Ranges.{fits, fails}
 use Rattle.uasm_core.proofs.statement.load_statement.Goals as goal
 

@@ -1,7 +1,4 @@
-use Rattle.std.proofs.Common.{◌+◌, drop}
-use Rattle.std.proofs.lemmas.Result.{err_from_is_err_and}
-use Rattle.uasm_core.specs.Line.{text_from}
-use Rattle.uasm_core.specs.declared.scan.Quote.TheVariants.{Inside}
+use Rattle.uasm_core.proofs.Prelude.{◌+◌, drop, err_from_is_err_and, Inside, text_from}
 use Rattle.uasm_core.proofs.Each.{text_behind_nothing}
 use Rattle.uasm_core.proofs.Walks.{text_next, text_fails, text_closed, text_open}
 use Rattle.uasm_core.proofs.text.text_behind.Goals as goal

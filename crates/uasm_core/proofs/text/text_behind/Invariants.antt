@@ -1,7 +1,4 @@
-use Rattle.std.proofs.Common.{◌≡◌, drop}
-use Rattle.uasm_core.specs.Line.{text_from}
-use Rattle.uasm_core.specs.Views.{text_behind}
-use Rattle.uasm_core.specs.declared.scan.Quote.TheVariants.{Inside}
+use Rattle.uasm_core.proofs.Prelude.{◌≡◌, drop, Inside, text_behind, text_from}
 use Rattle.uasm_core.proofs.text.text_behind.Given as goal
 
 abbrev pub invariant-loop-byte : goal.invariant-loop-byte
