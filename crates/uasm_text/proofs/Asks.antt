@@ -1,36 +1,24 @@
 -- What the line of an instruction asks for.
-use Rattle.std.proofs.Common.{◌≡◌, ℕ, ◌^◌, ◌<◌, Bool, true, false, cond, ◌&&◌, eqb, List, [], ◌∷◌, decimal, Some, Result, Ok, Err, refl, sym, ap, ◌∙◌, eqb-true}
-use Rattle.std.proofs.lemmas.Bool.{and_parts}
-use Rattle.rv64i_core.specs.Table.{IsInLayout}
-use Rattle.rv64i_core.specs.declared.instruction.Instr.{Instr}
-use Rattle.rv64i_core.specs.declared.instruction.Instr.TheVariants.{Lui, Auipc, Jal, Jalr, Branch, Load, Store, OpImm, ShiftImm, Op, AddImmW, ShiftImmW, OpW, Fence, Ecall, Ebreak}
+use Rattle.uasm_text.proofs.Prelude.{[], ℕ, ◌&&◌, ◌<◌, ◌>>=◌, ◌^◌, ◌∙◌, ◌∷◌, ◌≡◌, Add, Addi, AddImmW, Addw, And, and_parts, Andi, ap, Arithmetic, asked, Auipc, BadOperand, Beq, Bge, Bgeu, Blt, Bltu}
+use Rattle.uasm_text.proofs.Prelude.{Bne, Bool, Branch, Code, cond, decimal, Ebreak, Ecall, eqb, eqb-true, Err, false, Fence, form_of, hexadecimal, immediate, indirect, Instr, is_label, is_the_fence}
+use Rattle.uasm_text.proofs.Prelude.{is_within, IsInLanguage, IsInLayout, Jal, Jalr, Lb, Lbu, Ld, Left, Lh, Lhu, List, Load, low_bits, Lui, Lw, Lwu, name, Number, number_of, Ok, Op, operands, OpImm}
+use Rattle.uasm_text.proofs.Prelude.{OpW, Or, Ori, OutOfRange, place, ranged, read_as, refl, register, register_label, register_number, registers, Result, Right, Sb, Sd, Sh, ShiftImm, ShiftImmW}
+use Rattle.uasm_text.proofs.Prelude.{signed_number, Sll, Sllw, Slt, Slti, Sltiu, Sltu, Some, Sra, Sraw, Srl, Srlw, Statement, statement, Store, Sub, Subw, Sw, sym, text_section, text_with, true, Xor}
+use Rattle.uasm_text.proofs.Prelude.{Xori}
 use Rattle.rv64i_core.specs.declared.instruction.BranchOp.{BranchOp}
-use Rattle.rv64i_core.specs.declared.instruction.BranchOp.TheVariants.{Beq, Bne, Blt, Bge, Bltu, Bgeu}
 use Rattle.rv64i_core.specs.declared.instruction.LoadOp.{LoadOp}
-use Rattle.rv64i_core.specs.declared.instruction.LoadOp.TheVariants.{Lb, Lh, Lw, Ld, Lbu, Lhu, Lwu}
 use Rattle.rv64i_core.specs.declared.instruction.StoreOp.{StoreOp}
-use Rattle.rv64i_core.specs.declared.instruction.StoreOp.TheVariants.{Sb, Sh, Sw, Sd}
 use Rattle.rv64i_core.specs.declared.instruction.ImmOp.{ImmOp}
-use Rattle.rv64i_core.specs.declared.instruction.ImmOp.TheVariants.{Addi, Slti, Sltiu, Xori, Ori, Andi}
 use Rattle.rv64i_core.specs.declared.instruction.ShiftOp.{ShiftOp}
-use Rattle.rv64i_core.specs.declared.instruction.ShiftOp.TheVariants.{Left, Right, Arithmetic}
 use Rattle.rv64i_core.specs.declared.instruction.RegOp.{RegOp}
-use Rattle.rv64i_core.specs.declared.instruction.RegOp.TheVariants.{Add, Sub, Sll, Slt, Sltu, Xor, Srl, Sra, Or, And}
 use Rattle.rv64i_core.specs.declared.instruction.WordOp.{WordOp}
-use Rattle.rv64i_core.specs.declared.instruction.WordOp.TheVariants.{Addw, Subw, Sllw, Srlw, Sraw}
 use Rattle.uasm_core.specs.declared.error.AsmErrorKind.{AsmErrorKind}
-use Rattle.uasm_core.specs.declared.error.AsmErrorKind.TheVariants.{BadOperand, OutOfRange}
-use Rattle.uasm_core.specs.Kinds.{text_section, Number}
-use Rattle.uasm_core.specs.Line.{form_of, number_of, is_label}
-use Rattle.uasm_core.specs.Statement as meant
-use Rattle.uasm_core.specs.Statement.{Statement, Code, statement, registers, immediate, indirect, register_number, register_label, ranged, low_bits, is_within, ◌>>=◌}
-use Rattle.uasm_text.specs.Text as text
-use Rattle.uasm_text.specs.Text.{register, signed_number, hexadecimal, place, is_the_fence, operands, name, text_with}
-use Rattle.uasm_text.specs.Read.{asked, read_as, IsInLanguage}
 use Rattle.uasm_text.proofs.RegisterNames.{register_back, register_operand}
 use Rattle.uasm_text.proofs.Numbers.{Reads, signed_read, places_read, word_places_read, upper_read, signed_operand, signed_no_bracket}
 use Rattle.uasm_text.proofs.Locations.{place_read}
 use Rattle.uasm_text.proofs.Pieces.{is_word, parts_with}
+use Rattle.uasm_core.specs.Statement as meant
+use Rattle.uasm_text.specs.Text as text
 
 -- Words: what each asks for with its operands.
 

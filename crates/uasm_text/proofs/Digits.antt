@@ -1,13 +1,10 @@
 -- The digits of a number: the last one stands behind those of the rest, and there are few of them.
-use Rattle.std.proofs.Common.{◌≡◌, ℕ, zero, suc, ◌+◌, ◌*◌, ◌/◌, ◌%◌, ◌^◌, ◌<◌, ◌≤◌, List, []}
-use Rattle.std.proofs.Common.{◌∷◌, ◌++◌, length, cond, false, refl, sym, ap, ◌∙◌, ⊎_elim, append_assoc, arith, length-append}
-use Rattle.std.proofs.Common.{eq-eqb, ne_eqb, pow-suc, lt_of_lt_of_le, mod-eq_of_lt, div-le_self, one-mul, mul-le-mul_left, Bool, true, ◌&&◌, get_or, codes}
-use Rattle.std.proofs.lemmas.Bool.{cases_lt, and_parts}
+use Rattle.uasm_text.proofs.Prelude.{[], ℕ, ⊎_elim, ◌%◌, ◌&&◌, ◌*◌, ◌++◌, ◌+◌, ◌/◌, ◌<◌, ◌^◌, ◌∙◌, ◌∷◌, ◌≡◌, ◌≤◌, and_parts, ap, append_assoc, arith, Bool, cases_lt, codes, cond, digit_glyph, digits}
+use Rattle.uasm_text.proofs.Prelude.{digits_onto, div-eq_of_lt, div-le_self, eq-eqb, false, get_or, length, length-append, List, lt_of_lt_of_le, mod-eq_of_lt, mul-le-mul_left, ne_eqb, one-mul}
+use Rattle.uasm_text.proofs.Prelude.{pow-le-pow_left, pow-suc, pow-zero, refl, suc, sym, true, zero}
 use Rattle.std.proofs.lemmas.Nat.{le-div, div_below}
-use Rattle.std.proofs.Math.Nat.{pow-le-pow_left, pow-zero, div-eq_of_lt}
 use Rattle.std.specs.Str.{bytes_eq}
 use Rattle.std.specs.Cmp.Lexicographic.{same_text}
-use Rattle.std.specs.Fmt.{digit_glyph, digits_onto, digits}
 
 -- the last digit
 abbrev last : ℕ → ℕ → ℕ

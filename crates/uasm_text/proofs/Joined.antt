@@ -1,8 +1,6 @@
 -- A line while its operands are put behind one another.
-use Rattle.std.proofs.Common.{◌≡◌, ℕ, ◌+◌, ◌<◌, ◌≤◌, List, [], ◌∷◌, ◌++◌, length, take, get_or, codes, flat_map, sym, ap, ◌∙◌, append_assoc, arith, length-append}
-use Rattle.std.proofs.lemmas.List.Folds.{length-flat_map-take}
-use Rattle.std.proofs.lemmas.List.{flat_map_more, take_more}
-use Rattle.uasm_text.specs.Text.{line}
+use Rattle.uasm_text.proofs.Prelude.{[], ℕ, ◌++◌, ◌+◌, ◌<◌, ◌∙◌, ◌∷◌, ◌≡◌, ◌≤◌, ap, append_assoc, arith, codes, flat_map, flat_map_more, get_or, length, length-append, length-flat_map-take, line}
+use Rattle.uasm_text.proofs.Prelude.{List, sym, take, take_more}
 
 -- a comma and a space before an operand
 abbrev pub sep : List ℕ → List ℕ

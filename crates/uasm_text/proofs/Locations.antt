@@ -1,13 +1,7 @@
 -- A place in memory, number(register), and that the assembler reads its two parts.
-use Rattle.std.proofs.Common.{◌≡◌, ℕ, ◌+◌, ◌-◌, ◌<◌, true, cond, not, ◌&&◌, eqb, ltb, List, [], ◌∷◌, ◌++◌, length}
-use Rattle.std.proofs.Common.{take, drop, get_or, codes, Option, Some, None, refl, sym, ap, ◌∙◌, append_assoc, arith, lt-ltb, length-append}
-use Rattle.std.specs.List.{list_all, prefix_len}
-use Rattle.std.proofs.lemmas.Bool.{and_from}
-use Rattle.std.proofs.lemmas.List.Folds.{list_all-append}
-use Rattle.std.proofs.lemmas.List.{get_or-append-add}
-use Rattle.std.proofs.Math.Seq.{take-append_seam, drop-append_seam}
-use Rattle.uasm_core.specs.Line.{left_bracket, right_bracket, trimmed, place_of}
-use Rattle.uasm_text.specs.Text.{register, signed_number, place}
+use Rattle.uasm_text.proofs.Prelude.{[], ℕ, ◌&&◌, ◌++◌, ◌+◌, ◌-◌, ◌<◌, ◌∙◌, ◌∷◌, ◌≡◌, and_from, ap, append_assoc, arith, codes, cond, drop, drop-append_seam, eqb, get_or, get_or-append-add}
+use Rattle.uasm_text.proofs.Prelude.{left_bracket, length, length-append, List, list_all, list_all-append, lt-ltb, ltb, None, not, Option, place, place_of, prefix_len, refl, register, right_bracket}
+use Rattle.uasm_text.proofs.Prelude.{signed_number, Some, sym, take, take-append_seam, trimmed, true}
 use Rattle.uasm_text.proofs.Pieces.{is_plain, is_operand, operand_plain, prefix_all, trimmed_operand}
 
 -- a number and a register in brackets

@@ -1,18 +1,10 @@
 -- The texts of numbers, and that the assembler reads each as its number.
-use Rattle.std.proofs.Common.{◌≡◌, ℕ, ◌+◌, ◌-◌, ◌*◌, ◌^◌, ◌<◌, ◌≤◌, Bool, true, false, cond, not, ◌&&◌}
-use Rattle.std.proofs.Common.{eqb, ltb, min, List, [], ◌∷◌, ◌++◌, length, fold, decimal, codes, Some, None, option_map}
-use Rattle.std.proofs.Common.{nat_eq, refl, ap, ◌∙◌, arith, ne_eqb, lt-ltb, le-leb, ltb-true, ltb-false, lt_of_lt_of_le, mod-eq_of_lt}
-use Rattle.std.specs.List.{list_all, starts_with}
+use Rattle.uasm_text.proofs.Prelude.{[], ℕ, ◌&&◌, ◌*◌, ◌++◌, ◌+◌, ◌-◌, ◌<◌, ◌^◌, ◌∙◌, ◌∷◌, ◌≡◌, ◌≤◌, and_from, and_right, ap, arith, Bool, codes, cond, decimal, digits, digits_of, eqb, false, fold}
+use Rattle.uasm_text.proofs.Prelude.{has_sign, hexadecimal, is_within, le-leb, length, List, list_all, low_bits, lt-ltb, lt_of_lt_of_le, ltb, ltb-false, ltb-true, magnitude_of, min, mod-eq_of_lt}
+use Rattle.uasm_text.proofs.Prelude.{nat_eq, ne_eqb, None, not, Number, number_in, number_of, option_map, pow-le-pow_left, refl, signed, signed_number, Some, starts_with, true}
 use Rattle.std.specs.Char.{digit_value, is_digit}
-use Rattle.std.specs.Fmt.{digits}
 use Rattle.std.specs.Str.Parse.{AllDigits, IsNumeral, digits_value, digits_value_after}
-use Rattle.std.proofs.lemmas.Bool.{and_from, and_right}
 use Rattle.std.proofs.lemmas.Fmt.{digits_is_IsNumeral}
-use Rattle.std.proofs.Math.Nat.{pow-le-pow_left}
-use Rattle.uasm_core.specs.Kinds.{Number}
-use Rattle.uasm_core.specs.Line.{number_in, digits_of, magnitude_of, signed, has_sign, number_of}
-use Rattle.uasm_core.specs.Statement.{low_bits, is_within}
-use Rattle.uasm_text.specs.Text.{hexadecimal, signed_number}
 use Rattle.uasm_text.proofs.Pieces.{is_plain, is_operand}
 
 -- Digits.

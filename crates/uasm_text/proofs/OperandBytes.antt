@@ -1,13 +1,8 @@
 -- The operands of an instruction are operands by their bytes.
-use Rattle.std.proofs.Common.{◌≡◌, ℕ, ◌^◌, ◌<◌, Bool, true, false, cond, eqb, List, [], ◌∷◌, decimal, refl, sym, ap, ◌∙◌, arith, ne_eqb, true≢false}
-use Rattle.std.specs.List.{list_all}
-use Rattle.std.proofs.lemmas.Bool.{and_from, and_parts, agree_below_at}
+use Rattle.uasm_text.proofs.Prelude.{[], ℕ, ◌<◌, ◌^◌, ◌∙◌, ◌∷◌, ◌≡◌, accesses, AddImmW, agree_below_at, and_from, and_parts, ap, arith, Auipc, Bool, Branch, cond, decimal, Ebreak, Ecall, eqb, false}
+use Rattle.uasm_text.proofs.Prelude.{Fence, fence_operands, hexadecimal, Instr, is_label, is_letter, is_name_byte, is_the_fence, IsInLayout, Jal, Jalr, List, list_all, Load, Lui, ne_eqb, Op, operands}
+use Rattle.uasm_text.proofs.Prelude.{OpImm, OpW, place, refl, register, ShiftImm, ShiftImmW, signed_number, Store, sym, true, true≢false}
 use Rattle.rv64i_core.specs.Layout.{bits}
-use Rattle.rv64i_core.specs.Table.{IsInLayout}
-use Rattle.rv64i_core.specs.declared.instruction.Instr.{Instr}
-use Rattle.rv64i_core.specs.declared.instruction.Instr.TheVariants.{Lui, Auipc, Jal, Jalr, Branch, Load, Store, OpImm, ShiftImm, Op, AddImmW, ShiftImmW, OpW, Fence, Ecall, Ebreak}
-use Rattle.uasm_core.specs.Line.{is_letter, is_name_byte, is_label}
-use Rattle.uasm_text.specs.Text.{register, signed_number, hexadecimal, place, accesses, fence_operands, is_the_fence, operands}
 use Rattle.uasm_text.proofs.RegisterNames.{register_operand}
 use Rattle.uasm_text.proofs.Numbers.{signed_operand, decimal_operand, hexadecimal_operand}
 use Rattle.uasm_text.proofs.Locations.{place_operand}

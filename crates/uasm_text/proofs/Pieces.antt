@@ -1,18 +1,10 @@
 -- How the assembler reads the parts of a line: the word, and behind it the operands that a comma and a space keep apart.
-use Rattle.std.proofs.Common.{◌≡◌, ℕ, zero, suc, ◌+◌, ◌-◌, ◌<◌, Bool, true, false, cond, not, ◌&&◌}
-use Rattle.std.proofs.Common.{List, [], ◌∷◌, ◌++◌, length, take, drop, get_or, map, flat_map, eqb, None, Some}
-use Rattle.std.proofs.Common.{reverse, codes, refl, sym, ap, ◌∙◌, ⊎_elim, true≢false, append_assoc, append-nil, arith, ne_eqb, length-take}
-use Rattle.std.specs.List.{prefix_len, suffix_len, list_all, slice_split}
-use Rattle.std.specs.Str.Lines.{lines, lines_of_parts}
-use Rattle.std.proofs.lemmas.List.Folds.{list_all-append}
-use Rattle.std.proofs.lemmas.Bool.{and_parts, and_from, and_right, or_left, not-true, cases_lt}
+use Rattle.uasm_text.proofs.Prelude.{[], ℕ, ⊎_elim, ◌&&◌, ◌++◌, ◌+◌, ◌-◌, ◌<◌, ◌∙◌, ◌∷◌, ◌≡◌, and_from, and_parts, and_right, ap, append-nil, append_assoc, arith, Bool, cases_lt, code_from, codes}
+use Rattle.uasm_text.proofs.Prelude.{colon, comma, cond, drop, drop-append_seam, eqb, false, flat_map, get_or, get_or-append-add, get_or-reverse, hash_mark, is_blank, is_label, is_letter}
+use Rattle.uasm_text.proofs.Prelude.{is_name_byte, is_word_byte, label_end, length, length-take, line, line_feed, lines, lines_of_parts, List, list_all, list_all-append, map, ne_eqb, None, not}
+use Rattle.uasm_text.proofs.Prelude.{not-true, onto_first, operands_of, or_left, outside, Parts, parts_by, parts_of, pieces_from, prefix_len, quote_mark, refl, reverse, slice_split, Some, space, suc}
+use Rattle.uasm_text.proofs.Prelude.{suffix_len, sym, take, take-append_seam, take-length, trimmed, true, true≢false, without_front_blanks, zero}
 use Rattle.std.proofs.lemmas.List.Sums.{suffix_len_is, prefix_len_passes}
-use Rattle.std.proofs.lemmas.List.{get_or-append-add, get_or-reverse}
-use Rattle.uasm_text.specs.Text.{line}
-use Rattle.std.proofs.Math.Seq.{take-append_seam, drop-append_seam, take-length}
-use Rattle.uasm_core.specs.Kinds.{outside}
-use Rattle.uasm_core.specs.Line.{Parts, is_blank, is_letter, is_name_byte, is_word_byte, is_label, quote_mark, hash_mark, comma, line_feed, colon}
-use Rattle.uasm_core.specs.Line.{space, code_from, pieces_from, onto_first, trimmed, without_front_blanks, operands_of, parts_by, label_end, parts_of}
 
 -- Bytes.
 

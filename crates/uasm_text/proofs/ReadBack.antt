@@ -1,22 +1,13 @@
 -- The text of an instruction is read back.
-use Rattle.std.proofs.Common.{◌≡◌, ℕ, ◌+◌, ◌-◌, ◌*◌, ◌%◌, ◌^◌, ◌<◌, Bool, true, false, cond, ltb, List, []}
-use Rattle.std.proofs.Common.{◌∷◌, Some, None, Ok, Err, refl, sym, ap, ◌∙◌, arith, append-nil, le-leb, eq-eqb, ltb-true, ltb-false}
-use Rattle.std.specs.Str.Lines.{lines}
-use Rattle.std.proofs.lemmas.Bool.{lt-leb}
+use Rattle.uasm_text.proofs.Prelude.{[], ℕ, ◌%◌, ◌*◌, ◌+◌, ◌-◌, ◌<◌, ◌>>=◌, ◌^◌, ◌∙◌, ◌∷◌, ◌≡◌, AddImmW, address_of, ap, append-nil, arith, asked, Auipc, BadOperand, Bool, Branch, Code, code_bytes}
+use Rattle.uasm_text.proofs.Prelude.{cond, distance, Ebreak, Ecall, eq-eqb, Err, false, Fence, hexadecimal, Instr, IsInLanguage, IsInLayout, Jal, Jalr, LabelledIsRead, Labels, le-leb, Leads, LeadsTo}
+use Rattle.uasm_text.proofs.Prelude.{lines, List, Load, lt-leb, ltb, ltb-false, ltb-true, Lui, name, None, Ok, Op, operands, OpImm, OpW, parts_of, program_of_word, read_as, refl, ShiftImm, ShiftImmW}
+use Rattle.uasm_text.proofs.Prelude.{ShownIsProgram, ShownIsRead, Some, spelled, Stands, statement, Store, sym, target_of, TargetIsShown, text_at, text_section, text_with, true, UnknownLabel, word}
 use Rattle.std.proofs.lemmas.Option.{same_Some}
 use Rattle.xk_base.specs.Words.{le_bytes}
 use Rattle.rv64i_core.specs.Registers.{add}
 use Rattle.rv64i_core.specs.Step.{extended}
-use Rattle.rv64i_core.specs.Table.{word, IsInLayout}
-use Rattle.rv64i_core.specs.declared.instruction.Instr.{Instr}
-use Rattle.rv64i_core.specs.declared.instruction.Instr.TheVariants.{Lui, Auipc, Jal, Jalr, Branch, Load, Store, OpImm, ShiftImm, Op, AddImmW, ShiftImmW, OpW, Fence, Ecall, Ebreak}
-use Rattle.uasm_core.specs.declared.error.AsmErrorKind.TheVariants.{BadOperand, UnknownLabel}
-use Rattle.uasm_core.specs.Kinds.{text_section}
-use Rattle.uasm_core.specs.Line.{parts_of}
-use Rattle.uasm_core.specs.Statement.{Code, Labels, address_of, distance, spelled, statement, code_bytes, ◌>>=◌}
 use Rattle.uasm_core.specs.Written.{written}
-use Rattle.uasm_text.specs.Text.{operands, name, text_with, target_of, text_at, hexadecimal}
-use Rattle.uasm_text.specs.Read.{IsInLanguage, Leads, LeadsTo, Stands, asked, LabelledIsRead, TargetIsShown, read_as, ShownIsRead, program_of_word, ShownIsProgram}
 use Rattle.uasm_text.proofs.Pieces.{is_operand, parts_with, parts_of_line, line_is_one}
 use Rattle.uasm_text.proofs.Asks.{each_word, each_asks, asked_by, shown_by}
 use Rattle.uasm_text.proofs.OperandBytes.{label_operand, each_operand}

@@ -1,10 +1,7 @@
 -- The names of registers, and that the assembler reads each as its register.
-use Rattle.std.proofs.Common.{◌≡◌, ℕ, zero, suc, ◌+◌, ◌<◌, ◌≤◌, Bool, true, false, ◌&&◌, eqb, leb, List, [], ◌∷◌, length, get_or, Option, Some, None, refl, ap, ◌∙◌, arith, leb-true, eqb-true}
-use Rattle.std.specs.List.{list_all}
-use Rattle.std.proofs.lemmas.Bool.{and_parts}
+use Rattle.uasm_text.proofs.Prelude.{[], ℕ, ◌&&◌, ◌+◌, ◌<◌, ◌∙◌, ◌∷◌, ◌≡◌, ◌≤◌, and_parts, ap, arith, Bool, eqb, eqb-true, false, get_or, leb, leb-true, length, List, list_all, looked_up, None}
+use Rattle.uasm_text.proofs.Prelude.{Option, refl, register, register_names, register_of, Some, suc, true, zero}
 use Rattle.uasm_core.specs.WordTable.{register_table}
-use Rattle.uasm_core.specs.Line.{looked_up, register_of}
-use Rattle.uasm_text.specs.Text.{register_names, register}
 use Rattle.uasm_text.proofs.Pieces.{is_operand}
 
 -- a test that all of a list pass, at one of them

@@ -1,11 +1,6 @@
 -- Worked readings: where an offset leads, what the language has a line for, and what shown lines are read as.
-use Rattle.std.proofs.Common.{◌≡◌, codes, [], ◌∷◌, refl, arith, Ok, Err}
-use Rattle.rv64i_core.specs.declared.instruction.Instr.TheVariants.{Jal, Branch, Fence, Op, Ecall}
-use Rattle.rv64i_core.specs.declared.instruction.BranchOp.TheVariants.{Beq}
-use Rattle.rv64i_core.specs.declared.instruction.RegOp.TheVariants.{Add}
-use Rattle.uasm_core.specs.declared.error.AsmErrorKind.TheVariants.{BadOperand}
-use Rattle.uasm_core.specs.Statement.{Code, BranchTo, JumpTo}
-use Rattle.uasm_text.specs.Read.{IsInLanguage, Leads, LeadsTo, asked, read_as}
+use Rattle.uasm_text.proofs.Prelude.{[], ◌∷◌, ◌≡◌, Add, arith, asked, BadOperand, Beq, Branch, BranchTo, Code, codes, Ecall, Err, Fence, IsInLanguage, Jal, JumpTo, Leads, LeadsTo, Ok, Op, read_as}
+use Rattle.uasm_text.proofs.Prelude.{refl}
 
 -- an offset of 16 half words leads 32 bytes ahead
 leads_ahead : Leads 12 0x20 16 0x40

@@ -1,16 +1,6 @@
 -- Worked texts: a word of each form, as the manual writes it, and what is shown at an address.
-use Rattle.std.proofs.Common.{◌≡◌, codes, refl}
-use Rattle.std.specs.Prelude.{Some, None}
-use Rattle.std.specs.Fmt.{digits}
-use Rattle.rv64i_core.specs.declared.instruction.Instr.TheVariants.{Lui, Auipc, Jal, Jalr, Branch, Load, Store, OpImm, ShiftImm, Op, AddImmW, ShiftImmW, OpW, Fence, Ecall, Ebreak}
-use Rattle.rv64i_core.specs.declared.instruction.BranchOp.TheVariants.{Beq, Bgeu}
-use Rattle.rv64i_core.specs.declared.instruction.LoadOp.TheVariants.{Ld, Lbu}
-use Rattle.rv64i_core.specs.declared.instruction.StoreOp.TheVariants.{Sd, Sb}
-use Rattle.rv64i_core.specs.declared.instruction.ImmOp.TheVariants.{Addi, Sltiu}
-use Rattle.rv64i_core.specs.declared.instruction.ShiftOp.TheVariants.{Left, Arithmetic}
-use Rattle.rv64i_core.specs.declared.instruction.RegOp.TheVariants.{Add, Sub}
-use Rattle.rv64i_core.specs.declared.instruction.WordOp.TheVariants.{Addw, Sraw}
-use Rattle.uasm_text.specs.Text.{register, text_with, text_at, target_of}
+use Rattle.uasm_text.proofs.Prelude.{◌≡◌, Add, Addi, AddImmW, Addw, Arithmetic, Auipc, Beq, Bgeu, Branch, codes, digits, Ebreak, Ecall, Fence, Jal, Jalr, Lbu, Ld, Left, Load, Lui, None, Op, OpImm}
+use Rattle.uasm_text.proofs.Prelude.{OpW, refl, register, Sb, Sd, ShiftImm, ShiftImmW, Sltiu, Some, Sraw, Store, Sub, target_of, text_at, text_with}
 
 -- R: add x10, x11, x12, and sub x0, x8, x31
 add : text_at 0 (Op Add 10 11 12) ≡ codes "add a0, a1, a2"

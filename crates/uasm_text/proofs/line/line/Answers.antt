@@ -1,5 +1,4 @@
-use Rattle.std.proofs.Common.{ℕ, ◌<◌, [], length, map, get_or, sym, ap, arith, List, Bor}
-use Rattle.std.proofs.lemmas.List.{get_or-map, length-map}
+use Rattle.uasm_text.proofs.Prelude.{[], ℕ, ◌<◌, ap, arith, Bor, get_or, get_or-map, length, length-map, List, map, sym}
 use Rattle.uasm_text.proofs.Joined.{room_next, one_more}
 use Rattle.uasm_text.proofs.line.line.Goals as goal
 

@@ -1,4 +1,4 @@
-use Rattle.std.proofs.Common.{◌≡◌, map, take}
+use Rattle.uasm_text.proofs.Prelude.{◌≡◌, map, take}
 use Rattle.uasm_text.proofs.Joined.{so_far}
 use Rattle.uasm_text.proofs.line.line.Given as goal
 

@@ -1,5 +1,4 @@
-use Rattle.std.proofs.Common.{◌≡◌, ap, arith, length, rules}
-use Rattle.uasm_text.specs.Text.{register}
+use Rattle.uasm_text.proofs.Prelude.{◌≡◌, ap, arith, length, register, rules}
 use Rattle.uasm_text.proofs.RegisterNames.{short_register}
 use Rattle.uasm_text.proofs.names.register_name.Goals as goal
 

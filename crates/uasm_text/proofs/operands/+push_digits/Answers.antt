@@ -1,4 +1,4 @@
-use Rattle.std.proofs.Common.{◌++◌, length, sym, ap, ◌∙◌, arith, length-append}
+use Rattle.uasm_text.proofs.Prelude.{◌++◌, ◌∙◌, ap, arith, length, length-append, sym}
 use Rattle.uasm_text.proofs.Digits.{one_digit, rest_less, room_last, then_last}
 use Rattle.uasm_text.proofs.operands.+push_digits.Goals as goal
 

@@ -1,4 +1,4 @@
-use Rattle.std.proofs.Common.{arith}
+use Rattle.uasm_text.proofs.Prelude.{arith}
 use Rattle.uasm_text.proofs.Digits.{glyph_in}
 use Rattle.uasm_text.proofs.operands.digit.Goals as goal
 

@@ -1,4 +1,4 @@
-use Rattle.std.proofs.Common.{ap, arith, length, length-append}
+use Rattle.uasm_text.proofs.Prelude.{ap, arith, length, length-append}
 use Rattle.uasm_text.proofs.Digits.{few_digits}
 use Rattle.uasm_text.proofs.operands.hexadecimal.Goals as goal
 

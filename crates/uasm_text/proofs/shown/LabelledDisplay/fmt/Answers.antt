@@ -1,6 +1,5 @@
-use Rattle.std.proofs.Common.{◌≡◌, [], ◌++◌, refl, sym, ap, ◌∙◌}
+use Rattle.uasm_text.proofs.Prelude.{[], ◌++◌, ◌∙◌, ◌≡◌, ap, refl, sym, text_with}
 use Rattle.std.proofs.lemmas.Grind.{put_two}
-use Rattle.uasm_text.specs.Text.{text_with}
 use Rattle.uasm_text.proofs.shown.LabelledDisplay.fmt.Goals as goal
 
 pub returns-clause-writes : goal.returns-clause-writes
