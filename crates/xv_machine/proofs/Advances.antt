@@ -1,26 +1,10 @@
 -- Steps of the process that runs, as the machine sees them.
-use Rattle.std.proofs.Common.{◌≡◌, ℕ, List, [], ◌∷◌, replicate, Option, Some, None, refl, sym, ap, ◌∙◌, subst}
-use Rattle.std.specs.Prelude.{ℤ}
-use Rattle.hart_core.specs.declared.hart.Hart.{Hart}
-use Rattle.circular_buffer.specs.Buffer.{Buffer}
-use Rattle.kernel_spec.specs.runs.Run as runs
-use Rattle.kernel_spec.specs.steps.Own.{Answer}
-use Rattle.kernel_spec.specs.runs.Run.{World, Run, Step_of, Idle, Halted}
-use Rattle.kernel_spec.specs.waking.Wakes.{Promised, IsPromised}
-use Rattle.kcall_core.specs.Kernel.{frame_count, state_of, pid_now}
-use Rattle.kcall_core.specs.Machine.{turns_of, world_of}
-use Rattle.kcall_core.specs.Whole.{IsWhole}
-use Rattle.kcall_core.specs.declared.kernel.Kernel.{Kernel}
-use Rattle.kernel_spec.proofs.runs.Boot.{promised_runs_join}
-use Rattle.xv_machine.specs.declared.trace.Note.{Note}
+use Rattle.xv_machine.proofs.Prelude.{[], ℕ, ℤ, ◌∙◌, ◌∷◌, ◌≡◌, Advanced, Answer, ap, Buffer, Did, done_by, frame_count, Halted, halted_by, Hart, Idle, IsEnd, IsHalted, IsPromised, IsWhole, Kernel}
+use Rattle.xv_machine.proofs.Prelude.{List, Meaning, meaning_of, None, Note, Option, outcome_of, pid_now, Promised, promised_runs_join, refl, replicate, Run, runs_made, Some, state_of, Step_of, subst}
+use Rattle.xv_machine.proofs.Prelude.{sym, turns_of, World, world_of}
 use Rattle.xv_machine.specs.declared.event.Outcome.{Outcome}
-use Rattle.xv_machine.specs.Drives.{done_by}
-use Rattle.xv_machine.specs.Events.{outcome_of, halted_by}
-use Rattle.xv_machine.specs.Machine.{meaning_of}
-use Rattle.xv_machine.specs.Meaning.{Meaning}
-use Rattle.xv_machine.specs.Sound.{IsHalted}
-use Rattle.xv_machine.specs.Steps.{Did, Advanced, runs_made, IsEnd}
 use Rattle.xv_machine.proofs.Runs.{current-pid, not-halted, run-step, run-halts}
+use Rattle.kernel_spec.specs.runs.Run as runs
 
 abbrev Steps : Type 0
 Steps = List (runs.Event × runs.Outcome)

@@ -1,18 +1,12 @@
 -- The frames of a map by place are those of the list of them, each as often.
-use Rattle.std.proofs.Common.{◌≡◌, ◌≢◌, ℕ, zero, suc, ◌+◌, cond, List, [], ◌∷◌, length, map, Option, Some, None, refl, sym, ap, ◌∙◌, arith}
-use Rattle.std.proofs.lemmas.List.{length-map}
+use Rattle.xv_machine.proofs.Prelude.{[], ℕ, ◌+◌, ◌∙◌, ◌∷◌, ◌≡◌, ◌≢◌, ap, arith, at, cond, copies, copies-cons, copies-nil, empty, entries, entries-insert, FinMap, gathered-get, get, get-entries}
+use Rattle.xv_machine.proofs.Prelude.{insert, is_eq, le-ltb, len, len-empty, len-entries, length, length-map, length-same, List, map, nat_cmp, None, none-some, Option, refl, Some, suc, sym, values}
+use Rattle.xv_machine.proofs.Prelude.{zero}
 use Rattle.std.specs.declared.cmp.Ordering.{Ordering}
 use Rattle.std.specs.declared.cmp.Ordering.TheVariants.{Less, Equal, Greater}
-use Rattle.std.specs.Ordering.{nat_cmp, is_eq}
 use Rattle.std.specs.Cmp.{nat_cmp_total}
-use Rattle.std.specs.FinMap.{FinMap, empty, insert, get, len, values, entries, get-entries, len-entries, len-empty, entries-insert}
 use Rattle.std.specs.FinMap.Entries.{find, put, by_order}
-use Rattle.std.proofs.lemmas.Option.{none-some}
-use Rattle.std.proofs.lemmas.Bool.{le-ltb}
-use Rattle.xk_base.specs.Frames.{copies}
-use Rattle.xk_base.proofs.Frames.{at, copies-nil, copies-cons, length-same}
 use Rattle.sv39_core.specs.Listed.{push_some, listed, insert_some, gathered}
-use Rattle.xk_base.proofs.Gathered.{gathered-get}
 
 -- ---- one frame more
 

@@ -1,21 +1,11 @@
 -- The tables and pages of a memory, by their places, are those that its image takes.
-use Rattle.std.proofs.Common.{◌≡◌, ℕ, ◌+◌, ◌^◌, ◌<◌, ◌≤◌, Bool, true, false, cond, ltb, List, Option, Some, None, inl, inr, refl, sym, ap, ◌∙◌, arith}
-use Rattle.std.specs.Prelude.{is_some}
-use Rattle.std.specs.FinMap.{get, len}
-use Rattle.std.proofs.lemmas.Bool.{cases_lt, le-ltb, lt-ltb}
-use Rattle.xk_base.specs.Gathered.{gathered}
-use Rattle.xk_base.specs.Image.{price}
-use Rattle.sv39_core.specs.Sv39.{table_at, page_entry}
-use Rattle.sv39_core.specs.Tree.{page_at, pages_of, frame_of, uppers, lowers, page_frames}
-use Rattle.xk_base.proofs.Gathered.{gathered-get}
-use Rattle.sv39_core.proofs.Places.{upper-place, lower-place}
-use Rattle.addr_space.specs.Space as space
+use Rattle.xv_machine.proofs.Prelude.{ℕ, ◌+◌, ◌<◌, ◌^◌, ◌∙◌, ◌≡◌, ◌≤◌, ap, arith, Bool, cases_lt, cond, false, FitsImage, frame_of, gathered, gathered-get, get, inl, inr, is_some, le-ltb, len, List}
+use Rattle.xv_machine.proofs.Prelude.{lower-place, lowers, lt-ltb, ltb, Memory, None, Option, owned_by, page_at, page_entry, page_frames, pages_of, price, refl, Some, sym, table_at, true, upper-place}
+use Rattle.xv_machine.proofs.Prelude.{uppers}
 use Rattle.addr_space.proofs.Prices.{same-page, length-kinds, some-of-is, upper-test, lower-test}
 use Rattle.addr_space.proofs.Trades.{space-price}
-use Rattle.kcall_core.specs.declared.memories.Memory.{Memory}
-use Rattle.xv_machine.specs.Machine.{owned_by}
-use Rattle.xv_machine.specs.Sound.{FitsImage}
 use Rattle.xv_machine.proofs.Counts.{gathered-many}
+use Rattle.addr_space.specs.Space as space
 
 -- where nothing stands from the bound on, the map has all
 gathered-all : (f : ℕ → Option ℕ) (n : ℕ) → ((t y : ℕ) → f t ≡ Some y → t < n) → (t : ℕ) → is_some (get (gathered f n) t) ≡ is_some (f t)

@@ -1,56 +1,23 @@
 -- Each frame of RAM is free, or has exactly one owner: what the kernel's memories keep, by pid.
-use Rattle.std.proofs.Common.{◌≡◌, ◌≤◌, ◌≢◌, ℕ, ◌^◌, ◌<◌, Bool, true, false, cond, ltb, List, [], ◌∷◌, ◌++◌, length, get_or, map, Option, Some, None, inl, inr, refl, sym, ap, ◌∙◌, subst, arith}
-use Rattle.std.specs.Prelude.{ℤ, IsSome, is_some, option_map}
-use Rattle.std.specs.FinMap.{get, values}
+use Rattle.xv_machine.proofs.Prelude.{[], ℕ, ℤ, ◌++◌, ◌<◌, ◌^◌, ◌∙◌, ◌∷◌, ◌≡◌, ◌≢◌, ◌≤◌, ap, arith, Bool, Buffer, by_pid, cases_eq, cond, copies, copies-append, copies-cons, copies-nil, copies-owned}
+use Rattle.xv_machine.proofs.Prelude.{count_if, descriptors_at, each_of, ended-held, entry-held, false, FitsImage, found, frame_of, frames_in, FRAMES_MAX, frames_of, free_in, free_of, gathered-get}
+use Rattle.xv_machine.proofs.Prelude.{get, get_or, Hart, has-slots, HasFrames, held_in, Image, inl, inr, is_some, IsHalted, IsSome, IsSound, IsWhole, keeps_pipe, kept_pipe, Kernel, length, length-map}
+use Rattle.xv_machine.proofs.Prelude.{List, Live, live, live-held, live_of, lowers, lt-ltb, ltb, map, Memory, missing-live, None, none, none-some, Note, Option, option_map, Owned, owned, owned_at}
+use Rattle.xv_machine.proofs.Prelude.{owned_by, owned_entry, owners, page_entry, page_frames, pid-missing, Pipe, pipe_in, pipes_of, place_at, process_frames, refl, regs_at, slot-found, slot-inside}
+use Rattle.xv_machine.proofs.Prelude.{slot_of, Some, state_of, subst, sum_below, sum_same, sym, table_at, true, turns_of, uppers, uses, values, world_of}
 use Rattle.std.proofs.Math.ListN.{get_or-map}
-use Rattle.std.proofs.lemmas.Bool.{cases_eq, lt-ltb}
-use Rattle.std.proofs.lemmas.List.{length-map}
-use Rattle.std.proofs.lemmas.Option.{none-some}
-use Rattle.xk_base.specs.Frames.{copies}
-use Rattle.xk_base.specs.Image.{Image}
-use Rattle.xk_base.specs.declared.limits.TheConstants.{FRAMES_MAX}
-use Rattle.xk_base.proofs.Frames.{copies-nil, copies-cons, copies-append}
-use Rattle.sv39_core.specs.Sv39.{table_at, page_entry}
-use Rattle.sv39_core.specs.Tree.{frame_of, uppers, lowers, page_frames, owned}
-use Rattle.xk_base.proofs.Gathered.{gathered-get}
-use Rattle.sv39_core.proofs.Places.{copies-owned}
-use Rattle.frame_list.specs.Pool.{free_in}
-use Rattle.addr_space.specs.Space as space
-use Rattle.pipe_core.specs.Pipe.{Pipe, pipe_in}
-use Rattle.hart_core.specs.declared.hart.Hart.{Hart}
 use Rattle.proc_table.specs.Processes.{status_of}
-use Rattle.proc_table.specs.Slots.{place_at, slot_of, descriptors_at}
 use Rattle.proc_table.specs.declared.process.Process.{Process}
-use Rattle.circular_buffer.specs.Buffer.{Buffer}
-use Rattle.kernel_spec.specs.views.Words.{count_if}
-use Rattle.kernel_spec.specs.views.ByPid.{by_pid}
-use Rattle.kernel_spec.specs.views.Processes.{Live}
-use Rattle.kernel_spec.specs.views.State.{live}
-use Rattle.kernel_spec.specs.views.WellFormed.{sum_below}
 use Rattle.kcall_core.specs.Holdings.{held_at, or_nothing}
-use Rattle.kcall_core.specs.Memories as memories
-use Rattle.kcall_core.specs.Memories.{held_in, each_of, pipes_of, keeps_pipe, kept_pipe, process_frames, owners, free_of}
-use Rattle.kcall_core.specs.Kernel.{state_of, live_of, regs_at, IsSound}
-use Rattle.kcall_core.specs.Machine.{turns_of, world_of}
-use Rattle.kcall_core.specs.Whole.{IsWhole}
-use Rattle.kcall_core.specs.declared.kernel.Kernel.{Kernel}
-use Rattle.kcall_core.specs.declared.memories.Memory.{Memory}
-use Rattle.kcall_core.proofs.table.ByPid.{found, none}
 use Rattle.kcall_core.proofs.memory.Frames.{frames-at}
-use Rattle.kcall_core.proofs.table.States.{slot-inside}
-use Rattle.kernel_spec.proofs.well.Sums.{sum_same}
-use Rattle.kcall_core.proofs.table.Observed.{slot-found, entry-held, live-held, ended-held, pid-missing, missing-live}
-use Rattle.kcall_core.proofs.turns.Turned.{has-slots}
 use Rattle.kcall_core.proofs.memory.Births.{no-none}
 use Rattle.kcall_core.proofs.memory.Changes.{none-held}
-use Rattle.xv_machine.specs.declared.trace.Note.{Note}
-use Rattle.xv_machine.specs.Machine.{owned_by, owned_entry, owned_at, frames_in}
-use Rattle.xv_machine.specs.Meaning.{Owned}
-use Rattle.xv_machine.specs.Sound as machine
-use Rattle.xv_machine.specs.Sound.{frames_of, uses, FitsImage, HasFrames, IsHalted}
 use Rattle.xv_machine.proofs.Counts.{gathered-counted}
 use Rattle.xv_machine.proofs.Fitting.{fits-image}
 use Rattle.xv_machine.proofs.Owned.{joined-sum, by_pid-sum}
+use Rattle.addr_space.specs.Space as space
+use Rattle.kcall_core.specs.Memories as memories
+use Rattle.xv_machine.specs.Sound as machine
 
 -- all frames of a memory, each as often as it is used
 used : (x : ℕ) (ram : List (List ℕ)) (m : Memory) → copies x (frames_of (Some (owned_by ram m))) ≡ copies x (memories.slot_frames ram (Some m))

@@ -1,19 +1,8 @@
 -- Sends at which no byte waits: nothing comes of them, and of the next ones neither.
-use Rattle.std.proofs.Common.{◌≡◌, ◌∙◌, ℕ, zero, suc, ◌+◌, ◌<◌, ◌⊎◌, true, false, arith, List, [], ◌∷◌, ◌++◌, drop, replicate, Option, None, Some, inl, inr, refl, sym, ap, subst}
-use Rattle.std.specs.Prelude.{is_some}
-use Rattle.std.proofs.lemmas.List.{replicate-append-replicate}
-use Rattle.circular_buffer.specs.Buffer.{keep_last}
-use Rattle.kernel_spec.specs.views.View.{View}
-use Rattle.kernel_spec.specs.waking.Ready.{ready}
-use Rattle.kernel_spec.specs.runs.Run.{World, Event, Send, Sent, Step_of, Ticked, first_sent, out}
-use Rattle.kernel_spec.specs.waking.Wakes.{IsInCall, IsEnd, NoReadySleeper, Promised}
-use Rattle.xv_machine.specs.declared.trace.Note.{Note}
-use Rattle.xv_machine.specs.Devices.{Sink}
-use Rattle.xv_machine.specs.Drives.{Goes}
-use Rattle.xv_machine.specs.Machine.{SameTrace}
-use Rattle.xv_machine.specs.Meaning.{Meaning}
-use Rattle.xv_machine.specs.Sound.{IsSoundMachine}
-use Rattle.xv_machine.specs.Stretches.{Silent, Played, sends}
+use Rattle.xv_machine.proofs.Prelude.{[], ℕ, ◌++◌, ◌+◌, ◌<◌, ◌∙◌, ◌∷◌, ◌≡◌, ◌⊎◌, ap, arith, drop, Event, false, first_sent, Goes, inl, inr, is_some, IsInCall, IsSoundMachine, keep_last, List, Meaning}
+use Rattle.xv_machine.proofs.Prelude.{None, NoReadySleeper, Note, Option, out, Played, Promised, ready, refl, replicate, replicate-append-replicate, SameTrace, Send, sends, Sent, Silent, Sink, Some}
+use Rattle.xv_machine.proofs.Prelude.{Step_of, subst, suc, sym, Ticked, true, View, World, zero}
+use Rattle.kernel_spec.specs.waking.Wakes.{IsEnd}
 use Rattle.xv_machine.proofs.Joins.{silent-played, played-join}
 use Rattle.xv_machine.proofs.Sent.{again, notes-again, events-again, goes-kept}
 

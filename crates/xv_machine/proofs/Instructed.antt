@@ -1,42 +1,16 @@
 -- The instructions of the process that runs, without the step behind them.
-use Rattle.std.proofs.Common.{◌≡◌, ◌≢◌, ℕ, ◌<◌, ◌≤◌, Bool, true, false, replicate, ◌++◌, Option, None, Some, inl, inr, refl, sym, ap, ◌∙◌, subst, arith}
-use Rattle.std.specs.Prelude.{ℤ, IsSome, is_some}
-use Rattle.std.proofs.lemmas.Option.{same_Some}
-use Rattle.rv64i_core.specs.Step.{Step, Next, Ecall, Fault, stop_of}
-use Rattle.rv64i_core.specs.declared.execution.Stop.{Stop}
-use Rattle.rv64i_core.specs.declared.execution.Stop.TheVariants as stops
-use Rattle.hart_core.specs.declared.hart.Hart.{Hart}
-use Rattle.circular_buffer.specs.Buffer.{Buffer, keep_last}
-use Rattle.proc_table.specs.declared.process.Call.{Call}
-use Rattle.kernel_spec.specs.views.State.{live}
-use Rattle.kernel_spec.specs.views.Words.{or_zero, minus_one}
-use Rattle.kernel_spec.specs.views.View.{View, view, view_of}
-use Rattle.kernel_spec.specs.rows.Calls.{perform}
-use Rattle.kernel_spec.specs.rows.Touches.{before_instruction, instruction_now}
-use Rattle.kernel_spec.specs.steps.Own.{Own, Answer, Stepped, Called, Blocked, gone_with}
-use Rattle.kernel_spec.specs.steps.Step.{own, unless_killed, going_on, after_instruction, call_begun, begun}
-use Rattle.kernel_spec.specs.runs.Run.{World, Run, Step_of, Halted, Happens, RunHappens}
-use Rattle.kernel_spec.specs.waking.Wakes.{IsPromised}
+use Rattle.xv_machine.proofs.Prelude.{ℕ, ℤ, ◌++◌, ◌<◌, ◌∙◌, ◌≡◌, ◌≢◌, ◌≤◌, after_instruction, Answer, ap, arith, before_instruction, begun, Blocked, Bool, Buffer, Call, call_begun, Called, done_by}
+use Rattle.xv_machine.proofs.Prelude.{Ecall, ecall-next, false, Fault, fault-no-next, Goes, going_on, gone_with, Halted, Happens, Hart, inl, inr, instruction_now, is_some, IsBusy, IsHalted}
+use Rattle.xv_machine.proofs.Prelude.{IsLastMade, IsPromised, IsRunning, IsSome, IsSoundMachine, IsWhole, keep_last, Kernel, live, live_now, MakesInARow, Meaning, meaning_of, minus_one, Next, None}
+use Rattle.xv_machine.proofs.Prelude.{Note, Option, or_zero, Own, own, perform, refl, replicate, Run, RunHappens, same_Some, SameTrace, Some, state_of, Step, Step_of, Stepped, Stop, stop_now, stop_of}
+use Rattle.xv_machine.proofs.Prelude.{subst, sym, true, turns_of, unless_killed, View, view, view-is, view_now, view_of, World, world_of}
 use Rattle.kernel_spec.proofs.rows.Outcomes.{Comes, perform_comes}
-use Rattle.kcall_core.specs.Kernel.{state_of, IsRunning, live_now}
-use Rattle.kcall_core.specs.Machine.{turns_of, world_of}
-use Rattle.kcall_core.specs.Whole.{IsWhole}
-use Rattle.kcall_core.specs.Makes.{MakesInARow, IsLastMade, view_now, stop_now}
-use Rattle.kcall_core.specs.declared.kernel.Kernel.{Kernel}
-use Rattle.kcall_core.proofs.runs.Promises.{view-is}
-use Rattle.kcall_core.proofs.making.TouchedSteps.{fault-no-next}
-use Rattle.kcall_core.proofs.making.Series.{ecall-next}
-use Rattle.xv_machine.specs.declared.trace.Note.{Note}
-use Rattle.xv_machine.specs.Drives.{Goes, done_by}
 use Rattle.xv_machine.specs.Instructions.{Instructed}
-use Rattle.xv_machine.specs.Machine.{SameTrace, meaning_of}
-use Rattle.xv_machine.specs.Meaning.{Meaning}
-use Rattle.xv_machine.specs.Sound.{IsHalted, IsSoundMachine}
-use Rattle.xv_machine.specs.Steps.{IsBusy}
 use Rattle.xv_machine.proofs.Advances.{is-on, now-ran}
 use Rattle.xv_machine.proofs.Repeated.{did-none, row-did, row-stop}
 use Rattle.xv_machine.proofs.Runs.{current-pid, still-lives}
 use Rattle.xv_machine.proofs.Sent.{goes-kept, notes-again}
+use Rattle.rv64i_core.specs.declared.execution.Stop.TheVariants as stops
 
 -- ---- which step is a done instruction
 

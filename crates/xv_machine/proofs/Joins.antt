@@ -1,21 +1,8 @@
 -- Stretches of a drive, one behind another.
-use Rattle.std.proofs.Common.{append-nil, ◌≡◌, ◌≢◌, ◌∙◌, ℕ, ◌+◌, ◌-◌, ◌<◌, subst, refl, sym, ap, ap₂, arith}
-use Rattle.std.proofs.Common.{List, [], ◌∷◌, ◌++◌, append_assoc, replicate, Option, None, Some, Result, Ok, Err, OnOk, OnErr}
-use Rattle.std.proofs.lemmas.List.{map-append, replicate-append-replicate, replicate_more}
-use Rattle.std.proofs.lemmas.Grind.{flat_map-append}
+use Rattle.xv_machine.proofs.Prelude.{[], ℕ, ◌++◌, ◌+◌, ◌-◌, ◌<◌, ◌∙◌, ◌∷◌, ◌≡◌, ◌≢◌, ap, append-nil, append_assoc, Appends, ap₂, arith, BrokeOff, bytes_out, call_of, Calls, calls_of, Err, Event}
+use Rattle.xv_machine.proofs.Prelude.{events, failed, flat_map-append, Given, Goes, IsSoundMachine, keep_last, List, map-append, Meaning, None, note, notes_of, Ok, OnErr, OnOk, Option, out, Outcome}
+use Rattle.xv_machine.proofs.Prelude.{Played, Plays, Promised, promised_runs_join, refl, replicate, replicate-append-replicate, replicate_more, Result, Silent, Sink, Some, subst, sym, Tick, Wrote}
 use Rattle.std.proofs.KnownBytes.{Appends-nil, Appends-trans}
-use Rattle.std.specs.Io.KnownBytes.{Appends}
-use Rattle.circular_buffer.specs.Buffer.{keep_last}
-use Rattle.kernel_spec.specs.runs.Run.{Event, Tick, Outcome, bytes_out, out}
-use Rattle.kernel_spec.specs.runs.Rounds.{events}
-use Rattle.kernel_spec.specs.waking.Wakes.{Promised}
-use Rattle.kernel_spec.proofs.runs.Boot.{promised_runs_join}
-use Rattle.xv_machine.specs.Devices.{Given, Sink, Calls, failed}
-use Rattle.xv_machine.specs.Drives.{Goes, Wrote, call_of, calls_of}
-use Rattle.xv_machine.specs.Meaning.{Meaning}
-use Rattle.xv_machine.specs.Notes.{note, notes_of}
-use Rattle.xv_machine.specs.Sound.{IsSoundMachine}
-use Rattle.xv_machine.specs.Stretches.{Silent, Played, BrokeOff, Plays}
 use Rattle.xv_machine.proofs.Kept.{keep-all, keep-more}
 use Rattle.xv_machine.proofs.Shown.{tick-shows}
 

@@ -1,8 +1,7 @@
 -- The last items of a list.
-use Rattle.std.proofs.Common.{◌≡◌, ℕ, zero, suc, ◌+◌, ◌-◌, ◌≤◌, List, [], ◌∷◌, ◌++◌, length, drop, refl, sym, ap, ◌∙◌, subst, arith, append-nil, length-append}
-use Rattle.std.proofs.lemmas.List.{drop-append-le, length-drop}
+use Rattle.xv_machine.proofs.Prelude.{[], ℕ, ◌++◌, ◌+◌, ◌-◌, ◌∙◌, ◌∷◌, ◌≡◌, ◌≤◌, ap, append-nil, arith, Buffer, buffer, drop, drop-append-le, keep_last, length, length-append, length-drop, List, refl}
+use Rattle.xv_machine.proofs.Prelude.{subst, suc, sym, zero}
 use Rattle.std.proofs.Math.Nat.{zero-add, suc-add}
-use Rattle.circular_buffer.specs.Buffer.{Buffer, buffer, keep_last}
 
 pub drop-none : {X : Type 0} (xs : List X) → drop 0 xs ≡ xs
 drop-none [] = refl

@@ -1,3 +1,4 @@
+mod Prelude
 pub mod Owned
 pub mod Counts
 pub mod Fitting

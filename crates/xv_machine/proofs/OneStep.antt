@@ -1,30 +1,13 @@
 -- A step of the process that runs: what it comes to, and what it answers.
-use Rattle.std.proofs.Common.{◌≡◌, ℕ, true, Option, Some, None, refl, sym, ap, ◌∙◌, subst}
-use Rattle.std.specs.Prelude.{ℤ, IsSome, option_map}
-use Rattle.std.proofs.lemmas.Option.{none-some, same_Some}
-use Rattle.rv64i_core.specs.Registers.{reg}
-use Rattle.rv64i_core.specs.Step.{stop_of}
-use Rattle.rv64i_core.specs.declared.execution.Stop.{Stop}
-use Rattle.rv64i_core.specs.declared.execution.Stop.TheVariants as stops
-use Rattle.hart_core.specs.declared.hart.Hart.{Hart}
-use Rattle.proc_table.specs.declared.process.Call.{Call}
-use Rattle.kernel_spec.specs.views.Words.{A7, c_int, minus_one}
-use Rattle.kernel_spec.specs.views.View.{View, view_of}
-use Rattle.kernel_spec.specs.steps.Own.{Own, Stepped, Exited, gone_with}
-use Rattle.kernel_spec.specs.rows.Calls.{gone}
-use Rattle.kernel_spec.specs.steps.Step.{own, call_in, call_or_begun}
-use Rattle.kernel_spec.specs.rows.Touches.{instruction_now}
-use Rattle.kernel_spec.specs.laws.RowLaws as laws
-use Rattle.kernel_spec.specs.runs.Run.{Outcome, Step_of}
-use Rattle.kcall_core.specs.Kernel.{state_of, IsRunning, pid_now, live_now}
-use Rattle.kcall_core.specs.Whole.{IsWhole}
-use Rattle.kcall_core.specs.Makes.{Makes, Stays, view_now, stop_now, answer_of}
-use Rattle.kcall_core.specs.declared.kernel.Kernel.{Kernel}
+use Rattle.xv_machine.proofs.Prelude.{ℕ, ℤ, ◌∙◌, ◌≡◌, A7, answer_of, ap, c_int, Call, call_in, call_or_begun, Exited, gone, gone_with, Hart, instruction_now, IsRunning, IsSome, IsWhole, Kernel}
+use Rattle.xv_machine.proofs.Prelude.{live_now, Makes, minus_one, next-now, None, none-some, Option, option_map, Outcome, Own, own, pid_now, refl, reg, same_Some, Some, state_of, Stays, Step_of}
+use Rattle.xv_machine.proofs.Prelude.{Stepped, Stop, stop_now, stop_of, subst, sym, true, View, view_now, view_of}
 use Rattle.kernel_spec.proofs.steps.AloneLawsHold.{end}
 use Rattle.kernel_spec.proofs.rows.Pids.{own_sound}
 use Rattle.kcall_core.proofs.making.Staying.{stays-view}
-use Rattle.kcall_core.proofs.making.Undone.{next-now}
 use Rattle.kcall_core.specs.declared.call_end.CallEnd.{CallEnd}
+use Rattle.rv64i_core.specs.declared.execution.Stop.TheVariants as stops
+use Rattle.kernel_spec.specs.laws.RowLaws as laws
 
 -- ---- what a step comes to
 

@@ -1,18 +1,7 @@
 -- What the frames of all slots come to, by pid.
-use Rattle.std.proofs.Common.{◌≡◌, ◌≢◌, ℕ, zero, suc, ◌+◌, ◌<◌, List, [], ◌∷◌, length, get_or, Option, Some, None, refl, ap, ◌∙◌, arith}
-use Rattle.std.specs.Prelude.{option_map}
-use Rattle.std.specs.Ordering.{nat_cmp}
-use Rattle.std.specs.FinMap.{FinMap, get, insert, get-empty}
-use Rattle.xk_base.specs.Frames.{copies}
-use Rattle.xk_base.proofs.Frames.{copies-nil, copies-append}
-use Rattle.kernel_spec.specs.views.ByPid.{by_pid, put}
-use Rattle.kernel_spec.specs.views.WellFormed.{sum_below}
-use Rattle.kcall_core.specs.Memories.{all_joined}
-use Rattle.kcall_core.proofs.table.ByPid.{none}
+use Rattle.xv_machine.proofs.Prelude.{[], ℕ, ◌+◌, ◌<◌, ◌∙◌, ◌∷◌, ◌≡◌, ◌≢◌, all_joined, ap, arith, by_pid, copies, copies-append, copies-nil, FinMap, get, get-empty, get_or, get_other, get_same}
+use Rattle.xv_machine.proofs.Prelude.{insert, length, List, nat_cmp, None, none, Option, option_map, put, refl, Some, suc, sum_below, sum_below-zero, sum_change, zero}
 use Rattle.kcall_core.proofs.files.OpenRoom.{sum-first}
-use Rattle.kernel_spec.proofs.steps.MapsAfterChange.{get_same, get_other}
-use Rattle.kernel_spec.proofs.well.Sums.{sum_change}
-use Rattle.kernel_spec.proofs.Common.{sum_below-zero}
 
 -- ---- sums
 

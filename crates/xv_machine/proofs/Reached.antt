@@ -1,22 +1,14 @@
 -- What stands of a machine over whole runs.
-use Rattle.std.proofs.Common.{◌≡◌, ℕ, [], ◌∷◌, Option, Ok, Err, Result, inl, inr, refl, ap, sym, ◌∙◌, subst}
-use Rattle.std.specs.Prelude.{IsSome}
-use Rattle.xk_base.specs.declared.errors.BootError.{BootError}
-use Rattle.xk_base.specs.declared.errors.BootError.TheVariants.{BadConfig, BadPrograms, NoInit, Memory, Init}
-use Rattle.kernel_spec.specs.views.View.{View, view}
-use Rattle.kernel_spec.specs.runs.First.{first}
-use Rattle.kernel_spec.specs.runs.Run.{World}
+use Rattle.xv_machine.proofs.Prelude.{[], ℕ, ◌∙◌, ◌∷◌, ◌≡◌, ap, BadConfig, BadPrograms, BootError, BootReaches, Boots, Err, EventsGo, first, Goes, Init, inl, inr, isolated, IsReached, IsSome, Meaning}
+use Rattle.xv_machine.proofs.Prelude.{NoByteIsShown, NoInit, Ok, Option, promised_is_run, ReachedIsRun, ReachedIsSound, ReachesOn, refl, Result, StepsAreOwn, subst, sym, TurnsCome, TwoMachines, View}
+use Rattle.xv_machine.proofs.Prelude.{view, World}
+use Rattle.xk_base.specs.declared.errors.BootError.TheVariants.{Memory}
 use Rattle.kernel_spec.specs.runs.Sources.{Stands}
-use Rattle.kernel_spec.proofs.runs.Boot.{promised_is_run, isolated}
 use Rattle.kernel_spec.proofs.runs.Cuts.{runs_are_cut, pids_are_given}
 use Rattle.kernel_spec.proofs.runs.Two.{two_worlds}
 use Rattle.kernel_spec.proofs.runs.Sources.{each_byte_has_its_source, stands_now}
 use Rattle.kernel_spec.proofs.turns.TurnComes.{turn_comes}
 use Rattle.kernel_spec.proofs.well.FirstWell.{first_alone}
-use Rattle.xv_machine.specs.Boots.{Boots}
-use Rattle.xv_machine.specs.Drives.{Goes}
-use Rattle.xv_machine.specs.Meaning.{Meaning}
-use Rattle.xv_machine.specs.Reached.{IsReached, EventsGo, BootReaches, ReachesOn, ReachedIsRun, StepsAreOwn, TwoMachines, NoByteIsShown, TurnsCome, ReachedIsSound}
 use Rattle.xv_machine.proofs.Joins.{goes-none, goes-one, goes-join}
 
 -- ---- runs

@@ -1,39 +1,16 @@
 -- Steps of the process that runs, one after another.
-use Rattle.std.proofs.Common.{◌≡◌, ◌≢◌, inl, inr, ℕ, zero, suc, arith, ◌+◌, ◌<◌, false, replicate, List, ◌∷◌, [], Option, Some, None, refl, sym, ap, ◌∙◌, subst}
-use Rattle.std.specs.Prelude.{IsSome, is_some, option_map}
-use Rattle.std.proofs.lemmas.List.{replicate_more}
-use Rattle.std.proofs.lemmas.Bool.{true≢false}
-use Rattle.std.proofs.lemmas.Option.{same_Some}
-use Rattle.rv64i_core.specs.Registers.{Registers}
+use Rattle.xv_machine.proofs.Prelude.{[], ℕ, ◌+◌, ◌<◌, ◌∙◌, ◌∷◌, ◌≡◌, ◌≢◌, Advanced, ap, arith, before_instruction, Call, Did, done_by, false, goes_on, halts_with, Hart, inl, inr, is_some, IsBusy}
+use Rattle.xv_machine.proofs.Prelude.{IsHalted, IsLastMade, IsPromised, IsRunning, IsSome, IsUndone, IsWhole, Kernel, List, Live, live, live_now, Makes, MakesDone, MakesInARow, None, Option}
+use Rattle.xv_machine.proofs.Prelude.{option_map, outcome_of, Own, own, pid_now, Promised, promised_runs_join, refl, Registers, replicate, replicate_more, Run, same_Some, Some, state_of, Stays}
+use Rattle.xv_machine.proofs.Prelude.{stays_current, step-promised, Step_of, Stepped, StillRuns, Stop, stop_now, stored, subst, suc, sym, true≢false, turns_of, view, view-is, view_now, view_of, World}
+use Rattle.xv_machine.proofs.Prelude.{world_of, zero}
 use Rattle.rv64i_core.specs.Memory.{Store}
-use Rattle.rv64i_core.specs.declared.execution.Stop.{Stop}
-use Rattle.rv64i_core.specs.declared.execution.Stop.TheVariants as stops
-use Rattle.hart_core.specs.declared.hart.Hart.{Hart}
-use Rattle.proc_table.specs.declared.process.Call.{Call}
-use Rattle.kernel_spec.specs.views.Processes.{Live}
-use Rattle.kernel_spec.specs.views.State.{live}
-use Rattle.kernel_spec.specs.views.View.{view, view_of}
-use Rattle.kernel_spec.specs.steps.Own.{Own, Stepped, goes_on}
-use Rattle.kernel_spec.specs.steps.Step.{own, stored}
-use Rattle.kernel_spec.specs.rows.Touches.{before_instruction}
-use Rattle.kernel_spec.specs.laws.RowLaws as laws
-use Rattle.kernel_spec.specs.runs.Run.{World, Run, Step_of, stays_current, halts_with}
-use Rattle.kernel_spec.specs.runs.Run as runs
-use Rattle.kernel_spec.specs.waking.Wakes.{Promised, IsPromised}
-use Rattle.kcall_core.specs.Kernel.{state_of, IsRunning, pid_now, live_now}
-use Rattle.kcall_core.specs.Machine.{turns_of, world_of}
-use Rattle.kcall_core.specs.Whole.{IsWhole}
-use Rattle.kcall_core.specs.Makes.{Makes, MakesDone, IsUndone, IsLastMade, MakesInARow, Stays, StillRuns, view_now, stop_now}
-use Rattle.kcall_core.specs.declared.kernel.Kernel.{Kernel}
-use Rattle.kernel_spec.proofs.runs.Boot.{promised_runs_join}
-use Rattle.kcall_core.proofs.runs.Promises.{step-promised, view-is}
 use Rattle.xv_machine.specs.declared.event.Outcome.{Outcome}
-use Rattle.xv_machine.specs.Drives.{done_by}
-use Rattle.xv_machine.specs.Events.{outcome_of}
-use Rattle.xv_machine.specs.Sound.{IsHalted}
-use Rattle.xv_machine.specs.Steps.{IsBusy, Did, Advanced}
 use Rattle.xv_machine.proofs.OneStep.{next-answer, stop-behind}
 use Rattle.xv_machine.proofs.Runs.{current-pid, halts-after}
+use Rattle.rv64i_core.specs.declared.execution.Stop.TheVariants as stops
+use Rattle.kernel_spec.specs.laws.RowLaws as laws
+use Rattle.kernel_spec.specs.runs.Run as runs
 
 -- ---- what isn't a done instruction
 

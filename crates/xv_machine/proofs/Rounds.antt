@@ -1,22 +1,9 @@
 -- Whole rounds, as far as a drive has come, and how it ends.
-use Rattle.std.proofs.Common.{◌≡◌, ◌∙◌, ℕ, zero, suc, ◌+◌, ◌<◌, ◌≤◌, ◌⊎◌, cond, inl, inr, subst}
-use Rattle.std.proofs.Common.{refl, sym, ap, ap₂, arith, List, [], ◌∷◌, ◌++◌, append-nil, append_assoc, length, length-append}
-use Rattle.std.proofs.Common.{drop, replicate, slice_get, Bool, true, false, ◌||◌, Option, None, Some, IfSome}
-use Rattle.std.specs.Prelude.{not, is_none, is_some}
-use Rattle.std.specs.Option.{option_to_list}
-use Rattle.std.proofs.lemmas.Grind.{flat_map-append}
-use Rattle.std.specs.Io.KnownBytes.{Consumes}
-use Rattle.std.proofs.lemmas.Bool.{le-ltb, lt-ltb}
-use Rattle.xk_base.specs.declared.limits.TheConstants.{SEND_BYTES}
-use Rattle.kernel_spec.specs.runs.Run.{Event, Run, Tick, Key, Send, Outcome, bytes_out}
-use Rattle.kernel_spec.specs.runs.Rounds.{key_events, round, events, halts, AreRounds}
+use Rattle.xv_machine.proofs.Prelude.{[], ℕ, ◌++◌, ◌+◌, ◌<◌, ◌||◌, ◌∙◌, ◌∷◌, ◌≡◌, ◌≤◌, ◌⊎◌, ap, append-nil, append_assoc, ap₂, AreRounds, arith, Asked, AskedFor, Bool, BrokeOff, bytes_out, Calls}
+use Rattle.xv_machine.proofs.Prelude.{calls_of, cond, Consumes, Done, drop, Event, events, failed, false, flat_map-append, Goes, halts, IfSome, inl, inr, is_halted, is_none, is_some, IsSoundMachine}
+use Rattle.xv_machine.proofs.Prelude.{Key, key_events, key_in, keys_in, le-ltb, length, length-append, List, lt-ltb, Meaning, None, not, Option, option_to_list, Outcome, Played, refl, replicate}
+use Rattle.xv_machine.proofs.Prelude.{round, Run, RunPlan, Send, SEND_BYTES, Sink, slice_get, Some, Source, StoppedByRead, StoppedByWrite, subst, suc, sym, TakesKey, Tick, true, Wrote, zero}
 use Rattle.kernel_spec.proofs.runs.Plans.{rounds_follow_rounds}
-use Rattle.xv_machine.specs.Devices.{Source, Asked, Sink, Calls, failed}
-use Rattle.xv_machine.specs.declared.driving.RunPlan.{RunPlan}
-use Rattle.xv_machine.specs.Drives.{Goes, Wrote, calls_of, AskedFor, is_halted, key_in, keys_in, Done, StoppedByRead, StoppedByWrite}
-use Rattle.xv_machine.specs.Meaning.{Meaning}
-use Rattle.xv_machine.specs.Sound.{IsSoundMachine}
-use Rattle.xv_machine.specs.Stretches.{Played, BrokeOff, TakesKey}
 use Rattle.xv_machine.proofs.Joins.{events-join, calls-join, calls-trans, wrote-nil, wrote-join, goes-none, goes-join}
 use Rattle.xv_machine.proofs.Shown.{ends-in}
 

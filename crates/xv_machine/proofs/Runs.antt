@@ -1,36 +1,14 @@
 -- What a run of the machine leaves: whether it is halted, and what is promised of it.
-use Rattle.std.proofs.Common.{◌≡◌, ◌≤◌, ◌≢◌, ℕ, true, false, cond, List, length, Option, Some, None, inl, inr, refl, sym, ap, ◌∙◌, subst, nat_eq}
-use Rattle.std.specs.Prelude.{ℤ, IsSome, is_some, option_map}
+use Rattle.xv_machine.proofs.Prelude.{ℕ, ℤ, ◌∙◌, ◌≡◌, ◌≢◌, ◌≤◌, Alive, Answer, ap, Blocked, Buffer, Called, cond, Exited, false, Faulted, frames_in, get, gone_with, halted-promised, halted_by}
+use Rattle.xv_machine.proofs.Prelude.{halts_with, Hart, idle-promised, inl, inr, is_some, IsButWoken, IsHalted, IsNearest, IsRunnable, IsRunning, IsSome, IsSoundMachine, IsWhole, Kernel, key-promised}
+use Rattle.xv_machine.proofs.Prelude.{KeyHappens, length, List, live, live-is, live_now, live_part, Makes, Meaning, meaning_of, nat_eq, None, none-some, Note, of_first, Option, option_map, outcome_of}
+use Rattle.xv_machine.proofs.Prelude.{own, parent_of, pid_now, Process, Promised, refl, same_Some, send-promised, SendHappens, Some, state_of, stays_current, step-promised, Step_of, Stepped, subst}
+use Rattle.xv_machine.proofs.Prelude.{sym, the_value, tick-promised, TickHappens, true, turn-promised, Turns, turns_of, TurnTaken, view, view_now, view_of, WakesWhereDue, World, world_of, Zombie}
 use Rattle.std.proofs.lemmas.Bool.Decides.{eqb_tells}
-use Rattle.hart_core.specs.declared.hart.Hart.{Hart}
-use Rattle.std.specs.FinMap.{get}
-use Rattle.std.proofs.lemmas.Option.{none-some, same_Some}
-use Rattle.circular_buffer.specs.Buffer.{Buffer}
-use Rattle.kernel_spec.specs.views.Processes.{Process, Alive, Zombie, parent_of}
-use Rattle.kernel_spec.specs.views.State.{live, live_part}
-use Rattle.kernel_spec.specs.views.View.{view, view_of}
-use Rattle.kernel_spec.specs.steps.Own.{Answer, Stepped, Called, Blocked, Exited, Faulted, gone_with}
-use Rattle.kernel_spec.specs.steps.Step.{own}
-use Rattle.kernel_spec.specs.runs.Run as runs
-use Rattle.kernel_spec.specs.runs.Run.{World, Step_of, TurnTaken, TickHappens, KeyHappens, SendHappens, IsButWoken, of_first, halts_with, stays_current}
-use Rattle.kernel_spec.specs.waking.Wakes.{IsRunnable, IsNearest, WakesWhereDue, Promised}
-use Rattle.kernel_spec.specs.waking.Turns.{Turns}
-use Rattle.kernel_spec.proofs.Common.{the_value}
-use Rattle.kcall_core.specs.Kernel.{state_of, IsRunning, pid_now, live_now}
-use Rattle.kcall_core.specs.Machine.{turns_of, world_of}
-use Rattle.kcall_core.specs.Whole.{IsWhole}
-use Rattle.kcall_core.specs.Makes.{Makes, view_now}
-use Rattle.kcall_core.specs.declared.kernel.Kernel.{Kernel}
-use Rattle.kcall_core.proofs.runs.Promises.{step-promised, turn-promised, idle-promised, halted-promised, tick-promised, key-promised, send-promised}
-use Rattle.kcall_core.proofs.turns.Turned.{live-is}
-use Rattle.xv_machine.specs.declared.trace.Note.{Note}
 use Rattle.xv_machine.specs.declared.event.Outcome.{Outcome}
-use Rattle.xv_machine.specs.Events.{outcome_of, halted_by}
-use Rattle.xv_machine.specs.Machine.{meaning_of, frames_in}
-use Rattle.xv_machine.specs.Meaning.{Meaning}
-use Rattle.xv_machine.specs.Sound.{IsHalted, IsSoundMachine}
 use Rattle.xv_machine.proofs.Frames.{sound-of}
 use Rattle.xv_machine.proofs.OneStep.{stays-there}
+use Rattle.kernel_spec.specs.runs.Run as runs
 
 none-of : {X Y : Type 0} (f : X → Y) (o : Option X) → option_map f o ≡ None → o ≡ None
 none-of f None e = refl

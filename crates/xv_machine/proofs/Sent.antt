@@ -1,22 +1,8 @@
 -- Runs that were sent one after another: what they give, and the notes that are kept of them.
-use Rattle.std.proofs.Common.{◌≡◌, ◌≢◌, ◌⊎◌, inl, inr, ◌∙◌, ℕ, zero, suc, ◌+◌, ◌-◌, ◌<◌, ◌≤◌, subst, refl, sym}
-use Rattle.std.proofs.Common.{ap, ap₂, arith, List, [], ◌∷◌, ◌++◌, append_assoc, length, length-append, replicate, Option, None, Some, true, false}
-use Rattle.std.specs.Prelude.{ℤ}
-use Rattle.std.proofs.lemmas.List.{length-replicate, replicate-append-replicate, replicate_more}
-use Rattle.std.proofs.lemmas.Bool.{true≢false}
-use Rattle.circular_buffer.specs.Buffer.{keep_last}
-use Rattle.kernel_spec.specs.steps.Own.{Stepped}
-use Rattle.kernel_spec.specs.views.Words.{or_zero}
-use Rattle.kernel_spec.specs.runs.Run.{World, Event, Run, Outcome, Step_of, Turn, Idle, Ticked, Typed, Sent, Halted, TurnTaken, RunHappens, Happens, out}
-use Rattle.kernel_spec.specs.runs.Rounds.{events}
-use Rattle.kernel_spec.specs.waking.Wakes.{Promised, IsPromised, is_turn}
-use Rattle.xv_machine.specs.declared.trace.Note.{Note}
-use Rattle.xv_machine.specs.Drives.{Goes, done_by, AreRuns, Ran}
-use Rattle.xv_machine.specs.Machine.{SameTrace}
-use Rattle.xv_machine.specs.Meaning.{Meaning}
-use Rattle.xv_machine.specs.Notes.{note, notes_of}
-use Rattle.xv_machine.specs.Sound.{IsSoundMachine}
-use Rattle.xv_machine.specs.Stretches.{Silent}
+use Rattle.xv_machine.proofs.Prelude.{[], ℕ, ℤ, ◌++◌, ◌+◌, ◌-◌, ◌<◌, ◌∙◌, ◌∷◌, ◌≡◌, ◌≢◌, ◌≤◌, ◌⊎◌, ap, append_assoc, ap₂, AreRuns, arith, done_by, Event, events, false, Goes, Halted, Happens, Idle}
+use Rattle.xv_machine.proofs.Prelude.{inl, inr, is_turn, IsPromised, IsSoundMachine, keep_last, length, length-append, length-replicate, List, Meaning, None, Note, note, notes_of, Option, or_zero}
+use Rattle.xv_machine.proofs.Prelude.{out, Outcome, Promised, Ran, refl, replicate, replicate-append-replicate, replicate_more, Run, RunHappens, SameTrace, Sent, Silent, Some, Step_of, Stepped, subst}
+use Rattle.xv_machine.proofs.Prelude.{suc, sym, Ticked, true, true≢false, Turn, TurnTaken, Typed, World, zero}
 use Rattle.xv_machine.proofs.Joins.{goes-none, events-join, notes-join, silent-join}
 use Rattle.xv_machine.proofs.Kept.{keep-more}
 use Rattle.xv_machine.proofs.Shown.{run-shows}

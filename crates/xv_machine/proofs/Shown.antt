@@ -1,12 +1,7 @@
 -- Which events show bytes, and which halt the machine.
-use Rattle.std.proofs.Common.{◌≡◌, ◌∙◌, ℕ, ◌||◌, List, [], ◌∷◌, Option, None, Some, refl, sym, ap}
-use Rattle.std.specs.Prelude.{ℤ, is_some}
-use Rattle.kernel_spec.specs.runs.Rounds.{halts}
-use Rattle.kernel_spec.specs.runs.Run.{World, Event, Run, Tick, Key, Send, Outcome, Step_of, Turn, Idle, Ticked}
-use Rattle.kernel_spec.specs.runs.Run.{Typed, Sent, Halted, Happens, RunHappens, TickHappens, KeyHappens, TurnTaken, halted_by, bytes_out}
-use Rattle.kernel_spec.specs.waking.Turns.{Turns}
-use Rattle.kernel_spec.specs.waking.Wakes.{IsPromised}
-use Rattle.kernel_spec.proofs.Common.{or_assoc, or_false}
+use Rattle.xv_machine.proofs.Prelude.{[], ℕ, ℤ, ◌||◌, ◌∙◌, ◌∷◌, ◌≡◌, ap, bytes_out, Event, Halted, halts, Happens, Idle, is_some, IsPromised, Key, KeyHappens, List, None, Option, or_assoc, or_false}
+use Rattle.xv_machine.proofs.Prelude.{Outcome, refl, Run, RunHappens, Send, Sent, Some, Step_of, sym, Tick, Ticked, TickHappens, Turn, Turns, TurnTaken, Typed, World}
+use Rattle.kernel_spec.specs.runs.Run.{halted_by}
 
 module _ (w t : World) (o : Outcome) where
   -- ---- bytes

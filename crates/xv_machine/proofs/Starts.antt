@@ -1,36 +1,15 @@
 -- What boot answers, stage by stage.
-use Rattle.std.proofs.Common.{◌≡◌, ℕ, ◌+◌, ◌≤◌, Bool, true, false, cond, ◌||◌, List, [], ◌∷◌, Option, None, Some, Result, Ok, Err, inl, inr, ◌⊎◌, refl, sym, ap, ◌∙◌, subst, arith, nat_lt}
-use Rattle.std.specs.Prelude.{IsSome, is_some, option_map}
-use Rattle.std.proofs.lemmas.Bool.{le-ltb}
-use Rattle.xk_base.specs.declared.limits.TheConstants.{TRACE_MAX}
+use Rattle.xv_machine.proofs.Prelude.{[], ℕ, ◌+◌, ◌||◌, ◌∙◌, ◌∷◌, ◌≡◌, ◌≤◌, ◌⊎◌, Alive, ap, arith, BadConfig, BadPrograms, Bool, BootError, Boots, bytes_eq, cond, empty, empty_console, Err, false}
+use Rattle.xv_machine.proofs.Prelude.{find, first, first_bad, first_init, first_loaded, first_process, first_state, first_turns, fresh, get_same, Hart, Init, init_name, init_of, inl, inr, is_some}
+use Rattle.xv_machine.proofs.Prelude.{IsSome, Kernel, le-ltb, length, List, live, live_part, map, Meaning, named_file, nat_lt, NoFrames, NoInit, None, none-some, Ok, Option, option_map, price}
+use Rattle.xv_machine.proofs.Prelude.{Program, program_bytes, program_named, ProgramFile, refl, Result, Some, State, state_of, subst, sym, TRACE_MAX, true, unless_refused, within_frames, World}
 use Rattle.xk_base.specs.declared.errors.ExecError.{ExecError}
-use Rattle.xk_base.specs.declared.errors.ExecError.TheVariants.{NoFrames}
-use Rattle.xk_base.specs.declared.errors.BootError.{BootError}
-use Rattle.xk_base.specs.declared.errors.BootError.TheVariants.{BadConfig, BadPrograms, NoInit, Memory, Init}
-use Rattle.xk_base.specs.Image.{price}
+use Rattle.xk_base.specs.declared.errors.BootError.TheVariants.{Memory}
 use Rattle.xk_base.specs.Loaded.{Loaded, loaded}
-use Rattle.std.specs.Prelude.{length, map}
-use Rattle.std.specs.FinMap.{empty}
-use Rattle.rv64i_core.specs.Registers.{fresh}
 use Rattle.hart_core.specs.Translations.{nothing_kept}
-use Rattle.hart_core.specs.declared.hart.Hart.{Hart}
-use Rattle.kernel_spec.specs.views.Processes.{Alive}
-use Rattle.kcall_core.specs.Kernel.{state_of}
-use Rattle.kcall_core.specs.declared.kernel.Kernel.{Kernel}
-use Rattle.kernel_spec.proofs.steps.MapsAfterChange.{get_same}
-use Rattle.kernel_spec.specs.views.State.{ProgramFile, State, named_file, live, live_part}
-use Rattle.kernel_spec.specs.views.Programs.{first_bad, init_of, init_name, program_bytes, program_named}
-use Rattle.std.specs.Prelude.{find, bytes_eq}
-use Rattle.std.proofs.lemmas.Option.{none-some}
-use Rattle.xk_base.specs.declared.program.Program.{Program}
 use Rattle.kcall_core.proofs.processes.Asking.{found-among}
-use Rattle.kernel_spec.specs.runs.First.{first, unless_refused, within_frames, first_init, first_loaded, first_state, first_turns, first_process}
 use Rattle.kernel_spec.specs.views.NewKernel.{are_refused, refusal, or_memory, empty_state}
-use Rattle.kernel_spec.specs.runs.Run.{World}
-use Rattle.console_core.specs.Lists.{empty_console}
 use Rattle.kcall_core.specs.Starts.{IsBlank, init_loaded, started_world}
-use Rattle.xv_machine.specs.Boots.{Boots}
-use Rattle.xv_machine.specs.Meaning.{Meaning}
 
 -- a number of the configuration is out of its range
 abbrev pub is_bad_config : (frames trace : ℕ) → Bool

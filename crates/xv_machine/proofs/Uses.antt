@@ -1,40 +1,17 @@
 -- What each frame is used for: what the kernel keeps, by pid.
-use Rattle.std.proofs.Common.{◌≡◌, ℕ, zero, suc, ◌^◌, ◌<◌, ◌≤◌, Bool, true, false, cond, ltb, List, [], ◌∷◌, length, get_or, Option, Some, None, inl, inr, refl, sym, ap, ◌∙◌, subst, arith}
-use Rattle.std.specs.Prelude.{ℤ, ◌↔◌, Contains}
-use Rattle.std.specs.FinMap.{get}
-use Rattle.std.proofs.lemmas.Bool.{cases_eq}
-use Rattle.std.proofs.lemmas.Option.{none-some, same_Some}
-use Rattle.xk_base.specs.Frames.{copies}
-use Rattle.xk_base.specs.Gathered.{gathered}
-use Rattle.xk_base.proofs.Frames.{at, at-same, at-other, copies-nil, copies-cons}
-use Rattle.sv39_core.specs.Sv39.{table_at, page_entry}
-use Rattle.sv39_core.specs.Tree.{frame_of, IsTree}
-use Rattle.xk_base.proofs.Gathered.{gathered-get, gathered-some}
-use Rattle.sv39_core.proofs.Places.{upper-place, lower-place, page-place}
-use Rattle.frame_list.specs.Pool.{free_in}
-use Rattle.hart_core.specs.declared.hart.Hart.{Hart}
-use Rattle.proc_table.specs.Slots.{place_at, slot_of}
+use Rattle.xv_machine.proofs.Prelude.{[], ℕ, ℤ, ◌<◌, ◌^◌, ◌↔◌, ◌∙◌, ◌∷◌, ◌≡◌, ◌≤◌, ap, arith, at, at-other, at-same, Bool, by_pid, cases_eq, cond, Contains, copies, copies-cons, copies-nil, false}
+use Rattle.xv_machine.proofs.Prelude.{found, frame_of, Frames, frames_in, free_in, gathered, gathered-get, gathered-some, get, get_or, Hart, inl, inr, IsSound, IsTree, Kernel, length, List}
+use Rattle.xv_machine.proofs.Prelude.{lower-place, ltb, Memory, None, none, none-some, Note, Option, Owned, owned_at, owned_by, owned_entry, page-place, page_entry, page_frame_at, page_frame_in}
+use Rattle.xv_machine.proofs.Prelude.{pid-missing, place_at, refl, same_Some, slot-found, slot-inside, slot_of, Some, state_of, subst, suc, sym, table_at, true, upper-place, world_of, zero}
 use Rattle.proc_table.specs.declared.process.Process.{Process}
-use Rattle.kernel_spec.specs.views.ByPid.{by_pid}
-use Rattle.kcall_core.specs.Kernel.{state_of, IsSound}
-use Rattle.kcall_core.specs.Machine.{world_of}
-use Rattle.kcall_core.specs.ObservedFrames as kernel
 use Rattle.kcall_core.specs.ObservedFrames.{IsUsedBy}
-use Rattle.kcall_core.specs.declared.kernel.Kernel.{Kernel}
 use Rattle.kcall_core.specs.declared.kernel.observers.frame_uses.FrameUse.{FrameUse}
-use Rattle.kcall_core.specs.declared.kernel.observers.frame_uses.FrameUse.TheVariants as told
-use Rattle.kcall_core.specs.declared.memories.Memory.{Memory}
 use Rattle.kcall_core.specs.declared.memories.frame_roles.FrameRole.{FrameRole}
 use Rattle.kcall_core.specs.declared.memories.frame_roles.FrameRole.TheVariants.{Trapframe, Root, Upper, Lower, Page}
-use Rattle.kcall_core.proofs.table.ByPid.{found, none}
-use Rattle.kcall_core.proofs.table.Observed.{slot-found, pid-missing}
-use Rattle.kcall_core.proofs.table.States.{slot-inside}
-use Rattle.xv_machine.specs.FrameUses as machine
-use Rattle.xv_machine.specs.FrameUses.{page_frame_in, page_frame_at}
-use Rattle.xv_machine.specs.Machine.{owned_by, owned_entry, owned_at, frames_in}
-use Rattle.xv_machine.specs.Meaning.{Owned, Frames}
-use Rattle.xv_machine.specs.declared.trace.Note.{Note}
 use Rattle.xv_machine.proofs.Frames.{owner, others, owned-none}
+use Rattle.kcall_core.specs.ObservedFrames as kernel
+use Rattle.kcall_core.specs.declared.kernel.observers.frame_uses.FrameUse.TheVariants as told
+use Rattle.xv_machine.specs.FrameUses as machine
 
 -- ---- what stands in a list of frames
 

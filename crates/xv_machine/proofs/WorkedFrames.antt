@@ -1,10 +1,5 @@
 -- Worked cases of the frames that an image has: a frame for each page and each table, and none besides.
-use Rattle.std.proofs.Common.{◌≡◌, ℕ, ◌+◌, ◌*◌, ◌^◌, true, false, ap, sym, ◌∙◌, arith}
-use Rattle.std.specs.Prelude.{Option, None, Some, is_some}
-use Rattle.std.specs.FinMap.{get, len}
-use Rattle.xk_base.specs.Image.{Image, Page, some_below, price}
-use Rattle.xv_machine.specs.Meaning.{Owned}
-use Rattle.xv_machine.specs.Sound.{FitsImage}
+use Rattle.xv_machine.proofs.Prelude.{ℕ, ◌*◌, ◌+◌, ◌^◌, ◌∙◌, ◌≡◌, ap, arith, false, FitsImage, get, Image, is_some, len, None, Option, Owned, Page, price, Some, some_below, sym, true}
 
 one_truth : {A B : Type 0} (o : Option A) (p : Option B) → is_some o ≡ is_some p → (b : B) → o ≡ None → p ≡ Some b → ⊥
 one_truth o p same b none some = let no : false ≡ true = sym (ap is_some none) ∙ same ∙ ap is_some some in let bad : ⊥ = cc in bad

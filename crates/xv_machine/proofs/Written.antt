@@ -1,15 +1,12 @@
 -- What runs of equal notes stand for, as runs come and go.
-use Rattle.std.proofs.Common.{◌≡◌, ℕ, zero, suc, ◌+◌, ◌-◌, ◌*◌, ◌%◌, ◌^◌, ◌<◌, ◌≤◌, ◌⊎◌, inl, inr, List, [], ◌∷◌, ◌++◌}
-use Rattle.std.proofs.Common.{Some, None, length, get_or, take, drop, replicate, min, refl, sym, ap, ◌∙◌, subst, arith, append-nil, append_assoc, length-append}
-use Rattle.std.proofs.lemmas.List.{drop-append-le, drop-drop, drop_all, drop_at, length-drop, length-take, length-replicate, replicate-append-replicate, get_or-replicate}
-use Rattle.std.proofs.lemmas.Option.{slice_get-get_or, get_or_from_slice_get}
-use Rattle.std.specs.Prelude.{slice_get}
-use Rattle.circular_buffer.specs.Buffer.{Buffer, buffer, keep_last}
+use Rattle.xv_machine.proofs.Prelude.{[], ℕ, ◌%◌, ◌*◌, ◌++◌, ◌+◌, ◌-◌, ◌<◌, ◌^◌, ◌∙◌, ◌∷◌, ◌≡◌, ◌≤◌, ◌⊎◌, ap, append-nil, append_assoc, arith, Buffer, buffer, drop, drop-append-le, drop-drop}
+use Rattle.xv_machine.proofs.Prelude.{drop_all, drop_at, gap, get_or, get_or-replicate, get_or_from_slice_get, GoesOn, inl, inr, IsRun, IsTrace, keep_last, length, length-append, length-drop}
+use Rattle.xv_machine.proofs.Prelude.{length-replicate, length-take, List, min, None, Note, refl, replicate, replicate-append-replicate, slice_get, slice_get-get_or, Some, subst, suc, sym, take}
+use Rattle.xv_machine.proofs.Prelude.{written, zero}
 use Rattle.circular_buffer.proofs.Places.{slice_get-append_left, slice_get-append_right, slice_get-drop, slice_get-some}
-use Rattle.xv_machine.specs.declared.trace.Note.{Note}
 use Rattle.xv_machine.specs.declared.fast.trace_runs.Run.{Run}
 use Rattle.xv_machine.specs.declared.fast.trace_runs.Trace.TheInside.{Inside}
-use Rattle.xv_machine.specs.fast.Written.{gap, written, IsRun, AreRuns, GoesOn, notes_of, IsTrace}
+use Rattle.xv_machine.specs.fast.Written.{AreRuns, notes_of}
 use Rattle.xv_machine.proofs.Kept.{keep-more}
 
 -- ---- counts of 64 bits

@@ -1,10 +1,6 @@
 -- Worked cases of what a boot answers.
-use Rattle.std.proofs.Common.{◌≡◌, Ok, Err, inl, inr, refl, arith}
-use Rattle.xk_base.specs.declared.errors.ExecError.TheVariants.{NoFrames, NotElf}
-use Rattle.xk_base.specs.declared.errors.BootError.TheVariants.{BadConfig, BadPrograms, NoInit, Memory, Init}
-use Rattle.kernel_spec.specs.runs.Run.{World}
-use Rattle.xv_machine.specs.Boots.{Boots}
-use Rattle.xv_machine.specs.Meaning.{Meaning}
+use Rattle.xv_machine.proofs.Prelude.{◌≡◌, arith, BadConfig, BadPrograms, Boots, Err, Init, inl, inr, Meaning, NoFrames, NoInit, NotElf, Ok, refl, World}
+use Rattle.xk_base.specs.declared.errors.BootError.TheVariants.{Memory}
 
 module _ (w : World) (m : Meaning) where
   -- where a world is due, it is that one, in RAM of so many frames, or memory of the host runs out

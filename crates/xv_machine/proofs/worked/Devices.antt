@@ -1,6 +1,5 @@
 -- Worked cases of what devices tell of themselves.
-use Rattle.std.proofs.Common.{◌≡◌, ◌-◌, ◌^◌, Bool, true, false, List, [], ◌∷◌, Option, None, Some, refl, ap}
-use Rattle.xv_machine.specs.Devices.{one_more, OneFailed, Asked, Given, took, failed, Calls, GivesKey}
+use Rattle.xv_machine.proofs.Prelude.{[], ◌-◌, ◌^◌, ◌∷◌, ◌≡◌, ap, Asked, Bool, Calls, failed, false, Given, GivesKey, List, None, one_more, OneFailed, Option, refl, Some, took, true}
 
 -- ---- how many calls have failed
 

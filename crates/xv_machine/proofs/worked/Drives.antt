@@ -1,12 +1,7 @@
 -- Worked cases of how a drive ends: what was written, what was read, and how often the devices were called.
-use Rattle.std.proofs.Common.{◌≡◌, ◌∙◌, ℕ, ◌+◌, ◌≤◌, zero, suc, List, [], ◌∷◌, ◌++◌, length, length-append, Option, None, Some, IfSome, refl, sym, ap, subst, arith}
-use Rattle.std.specs.Io.KnownBytes.{Appends}
-use Rattle.kernel_spec.specs.runs.Run.{Event, Key, Send, Outcome, Sent, Typed, out, bytes_out}
-use Rattle.kernel_spec.specs.runs.Rounds.{events, AreRounds}
-use Rattle.xv_machine.specs.Devices.{Source, Asked, Sink, Given, Calls, took, failed}
-use Rattle.xv_machine.specs.declared.driving.RunPlan.{RunPlan}
-use Rattle.xv_machine.specs.Drives.{AskedFor, calls_of, is_halted, keys_in, Done, StoppedByRead, StoppedByWrite}
-use Rattle.xv_machine.specs.Meaning.{Meaning}
+use Rattle.xv_machine.proofs.Prelude.{[], ℕ, ◌++◌, ◌+◌, ◌∙◌, ◌∷◌, ◌≡◌, ◌≤◌, ap, Appends, AreRounds, arith, Asked, AskedFor, bytes_out, Calls, calls_of, Done, Event, events, failed, Given, IfSome}
+use Rattle.xv_machine.proofs.Prelude.{is_halted, Key, keys_in, length, length-append, List, Meaning, None, Option, out, Outcome, refl, RunPlan, Send, Sent, Sink, Some, Source, StoppedByRead}
+use Rattle.xv_machine.proofs.Prelude.{StoppedByWrite, subst, suc, sym, took, Typed, zero}
 
 -- ---- how often a source is asked
 

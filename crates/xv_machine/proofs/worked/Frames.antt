@@ -1,10 +1,5 @@
 -- Worked cases of the tables that an image has: one for each group of pages of which one is there, and none besides.
-use Rattle.std.proofs.Common.{◌≡◌, ◌∙◌, ℕ, ◌+◌, ◌*◌, ◌^◌, true, false, ap, sym, arith}
-use Rattle.std.specs.Prelude.{None, Some, is_some}
-use Rattle.std.specs.FinMap.{get, len}
-use Rattle.xk_base.specs.Image.{Image, some_below, price}
-use Rattle.xv_machine.specs.Meaning.{Owned}
-use Rattle.xv_machine.specs.Sound.{FitsImage}
+use Rattle.xv_machine.proofs.Prelude.{ℕ, ◌*◌, ◌+◌, ◌^◌, ◌∙◌, ◌≡◌, ap, arith, false, FitsImage, get, Image, is_some, len, None, Owned, price, Some, some_below, sym, true}
 
 module _ (image : Image) (o : Owned) (fits : FitsImage image o) where
   -- table 3 of the last level, of whose 512 pages none is there; and one that is missing

@@ -1,16 +1,10 @@
 -- Worked cases of the notes that a trace keeps.
-use Rattle.std.proofs.Common.{◌≡◌, ◌∙◌, List, [], ◌∷◌, ◌++◌, Some, None, refl, sym, ap₂}
-use Rattle.std.specs.Prelude.{pos, negsuc}
-use Rattle.circular_buffer.specs.Buffer.{keep_last}
+use Rattle.xv_machine.proofs.Prelude.{[], ◌++◌, ◌∙◌, ◌∷◌, ◌≡◌, ap₂, Event, Goes, IsEvent, keep_last, Key, List, Meaning, negsuc, None, notes_of, Outcome, pos, refl, Run, Send, Some, Step_of, sym}
+use Rattle.xv_machine.proofs.Prelude.{Tick}
 use Rattle.xk_base.specs.declared.access.Cause.TheVariants.{LoadPageFault}
-use Rattle.kernel_spec.specs.steps.Own as answers
-use Rattle.kernel_spec.specs.runs.Run.{Event, Run, Tick, Key, Send, Outcome, Step_of}
-use Rattle.kernel_spec.specs.runs.Run as runs
 use Rattle.xv_machine.specs.declared.trace.Note.TheVariants.{Stepped, Called, Blocked, Exited, Faulted, Turn, Idle, Ticked, Typed, Sent, Halted}
-use Rattle.xv_machine.specs.Drives.{Goes}
-use Rattle.xv_machine.specs.Meaning.{Meaning}
-use Rattle.xv_machine.specs.Notes.{notes_of}
-use Rattle.xv_machine.specs.Reached.{IsEvent}
+use Rattle.kernel_spec.specs.steps.Own as answers
+use Rattle.kernel_spec.specs.runs.Run as runs
 
 -- ---- a note of each event, in order
 

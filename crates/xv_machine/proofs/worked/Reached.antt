@@ -1,21 +1,9 @@
 -- Worked cases of the machines that boot and events lead to, and of what two of them show one process.
-use Rattle.std.proofs.Common.{◌≡◌, ◌∙◌, List, [], ◌∷◌, ◌++◌, map, None, Result, Ok, Err, sym, ap, ap₂, arith}
-use Rattle.std.specs.Prelude.{IsSome}
-use Rattle.circular_buffer.specs.Buffer.{keep_last}
-use Rattle.xk_base.specs.declared.errors.BootError.{BootError}
-use Rattle.xk_base.specs.declared.errors.BootError.TheVariants.{BadConfig}
-use Rattle.kernel_spec.specs.views.State.{ProgramFile}
-use Rattle.kernel_spec.specs.views.View.{view}
-use Rattle.kernel_spec.specs.runs.First.{first}
-use Rattle.kernel_spec.specs.steps.Own.{Stepped}
-use Rattle.kernel_spec.specs.runs.Run.{World, Event, Run, Tick, Send, Outcome, Step_of, Ticked, Sent}
+use Rattle.xv_machine.proofs.Prelude.{[], ◌++◌, ◌∙◌, ◌∷◌, ◌≡◌, ap, ap₂, arith, BadConfig, BootError, Err, Event, first, Goes, HasMoments, IsReached, IsSome, keep_last, List, map, Meaning, None}
+use Rattle.xv_machine.proofs.Prelude.{notes_of, Ok, Outcome, ProgramFile, Result, Run, Send, Sent, Step_of, Stepped, sym, Tick, Ticked, view, World}
 use Rattle.kernel_spec.specs.laws.Worlds.{Moment, AllBoth, shared}
-use Rattle.xv_machine.specs.declared.trace.Note.TheVariants as note
-use Rattle.xv_machine.specs.Drives.{Goes}
-use Rattle.xv_machine.specs.Meaning.{Meaning}
-use Rattle.xv_machine.specs.Notes.{notes_of}
-use Rattle.xv_machine.specs.Reached.{IsReached, HasMoments}
 use Rattle.xv_machine.proofs.Reached.{two_machines}
+use Rattle.xv_machine.specs.declared.trace.Note.TheVariants as note
 
 -- ---- from boot
 

@@ -1,21 +1,7 @@
 -- Worked cases of a sound machine: whose its frames are, who sleeps, and how it ends. Each machine here that isn't sound has one fault.
-use Rattle.std.proofs.Common.{◌≡◌, ◌∙◌, ℕ, zero, suc, ◌+◌, ◌<◌, ◌≤◌, List, ◌∷◌, ◌++◌, length, Option, None, Some, true, false, ◌||◌, inl, inr, refl, sym, ap, ap₂, subst, arith}
-use Rattle.std.specs.Prelude.{ℤ, pos, IsSome, is_some}
-use Rattle.std.specs.FinMap.{get, len, values}
-use Rattle.std.proofs.lemmas.Bool.{cases_lt}
-use Rattle.xk_base.specs.Frames.{copies}
-use Rattle.xk_base.specs.Image.{Page, price}
-use Rattle.xk_base.proofs.Frames.{at-same, copies-cons}
-use Rattle.pipe_core.specs.Pipe.{Pipe}
-use Rattle.kernel_spec.specs.views.Words.{count_if}
-use Rattle.kernel_spec.specs.views.Processes.{Process, Live, Alive, Zombie}
-use Rattle.kernel_spec.specs.views.State.{State, live_part, live}
-use Rattle.kernel_spec.specs.waking.Turns.{Turns, Sleeps}
-use Rattle.kernel_spec.specs.views.View.{View, view}
-use Rattle.kernel_spec.specs.waking.Ready.{call_ready, ready}
-use Rattle.kernel_spec.specs.views.WellFormed.{sum_below}
-use Rattle.xv_machine.specs.Meaning.{Owned, Meaning}
-use Rattle.xv_machine.specs.Sound.{frames_of, uses, HasFrames, IsHalted, IsSoundMachine}
+use Rattle.xv_machine.proofs.Prelude.{ℕ, ℤ, ◌++◌, ◌+◌, ◌<◌, ◌||◌, ◌∙◌, ◌∷◌, ◌≡◌, ◌≤◌, Alive, ap, ap₂, arith, at-same, call_ready, cases_lt, copies, copies-cons, count_if, false, frames_of, get}
+use Rattle.xv_machine.proofs.Prelude.{HasFrames, inl, inr, is_some, IsHalted, IsSome, IsSoundMachine, len, length, List, Live, live, live_part, Meaning, None, Option, Owned, Page, Pipe, pos, price}
+use Rattle.xv_machine.proofs.Prelude.{Process, ready, refl, Sleeps, Some, State, subst, suc, sum_below, sym, true, Turns, uses, values, View, view, zero, Zombie}
 
 -- ---- sums
 

@@ -1,4 +1,4 @@
-use Rattle.std.specs.Io.KnownBytes.{Keeps}
+use Rattle.xv_machine.proofs.Prelude.{Keeps}
 use Rattle.xv_machine.proofs.devices.read_byte.Given as goal
 
 abbrev pub invariant-loop-again : goal.invariant-loop-again

@@ -1,5 +1,4 @@
-use Rattle.std.proofs.Common.{rules, arith, inl, inr, ap, sym, ◌∙◌}
-use Rattle.std.specs.Prelude.{is_some}
+use Rattle.xv_machine.proofs.Prelude.{◌∙◌, ap, arith, inl, inr, is_some, rules, sym}
 use Rattle.xv_machine.proofs.Rounds.{none-going, one-more, none-from-some, all-done, read-stops, write-stops}
 use Rattle.xv_machine.proofs.driving.drive.Goals as goal
 

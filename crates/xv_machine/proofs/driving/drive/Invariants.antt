@@ -1,4 +1,4 @@
-use Rattle.std.proofs.Common.{◌≡◌}
+use Rattle.xv_machine.proofs.Prelude.{◌≡◌}
 use Rattle.xv_machine.proofs.Rounds.{Going}
 use Rattle.xv_machine.proofs.driving.drive.Given as goal
 

@@ -1,4 +1,4 @@
-use Rattle.xv_machine.specs.Events.{event_of, outcome_of}
+use Rattle.xv_machine.proofs.Prelude.{event_of, outcome_of}
 use Rattle.xv_machine.proofs.Joins.{event-plays, goes-one}
 use Rattle.xv_machine.proofs.driving.play.Goals as goal
 

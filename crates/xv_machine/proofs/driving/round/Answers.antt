@@ -1,9 +1,4 @@
-use Rattle.std.proofs.Common.{◌∷◌, ◌++◌, [], replicate}
-use Rattle.std.specs.Option.{option_to_list}
-use Rattle.xk_base.specs.declared.limits.TheConstants.{SEND_BYTES}
-use Rattle.kernel_spec.specs.runs.Rounds.{key_events}
-use Rattle.kernel_spec.specs.runs.Run.{Run, Tick, Send}
-use Rattle.xv_machine.specs.Events.{outcome_of}
+use Rattle.xv_machine.proofs.Prelude.{[], ◌++◌, ◌∷◌, key_events, option_to_list, outcome_of, replicate, Run, Send, SEND_BYTES, Tick}
 use Rattle.xv_machine.proofs.Joins.{goes-one, silent-played, played-join, tick-silent, later-plays}
 use Rattle.xv_machine.proofs.driving.round.Goals as goal
 

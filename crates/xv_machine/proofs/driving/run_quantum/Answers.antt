@@ -1,4 +1,4 @@
-use Rattle.std.proofs.Common.{arith}
+use Rattle.xv_machine.proofs.Prelude.{arith}
 use Rattle.xv_machine.proofs.Sent.{quantum-more}
 use Rattle.xv_machine.proofs.driving.run_quantum.Goals as goal
 

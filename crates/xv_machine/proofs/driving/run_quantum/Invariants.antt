@@ -1,6 +1,5 @@
-use Rattle.std.proofs.Common.{◌-◌, ◌≤◌, replicate}
+use Rattle.xv_machine.proofs.Prelude.{◌-◌, ◌≤◌, replicate, Silent}
 use Rattle.kernel_spec.specs.runs.Run as runs
-use Rattle.xv_machine.specs.Stretches.{Silent}
 use Rattle.xv_machine.proofs.driving.run_quantum.Given as goal
 
 abbrev pub invariant-runs : goal.invariant-runs

@@ -1,10 +1,8 @@
-use Rattle.std.specs.Prelude.{not}
-use Rattle.std.proofs.Common.{ap, ◌-◌, rules, arith, ◌∙◌, Ok, Err}
+use Rattle.xv_machine.proofs.Prelude.{◌-◌, ◌∙◌, ap, arith, Err, not, Ok, rules, SEND_BYTES}
 use Rattle.std.proofs.lemmas.Result.{err_from_is_err_and}
-use Rattle.xk_base.specs.declared.limits.TheConstants.{SEND_BYTES}
-use Rattle.kernel_spec.specs.runs.Run as runs
 use Rattle.xv_machine.proofs.Joins.{none-played, played-more, broke-within, event-plays}
 use Rattle.xv_machine.proofs.Idle.{rest-played, one-sent}
+use Rattle.kernel_spec.specs.runs.Run as runs
 use Rattle.xv_machine.proofs.driving.send_all.Goals as goal
 
 pub loop-sent-init : goal.loop-sent-init

@@ -1,6 +1,5 @@
-use Rattle.std.proofs.Common.{◌≡◌, replicate}
+use Rattle.xv_machine.proofs.Prelude.{◌≡◌, Played, replicate}
 use Rattle.kernel_spec.specs.runs.Run as runs
-use Rattle.xv_machine.specs.Stretches.{Played}
 use Rattle.xv_machine.proofs.driving.send_all.Given as goal
 
 abbrev pub invariant-loop-sent : goal.invariant-loop-sent

@@ -1,8 +1,6 @@
-use Rattle.std.proofs.Common.{rules, ◌≡◌, ap, ◌∙◌, refl, Bor}
-use Rattle.std.specs.Prelude.{find, option_copied, bytes_eq, is_some, codes, Option, Some, None}
+use Rattle.xv_machine.proofs.Prelude.{◌∙◌, ◌≡◌, ap, Bor, bytes_eq, codes, find, is_some, None, Option, option_copied, Program, refl, rules, Some}
 use Rattle.std.proofs.lemmas.Iterator.{YieldsList-from_slice}
 use Rattle.std.proofs.lemmas.Iterator.Search.{find_from_yields_List}
-use Rattle.xk_base.specs.declared.program.Program.{Program}
 use Rattle.xv_machine.proofs.Starts.{init-among}
 use Rattle.xv_machine.proofs.machine.has_init.Goals as goal
 

@@ -1,8 +1,6 @@
-use Rattle.std.proofs.Common.{sym, ◌∙◌}
+use Rattle.xv_machine.proofs.Prelude.{◌∙◌, ecall-next, fault-no-next, sym}
 use Rattle.xv_machine.proofs.Repeated.{row-pid, row-all, row-trap, busy-advanced}
 use Rattle.xv_machine.proofs.step.advance.Goals as goal
-use Rattle.kcall_core.proofs.making.TouchedSteps.{fault-no-next}
-use Rattle.kcall_core.proofs.making.Series.{ecall-next}
 
 pub go_on-outcome-requires-clause-busy : goal.go_on-outcome-requires-clause-busy
 go_on-outcome-requires-clause-busy c = c.is_busy.ensures.busy c.args.hart.now c.if-is_busy.true

@@ -1,11 +1,4 @@
-use Rattle.std.proofs.Common.{rules, ap, sym, ◌∙◌, refl, w32}
-use Rattle.std.proofs.lemmas.Int.{to_z-of_z}
-use Rattle.kcall_core.specs.Kernel.{live_now}
-use Rattle.kcall_core.specs.Makes.{answer_of}
-use Rattle.kernel_spec.specs.steps.Own.{Exited}
-use Rattle.kernel_spec.specs.runs.Run.{Step_of}
-use Rattle.kernel_spec.specs.views.Words.{minus_one}
-use Rattle.xv_machine.specs.Events.{outcome_of}
+use Rattle.xv_machine.proofs.Prelude.{◌∙◌, answer_of, ap, Exited, live_now, minus_one, outcome_of, refl, rules, Step_of, sym, to_z-of_z, w32}
 use Rattle.xv_machine.proofs.OneStep.{ends-marked, marked-answer, resume-answer, call-missing}
 use Rattle.xv_machine.proofs.Repeated.{busy-in-call, some-none}
 use Rattle.xv_machine.proofs.step.go_on.Goals as goal

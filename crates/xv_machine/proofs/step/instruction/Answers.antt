@@ -1,9 +1,6 @@
-use Rattle.std.proofs.Common.{ap, sym}
-use Rattle.kernel_spec.specs.runs.Run.{Step_of}
+use Rattle.xv_machine.proofs.Prelude.{ap, ecall-next, fault-no-next, made-before, Step_of, sym}
 use Rattle.xv_machine.proofs.OneStep.{next-answer}
 use Rattle.xv_machine.proofs.step.instruction.Goals as goal
-use Rattle.kcall_core.proofs.making.TouchedSteps.{fault-no-next, made-before}
-use Rattle.kcall_core.proofs.making.Series.{ecall-next}
 
 pub returns-in-Next-clause-answer : goal.returns-in-Next-clause-answer
 returns-in-Next-clause-answer c = sym (ap (Step_of c.args.pid) (next-answer c.args.kernel.now c.args.hart.now c.requires.between_calls (sym c.in-Next.ensures.stop)))

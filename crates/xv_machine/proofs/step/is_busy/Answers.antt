@@ -1,9 +1,6 @@
-use Rattle.std.proofs.Common.{inl, inr, ap, sym, ◌∙◌}
-use Rattle.std.specs.Prelude.{is_some}
-use Rattle.kcall_core.specs.Kernel.{live_now}
+use Rattle.xv_machine.proofs.Prelude.{◌∙◌, ap, inl, inr, is_some, live_now, none_from_is_some, sym}
 use Rattle.xv_machine.proofs.Repeated.{number-some}
 use Rattle.xv_machine.proofs.step.is_busy.Goals as goal
-use Rattle.kernel_spec.proofs.Common.{none_from_is_some}
 
 pub returns-then-marked-clause-busy : goal.returns-then-marked-clause-busy
 returns-then-marked-clause-busy c hart e = inl (sym (c.marked.ensures hart) ∙ c.if-marked.true)

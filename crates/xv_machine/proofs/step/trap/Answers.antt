@@ -1,9 +1,4 @@
-use Rattle.std.proofs.Common.{rules, ap, sym, ◌∙◌, refl, w32, subst}
-use Rattle.std.proofs.lemmas.Int.{to_z-of_z}
-use Rattle.kcall_core.specs.Makes.{Makes, answer_of}
-use Rattle.kernel_spec.specs.steps.Own.{Own, Faulted}
-use Rattle.kernel_spec.specs.runs.Run.{Step_of}
-use Rattle.kcall_core.proofs.making.Undone.{ecall-now, fault-now}
+use Rattle.xv_machine.proofs.Prelude.{◌∙◌, answer_of, ap, ecall-now, fault-now, Faulted, Makes, Own, refl, rules, Step_of, subst, sym, to_z-of_z, w32}
 use Rattle.xv_machine.proofs.OneStep.{begun-number}
 use Rattle.xv_machine.proofs.step.trap.Goals as goal
 

@@ -1,4 +1,4 @@
-use Rattle.std.proofs.Common.{rules}
+use Rattle.xv_machine.proofs.Prelude.{rules}
 use Rattle.xv_machine.proofs.devices.Counted.new.Goals as goal
 
 pub returns-clause-failures : goal.returns-clause-failures

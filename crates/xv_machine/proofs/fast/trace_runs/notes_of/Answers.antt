@@ -1,4 +1,4 @@
-use Rattle.std.proofs.Common.{◌≡◌, suc, ◌-◌, ◌∙◌, arith, sym}
+use Rattle.xv_machine.proofs.Prelude.{◌-◌, ◌∙◌, ◌≡◌, arith, suc, sym}
 use Rattle.xv_machine.proofs.Written.{taken-at, not-past}
 use Rattle.xv_machine.proofs.fast.trace_runs.notes_of.Goals as goal
 

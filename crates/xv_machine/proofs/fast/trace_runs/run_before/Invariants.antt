@@ -1,5 +1,4 @@
-use Rattle.std.proofs.Common.{◌-◌, ◌<◌, ◌≤◌, length, take}
-use Rattle.xv_machine.specs.fast.Written.{written}
+use Rattle.xv_machine.proofs.Prelude.{◌-◌, ◌<◌, ◌≤◌, length, take, written}
 use Rattle.xv_machine.proofs.fast.trace_runs.run_before.Given as goal
 
 abbrev pub invariant-halves : goal.invariant-halves

@@ -1,11 +1,5 @@
-use Rattle.std.proofs.Common.{sym, ◌∙◌, subst, None, Some, Option}
-use Rattle.std.specs.Prelude.{ℤ}
-use Rattle.kcall_core.specs.Machine.{turns_of, world_of}
-use Rattle.kcall_core.specs.Kernel.{state_of}
-use Rattle.kernel_spec.specs.waking.Wakes.{IsPromised}
+use Rattle.xv_machine.proofs.Prelude.{ℤ, ◌∙◌, Advanced, IsHalted, IsPromised, None, Option, runs_made, Some, state_of, subst, sym, turns_of, world_of}
 use Rattle.xv_machine.specs.declared.event.Outcome.{Outcome}
-use Rattle.xv_machine.specs.Sound.{IsHalted}
-use Rattle.xv_machine.specs.Steps.{Advanced, runs_made}
 use Rattle.xv_machine.proofs.Runs.{current-pid, count-is, now-frames}
 use Rattle.xv_machine.proofs.Advances.{now-running, now-ran, is-on, none-run, none-frames, some-end, some-whole, some-halted, some-frames, some-run}
 use Rattle.xv_machine.proofs.machine.Machine.advance.Goals as goal

@@ -1,11 +1,5 @@
-use Rattle.std.proofs.Common.{ap, sym, ◌∙◌, refl, subst, map, Err}
-use Rattle.std.specs.Prelude.{◌≡◌, is_some, option_map}
-use Rattle.kernel_spec.specs.runs.First.{unless_refused, first_init}
-use Rattle.xk_base.specs.declared.errors.BootError.TheVariants.{BadConfig, BadPrograms}
-use Rattle.kernel_spec.specs.views.State.{named_file}
-use Rattle.kernel_spec.specs.views.Programs.{first_bad, init_of}
-use Rattle.kernel_spec.proofs.Common.{none_from_is_some}
-use Rattle.xv_machine.specs.Boots.{Boots}
+use Rattle.xv_machine.proofs.Prelude.{◌∙◌, ◌≡◌, ap, BadConfig, BadPrograms, Boots, Err, first_bad, first_init, init_of, is_some, map, named_file, none_from_is_some, option_map, refl, subst, sym}
+use Rattle.xv_machine.proofs.Prelude.{unless_refused}
 use Rattle.xv_machine.proofs.Starts.{first-bad, programs-same, boots-kernel, boots-no_kernel, boots-without_init}
 use Rattle.xv_machine.proofs.machine.Machine.boot.Goals as goal
 

@@ -1,6 +1,4 @@
-use Rattle.std.proofs.Common.{ap, ◌∙◌}
-use Rattle.kcall_core.specs.Observers.{child_at}
-use Rattle.xv_machine.specs.Meaning.{Meaning}
+use Rattle.xv_machine.proofs.Prelude.{◌∙◌, ap, child_at, Meaning}
 use Rattle.xv_machine.proofs.machine.Machine.child_state.Goals as goal
 
 pub returns : goal.returns

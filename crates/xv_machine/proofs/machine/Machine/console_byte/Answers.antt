@@ -1,7 +1,4 @@
-use Rattle.std.proofs.Common.{ap, ◌∙◌}
-use Rattle.std.specs.Prelude.{slice_get}
-use Rattle.console_core.specs.Lists.{list_of}
-use Rattle.xv_machine.specs.Meaning.{Meaning}
+use Rattle.xv_machine.proofs.Prelude.{◌∙◌, ap, list_of, Meaning, slice_get}
 use Rattle.xv_machine.proofs.machine.Machine.console_byte.Goals as goal
 
 pub returns : goal.returns

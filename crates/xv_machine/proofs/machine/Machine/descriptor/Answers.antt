@@ -1,6 +1,4 @@
-use Rattle.std.proofs.Common.{ap, ◌∙◌}
-use Rattle.kcall_core.specs.Observers.{descriptor_of}
-use Rattle.xv_machine.specs.Meaning.{Meaning}
+use Rattle.xv_machine.proofs.Prelude.{◌∙◌, ap, descriptor_of, Meaning}
 use Rattle.xv_machine.proofs.machine.Machine.descriptor.Goals as goal
 
 pub returns : goal.returns

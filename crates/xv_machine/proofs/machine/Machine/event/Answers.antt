@@ -1,8 +1,5 @@
-use Rattle.std.proofs.Common.{rules, subst, sym}
-use Rattle.kernel_spec.specs.waking.Wakes.{Promised}
+use Rattle.xv_machine.proofs.Prelude.{event_of, Meaning, outcome_of, Promised, rules, subst, sym}
 use Rattle.xv_machine.specs.declared.event.Outcome.{Outcome}
-use Rattle.xv_machine.specs.Events.{event_of, outcome_of}
-use Rattle.xv_machine.specs.Meaning.{Meaning}
 use Rattle.xv_machine.proofs.machine.Machine.event.Goals as goal
 
 pub returns-in-Stepped : goal.returns-in-Stepped

@@ -1,7 +1,4 @@
-use Rattle.std.proofs.Common.{◌≡◌, ◌≤◌, subst, Some, None}
-use Rattle.std.specs.Prelude.{◌↔◌}
-use Rattle.xv_machine.specs.FrameUses.{IsUsed}
-use Rattle.xv_machine.specs.Meaning.{Meaning}
+use Rattle.xv_machine.proofs.Prelude.{◌↔◌, ◌≡◌, ◌≤◌, IsUsed, Meaning, None, Some, subst}
 use Rattle.xv_machine.proofs.Runs.{now-frames}
 use Rattle.xv_machine.proofs.Uses.{use-told}
 use Rattle.xv_machine.proofs.machine.Machine.frame_use.Goals as goal

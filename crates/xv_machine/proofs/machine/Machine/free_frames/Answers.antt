@@ -1,5 +1,4 @@
-use Rattle.std.proofs.Common.{ap, ◌∙◌}
-use Rattle.xv_machine.specs.Meaning.{Meaning}
+use Rattle.xv_machine.proofs.Prelude.{◌∙◌, ap, Meaning}
 use Rattle.xv_machine.proofs.machine.Machine.free_frames.Goals as goal
 
 pub returns : goal.returns

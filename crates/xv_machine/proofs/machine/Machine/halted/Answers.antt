@@ -1,5 +1,4 @@
-use Rattle.std.proofs.Common.{ap, ◌∙◌}
-use Rattle.xv_machine.specs.Meaning.{Meaning}
+use Rattle.xv_machine.proofs.Prelude.{◌∙◌, ap, Meaning}
 use Rattle.xv_machine.proofs.Runs.{kept-is, now-sound}
 use Rattle.xv_machine.proofs.machine.Machine.halted.Goals as goal
 

@@ -1,4 +1,4 @@
-use Rattle.std.proofs.Common.{sym}
+use Rattle.xv_machine.proofs.Prelude.{sym}
 use Rattle.xv_machine.proofs.Instructed.{instructions-go}
 use Rattle.xv_machine.proofs.machine.Machine.instructions.Goals as goal
 

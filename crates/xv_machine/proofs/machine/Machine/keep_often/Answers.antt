@@ -1,4 +1,4 @@
-use Rattle.std.proofs.Common.{replicate}
+use Rattle.xv_machine.proofs.Prelude.{replicate}
 use Rattle.xv_machine.proofs.Frames.{sound-of}
 use Rattle.xv_machine.proofs.Kept.{pushed-often}
 use Rattle.xv_machine.proofs.Runs.{now-sound}

@@ -1,4 +1,4 @@
-use Rattle.xv_machine.specs.declared.trace.Note.{Note}
+use Rattle.xv_machine.proofs.Prelude.{Note}
 use Rattle.xv_machine.proofs.Frames.{sound-of}
 use Rattle.xv_machine.proofs.Kept.{pushed}
 use Rattle.xv_machine.proofs.Runs.{now-sound}

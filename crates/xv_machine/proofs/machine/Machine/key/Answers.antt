@@ -1,8 +1,6 @@
-use Rattle.std.proofs.Common.{ap, sym, ◌∙◌, None}
-use Rattle.kernel_spec.specs.views.State.{State}
-use Rattle.kernel_spec.specs.runs.Run as runs
-use Rattle.kernel_spec.proofs.Common.{none_from_is_some}
+use Rattle.xv_machine.proofs.Prelude.{◌∙◌, ap, None, none_from_is_some, State, sym}
 use Rattle.xv_machine.proofs.Runs.{now-frames, now-promised, key-over, count-is, run-key, lives-on-by}
+use Rattle.kernel_spec.specs.runs.Run as runs
 use Rattle.xv_machine.proofs.machine.Machine.key.Goals as goal
 
 pub returns-then-is_some-clause-promised : goal.returns-then-is_some-clause-promised

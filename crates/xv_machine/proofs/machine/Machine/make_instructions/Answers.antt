@@ -1,4 +1,4 @@
-use Rattle.std.proofs.Common.{◌∙◌}
+use Rattle.xv_machine.proofs.Prelude.{◌∙◌}
 use Rattle.xv_machine.proofs.Advances.{now-running}
 use Rattle.xv_machine.proofs.Instructed.{did-run, did-next, did-halted}
 use Rattle.xv_machine.proofs.Runs.{current-pid, count-is, now-frames}

@@ -1,6 +1,4 @@
-use Rattle.std.proofs.Common.{ap, ◌∙◌}
-use Rattle.xv_machine.specs.FrameUses.{page_frame_at}
-use Rattle.xv_machine.specs.Meaning.{Meaning}
+use Rattle.xv_machine.proofs.Prelude.{◌∙◌, ap, Meaning, page_frame_at}
 use Rattle.xv_machine.proofs.Uses.{page-told}
 use Rattle.xv_machine.proofs.machine.Machine.page_frame.Goals as goal
 

@@ -1,7 +1,4 @@
-use Rattle.std.proofs.Common.{sym, ap, ◌∙◌, ◌∷◌, [], ◌++◌, replicate}
-use Rattle.circular_buffer.specs.Buffer.{keep_last}
-use Rattle.xv_machine.specs.declared.trace.Note.{Note}
-use Rattle.xv_machine.specs.Events.{outcome_of}
+use Rattle.xv_machine.proofs.Prelude.{[], ◌++◌, ◌∙◌, ◌∷◌, ap, keep_last, Note, outcome_of, replicate, sym}
 use Rattle.xv_machine.proofs.Sent.{turn-ran, idle-ran}
 use Rattle.xv_machine.proofs.machine.Machine.pass.Goals as goal
 

@@ -1,6 +1,4 @@
-use Rattle.std.proofs.Common.{ap, ◌∙◌}
-use Rattle.kcall_core.specs.Observers.{byte_at}
-use Rattle.xv_machine.specs.Meaning.{Meaning}
+use Rattle.xv_machine.proofs.Prelude.{◌∙◌, ap, byte_at, Meaning}
 use Rattle.xv_machine.proofs.machine.Machine.peek.Goals as goal
 
 pub returns : goal.returns

@@ -1,7 +1,4 @@
-use Rattle.std.proofs.Common.{subst}
-use Rattle.std.specs.Prelude.{IfSome, IfNone}
-use Rattle.kernel_spec.specs.waking.Turns.{HasSlot, IsFreeSlot}
-use Rattle.xv_machine.specs.Meaning.{Meaning}
+use Rattle.xv_machine.proofs.Prelude.{HasSlot, IfNone, IfSome, IsFreeSlot, Meaning, subst}
 use Rattle.xv_machine.proofs.machine.Machine.pid_in.Goals as goal
 
 pub returns-clause-held : goal.returns-clause-held

@@ -1,6 +1,4 @@
-use Rattle.std.proofs.Common.{ap, ◌∙◌}
-use Rattle.kcall_core.specs.ObservedPipes.{pipe_counts_of}
-use Rattle.xv_machine.specs.Meaning.{Meaning}
+use Rattle.xv_machine.proofs.Prelude.{◌∙◌, ap, Meaning, pipe_counts_of}
 use Rattle.xv_machine.proofs.machine.Machine.pipe_counts.Goals as goal
 
 pub returns : goal.returns

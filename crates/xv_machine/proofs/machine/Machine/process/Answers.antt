@@ -1,6 +1,4 @@
-use Rattle.std.proofs.Common.{ap, ◌∙◌}
-use Rattle.kcall_core.specs.Observers.{process_at}
-use Rattle.xv_machine.specs.Meaning.{Meaning}
+use Rattle.xv_machine.proofs.Prelude.{◌∙◌, ap, Meaning, process_at}
 use Rattle.xv_machine.proofs.machine.Machine.process.Goals as goal
 
 pub returns : goal.returns

@@ -1,5 +1,4 @@
-use Rattle.std.proofs.Common.{ℕ, subst, sym}
-use Rattle.xv_machine.specs.Drives.{Ran}
+use Rattle.xv_machine.proofs.Prelude.{ℕ, Ran, subst, sym}
 use Rattle.xv_machine.proofs.Sent.{none-ran}
 use Rattle.xv_machine.proofs.machine.Machine.run.Goals as goal
 

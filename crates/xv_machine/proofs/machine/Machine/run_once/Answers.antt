@@ -1,10 +1,7 @@
-use Rattle.std.proofs.Common.{sym, ◌∙◌, None, subst, rules}
-use Rattle.kernel_spec.specs.runs.Run as runs
-use Rattle.kcall_core.specs.Machine.{world_of}
-use Rattle.kernel_spec.specs.waking.Wakes.{Promised}
+use Rattle.xv_machine.proofs.Prelude.{◌∙◌, halted_by, None, outcome_of, Promised, rules, subst, sym, world_of}
 use Rattle.xv_machine.specs.declared.event.Outcome.{Outcome}
-use Rattle.xv_machine.specs.Events.{outcome_of, halted_by}
 use Rattle.xv_machine.proofs.Runs.{current-pid, not-halted, count-is, now-frames, now-promised, run-step, run-ends, stepped-keeps}
+use Rattle.kernel_spec.specs.runs.Run as runs
 use Rattle.xv_machine.proofs.machine.Machine.run_once.Goals as goal
 
 pub step-outcome-requires-clause-running : goal.step-outcome-requires-clause-running

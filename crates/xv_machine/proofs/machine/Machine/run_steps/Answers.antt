@@ -1,10 +1,5 @@
-use Rattle.std.proofs.Common.{ap, ◌∙◌, subst, ◌∷◌, [], ◌++◌, None, Some, Option}
-use Rattle.circular_buffer.specs.Buffer.{keep_last}
-use Rattle.kernel_spec.specs.waking.Wakes.{IsPromised}
+use Rattle.xv_machine.proofs.Prelude.{[], ◌++◌, ◌∙◌, ◌∷◌, ap, IsEnd, IsPromised, keep_last, None, Note, Option, outcome_of, runs_made, Some, subst}
 use Rattle.xv_machine.specs.declared.event.Outcome.{Outcome}
-use Rattle.xv_machine.specs.declared.trace.Note.{Note}
-use Rattle.xv_machine.specs.Events.{outcome_of}
-use Rattle.xv_machine.specs.Steps.{runs_made, IsEnd}
 use Rattle.xv_machine.proofs.Sent.{all-ran, some-ran}
 use Rattle.xv_machine.proofs.machine.Machine.run_steps.Goals as goal
 

@@ -1,5 +1,4 @@
-use Rattle.std.specs.Prelude.{not}
-use Rattle.std.proofs.Common.{ap, ◌∙◌}
+use Rattle.xv_machine.proofs.Prelude.{◌∙◌, ap, not}
 use Rattle.xv_machine.proofs.Idle.{none-left, byte-left}
 use Rattle.xv_machine.proofs.machine.Machine.send.Goals as goal
 

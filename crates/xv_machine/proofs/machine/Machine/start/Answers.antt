@@ -1,9 +1,4 @@
-use Rattle.std.proofs.Common.{ap, ◌∙◌, length, map, None}
-use Rattle.kernel_spec.specs.views.State.{named_file}
-use Rattle.kcall_core.specs.Kernel.{state_of}
-use Rattle.kcall_core.specs.Machine.{world_of}
-use Rattle.hart_core.specs.declared.hart.Hart.{Hart}
-use Rattle.xv_machine.specs.Machine.{meaning_of}
+use Rattle.xv_machine.proofs.Prelude.{◌∙◌, ap, Hart, length, map, meaning_of, named_file, None, state_of, world_of}
 use Rattle.xv_machine.proofs.Frames.{sound-of}
 use Rattle.xv_machine.proofs.Runs.{count-is}
 use Rattle.xv_machine.proofs.Kept.{empty-kept}

@@ -1,5 +1,4 @@
-use Rattle.std.proofs.Common.{ap, ◌∙◌}
-use Rattle.kernel_spec.specs.views.State.{State}
+use Rattle.xv_machine.proofs.Prelude.{◌∙◌, ap, State}
 use Rattle.xv_machine.proofs.Runs.{now-frames, now-sent, count-is, sent-ends}
 use Rattle.xv_machine.proofs.machine.Machine.take_byte.Goals as goal
 

@@ -1,8 +1,6 @@
-use Rattle.std.proofs.Common.{sym, ◌∙◌, None}
-use Rattle.kernel_spec.specs.runs.Run as runs
-use Rattle.kernel_spec.specs.runs.Run.{World}
-use Rattle.kernel_spec.proofs.Common.{none_from_is_some}
+use Rattle.xv_machine.proofs.Prelude.{◌∙◌, None, none_from_is_some, sym, World}
 use Rattle.xv_machine.proofs.Runs.{now-stopped, now-frames, now-promised, now-over, count-is, run-turn, run-idle}
+use Rattle.kernel_spec.specs.runs.Run as runs
 use Rattle.xv_machine.proofs.machine.Machine.turn.Goals as goal
 
 pub returns-then-is_some-clause-promised : goal.returns-then-is_some-clause-promised

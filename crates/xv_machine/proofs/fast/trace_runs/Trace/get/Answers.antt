@@ -1,4 +1,4 @@
-use Rattle.std.proofs.Common.{sym}
+use Rattle.xv_machine.proofs.Prelude.{sym}
 use Rattle.xv_machine.proofs.Written.{note-at}
 use Rattle.xv_machine.proofs.fast.trace_runs.Trace.get.Goals as goal
 

@@ -1,7 +1,7 @@
-use Rattle.std.proofs.Common.{arith, ◌<◌, ◌^◌}
+use Rattle.xv_machine.proofs.Prelude.{◌<◌, ◌^◌, arith}
 use Rattle.xv_machine.proofs.Written.{puts-longer, puts-begun, puts-none, puts-view}
-use Rattle.xv_machine.proofs.fast.trace_runs.Trace.push_often.Goals as goal
 use Rattle.xv_machine.proofs.fast.trace_runs.Trace.push_often.Goals.{then-not-goes_on+else-more-eq0, else-not-goes_on}
+use Rattle.xv_machine.proofs.fast.trace_runs.Trace.push_often.Goals as goal
 
 pub returns-then-more-eq0 : goal.returns-then-more-eq0
 returns-then-more-eq0 c = puts-none c.self.inside c.args.self.now c.args.note.now c.args.more c.self.view_is c.if-more-eq0.true
