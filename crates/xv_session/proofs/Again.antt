@@ -1,5 +1,5 @@
 -- The same events once more lead to the same.
-use Rattle.std.proofs.Common.{sym, ◌∙◌}
+use Rattle.xv_session.proofs.Prelude.{◌∙◌, sym}
 use Rattle.kernel_spec.proofs.runs.Replays.{replay_is_the_same}
 use Rattle.xv_session.specs.Again.{PlayedAgain}
 

@@ -1,21 +1,13 @@
 -- Process 1 lives in the machine that was just booted.
-use Rattle.std.proofs.Common.{◌≡◌, ℕ, ◌+◌, Bool, true, false, cond, List, [], ◌∷◌, Option, None, Some, Result, Ok, Err, sym, ap, subst}
-use Rattle.std.specs.Prelude.{IsSome, nat_lt}
+use Rattle.xv_session.proofs.Prelude.{[], ℕ, ◌+◌, ◌∷◌, ◌≡◌, ap, Bool, cond, Err, false, first, first_init, first_loaded, first_state, first_turns, init_name, init_of, IsHalted, IsSome, IsSoundMachine}
+use Rattle.xv_session.proofs.Prelude.{List, live, Meaning, nat_lt, None, Ok, Option, ProgramFile, Result, same_Ok, Some, subst, sym, TRACE_MAX, true, unless_refused, within_frames, World}
 use Rattle.xk_base.specs.Image.{price}
 use Rattle.xk_base.specs.Loaded.{Loaded, loaded}
 use Rattle.xk_base.specs.declared.errors.BootError.{BootError}
 use Rattle.xk_base.specs.declared.errors.BootError.TheVariants.{BadConfig}
 use Rattle.xk_base.specs.declared.errors.ExecError.{ExecError}
 use Rattle.xk_base.specs.declared.errors.ExecError.TheVariants.{NoFrames}
-use Rattle.xk_base.specs.declared.limits.TheConstants.{TRACE_MAX}
-use Rattle.kernel_spec.specs.runs.First.{first, first_state, first_turns, first_loaded, first_init, within_frames, unless_refused}
 use Rattle.kernel_spec.specs.views.NewKernel.{refusal}
-use Rattle.kernel_spec.specs.runs.Run.{World}
-use Rattle.kernel_spec.specs.views.Programs.{init_name, init_of}
-use Rattle.kernel_spec.specs.views.State.{ProgramFile, live}
-use Rattle.kernel_spec.proofs.Common.{same_Ok}
-use Rattle.xv_machine.specs.Meaning.{Meaning}
-use Rattle.xv_machine.specs.Sound.{IsSoundMachine, IsHalted}
 
 abbrev NotHalted : World → Type 0
 NotHalted w = w.turns.halted ≡ None

@@ -1,14 +1,10 @@
 -- What the answer of a fork tells: the pid of the child that it made.
-use Rattle.std.proofs.Common.{◌≡◌, ℕ, Bool, true, false, Option, None, Some, inl, inr, sym, ap, ◌∙◌, subst}
-use Rattle.std.specs.Prelude.{ℤ, pos, IsSome, MatchOption}
+use Rattle.xv_session.proofs.Prelude.{ℕ, ℤ, ◌∙◌, ◌≡◌, after_instruction, Answer, ap, begun, Blocked, Bool, call_begun, Called, Exited, false, Faulted, going_on, gone_with, inl, inr, IsSome}
+use Rattle.xv_session.proofs.Prelude.{MatchOption, minus_one, None, Option, Own, own, pos, Some, Stepped, subst, sym, true, unless_killed, View}
 use Rattle.rv64i_core.specs.Step.{Step, Next, Ecall, Fault}
 use Rattle.proc_table.specs.declared.process.Call.{Call}
 use Rattle.kernel_spec.specs.rows.Calls.{Row, Fork, row_of, perform, refused}
-use Rattle.kernel_spec.specs.steps.Own.{Own, Answer, Stepped, Called, Blocked, Exited, Faulted, gone_with}
-use Rattle.kernel_spec.specs.steps.Step.{own, after_instruction, going_on, unless_killed, call_begun, begun}
 use Rattle.kernel_spec.specs.steps.Instruction.{next_instruction}
-use Rattle.kernel_spec.specs.views.View.{View}
-use Rattle.kernel_spec.specs.views.Words.{minus_one}
 use Rattle.kernel_spec.proofs.rows.ByTouch.{by_call, by_instruction}
 use Rattle.kernel_spec.proofs.rows.Outcomes.{Comes, perform_comes}
 use Rattle.kernel_spec.proofs.rows.RowParts.{perform_parts, perform_row, cannot_fork, forked, unless, fork_parts}

@@ -1,14 +1,6 @@
 -- A session whose machine has gone on.
-use Rattle.std.proofs.Common.{◌≡◌, ℕ, List, [], ◌++◌, Ok, take, sym, subst}
-use Rattle.kernel_spec.specs.runs.First.{first}
-use Rattle.kernel_spec.specs.runs.Run.{Event}
-use Rattle.kernel_spec.specs.views.State.{ProgramFile}
-use Rattle.xv_machine.specs.Boots.{Boots, HasEmptyTrace}
-use Rattle.xv_machine.specs.Sound.{IsSoundMachine}
-use Rattle.xv_session.specs.Answers.{stands}
-use Rattle.xv_session.specs.Names.{first_names}
-use Rattle.xv_session.specs.Recorded.{Recorded, IsLed, GoesBy}
-use Rattle.xv_session.specs.declared.running.Running.{Running}
+use Rattle.xv_session.proofs.Prelude.{[], ℕ, ◌++◌, ◌≡◌, Boots, Event, first, first_names, GoesBy, HasEmptyTrace, IsLed, IsSoundMachine, List, Ok, ProgramFile, Recorded, Running, stands, subst, sym}
+use Rattle.xv_session.proofs.Prelude.{take}
 use Rattle.xv_session.proofs.Plays.{led-on}
 use Rattle.xv_session.proofs.Programs.{goes-on, led-programs, booted-led}
 

@@ -1,3 +1,4 @@
+mod Prelude
 pub mod Again
 pub mod AtBoot
 pub mod Children

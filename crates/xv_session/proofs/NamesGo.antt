@@ -1,12 +1,6 @@
 -- Names over runs.
-use Rattle.std.specs.Prelude.{ℤ}
-use Rattle.std.proofs.Common.{◌≡◌, ℕ, zero, suc, List, [], ◌∷◌, ◌++◌, replicate, Option, None, Some, refl, sym, ◌∙◌, subst}
-use Rattle.kernel_spec.specs.runs.Run.{World, Event, Run, Tick, Key, Send, Outcome, Step_of, Turn, Idle, Ticked, Typed, Sent, Halted, TickHappens, KeyHappens, first_sent}
-use Rattle.kernel_spec.specs.steps.Own.{Stepped}
-use Rattle.kernel_spec.specs.waking.Wakes.{Promised, IsPromised}
-use Rattle.console_core.specs.Keys.{line}
-use Rattle.xv_session.specs.Names.{NamesGo, names_after, asked_in, asked_for}
-use Rattle.xv_session.specs.declared.names.Named.{Named}
+use Rattle.xv_session.proofs.Prelude.{[], ℕ, ℤ, ◌++◌, ◌∙◌, ◌∷◌, ◌≡◌, asked_for, asked_in, Event, first_sent, Halted, Idle, IsPromised, Key, KeyHappens, line, List, Named, names_after, NamesGo, None}
+use Rattle.xv_session.proofs.Prelude.{Option, Outcome, Promised, refl, replicate, Run, Send, Sent, Some, Step_of, Stepped, subst, suc, sym, Tick, Ticked, TickHappens, Turn, Typed, World, zero}
 
 pub names-one : (w t : World) (e : Event) (o : Outcome) (names : List Named) → Promised w e o t → NamesGo w ((e, o) ∷ []) t names (names_after (asked_in w) o names)
 names-one w t e o names promised = (t, promised, (refl, refl))

@@ -1,44 +1,21 @@
 -- The named are live, and no two are one. So there are no more of them than slots.
-use Rattle.std.proofs.Common.{◌≡◌, ◌≢◌, ◌⊎◌, ℕ, ◌<◌, ◌≤◌, Bool, true, false, cond, not, List, [], ◌∷◌, ◌++◌, length}
-use Rattle.std.proofs.Common.{map, replicate, eqb, Option, None, Some, Ok, inl, inr, refl, sym, ap, ◌∙◌, subst}
-use Rattle.std.specs.Prelude.{ℤ, pos, negsuc, IsSome, IfSome, is_some, MatchOption, option_map, nat_le, ◌&&◌}
-use Rattle.std.specs.List.{IsDistinct, AllByRecursion, list_any}
+use Rattle.xv_session.proofs.Prelude.{[], ℕ, ℤ, ◌&&◌, ◌++◌, ◌<◌, ◌∙◌, ◌∷◌, ◌≡◌, ◌≢◌, ◌≤◌, ◌⊎◌, Advances, after_call, after_step, AllByRecursion, Among, Answer, ap, Apart, AreLive, asked_in, Blocked}
+use Rattle.xv_session.proofs.Prelude.{Bool, Boots, Called, child_of, cond, Decides-int_eq, done_by, eqb, eqb-true, eqb_tells, Event, Exited, false, Faulted, first, first_names, first_sent, Goes}
+use Rattle.xv_session.proofs.Prelude.{GoesBy, gone_on_with, gone_with, Halted, Happens, HasEmptyTrace, Idle, IfSome, init_name, inl, inr, is_some, IsDistinct, IsEvent, IsLed, IsRecorded, IsSome}
+use Rattle.xv_session.proofs.Prelude.{IsSound, IsSoundMachine, Key, KeyHappens, length, length-map, line, List, list_any, live, live_part, map, MatchOption, Meaning, Named, named_of, names_after}
+use Rattle.xv_session.proofs.Prelude.{NamesGo, nat_le, negsuc, None, not, NPROC, Ok, Option, option_map, or_cases, or_zero, Outcome, own, PID_MAX, place_in, place_of, pos, ProgramFile, Recorded, refl}
+use Rattle.xv_session.proofs.Prelude.{replicate, Run, RunHappens, Running, running_of, same_Ok, Send, Sent, Some, State, Step_of, StepOf, Stepped, subst, sym, the_value, there_if_alive, Tick, Ticked}
+use Rattle.xv_session.proofs.Prelude.{TickHappens, true, Turn, TurnTaken, Typed, View, view, view_of, with_child, with_place, without, World}
 use Rattle.std.specs.FinMap.{FinMap, get}
 use Rattle.std.specs.Ordering.{int_eq, nat_cmp}
-use Rattle.std.proofs.lemmas.Bool.Decides.{eqb_tells, Decides-int_eq}
-use Rattle.std.proofs.lemmas.Bool.{or_cases, eqb-true}
-use Rattle.std.proofs.lemmas.List.{length-map}
 use Rattle.std.proofs.lemmas.Map.Steps.{length-le_from_distinct_below}
-use Rattle.xk_base.specs.declared.limits.TheConstants.{NPROC, PID_MAX}
-use Rattle.console_core.specs.Keys.{line}
 use Rattle.kernel_spec.specs.views.Processes.{Live, Process}
-use Rattle.kernel_spec.specs.views.State.{State, ProgramFile, live, live_part}
-use Rattle.kernel_spec.specs.views.View.{View, view, view_of}
 use Rattle.kernel_spec.specs.views.WellFormed.{HasSlots}
-use Rattle.kernel_spec.specs.views.Programs.{place_of, init_name}
-use Rattle.kernel_spec.specs.views.Words.{or_zero}
 use Rattle.kernel_spec.specs.waking.Turns.{Turns}
-use Rattle.kernel_spec.specs.steps.Own.{Answer, Stepped, Called, Blocked, Exited, Faulted, gone_with}
-use Rattle.kernel_spec.specs.steps.Step.{own}
-use Rattle.kernel_spec.specs.runs.First.{first}
-use Rattle.xv_machine.specs.Sound.{IsSoundMachine}
-use Rattle.kernel_spec.specs.runs.Run.{World, Event, Run, Tick, Key, Send, Outcome, Step_of, Turn, Idle, Halted}
-use Rattle.kernel_spec.specs.runs.Run.{Ticked, Typed, Sent, TurnTaken, RunHappens, TickHappens, KeyHappens, Happens, StepOf, first_sent}
 use Rattle.kernel_spec.proofs.rows.Pids.{own_sound}
-use Rattle.kernel_spec.proofs.Common.{same_Ok, the_value, there_if_alive}
 use Rattle.kernel_spec.proofs.runs.Cuts.{his_pid}
-use Rattle.xv_session.specs.Names.{NamesGo, Among, Apart, AreLive, first_names, names_after, after_step, after_call}
-use Rattle.xv_session.specs.Names.{asked_in, without, with_place, with_child, child_of, gone_on_with, place_in, named_of}
-use Rattle.xv_session.specs.declared.names.Named.{Named}
-use Rattle.xv_session.specs.Recorded.{Recorded, IsRecorded, IsLed, GoesBy, running_of}
-use Rattle.xv_session.specs.Steps.{IsSound, Advances}
-use Rattle.xv_session.specs.declared.running.Running.{Running}
-use Rattle.xv_machine.specs.Meaning.{Meaning}
-use Rattle.xv_machine.specs.Reached.{IsEvent}
 use Rattle.xv_session.proofs.AtBoot.{first-lives}
 use Rattle.xv_session.proofs.Children.{own_tells}
-use Rattle.xv_machine.specs.Boots.{Boots, HasEmptyTrace}
-use Rattle.xv_machine.specs.Drives.{Goes, done_by}
 use Rattle.xv_session.proofs.NamesGo.{names-again, step-nameless}
 use Rattle.xv_session.proofs.Plays.{led-sound}
 use Rattle.xv_session.proofs.Programs.{booted-led}

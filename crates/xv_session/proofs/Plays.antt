@@ -1,17 +1,7 @@
 -- Events that are sent one after another, and those of spans.
-use Rattle.std.proofs.Common.{ℕ, ◌-◌, ◌≤◌, List, [], ◌∷◌, ◌++◌, replicate, Option, refl, sym, ap, ap₂, ◌∙◌, subst, arith}
-use Rattle.std.proofs.lemmas.List.{replicate-append-replicate}
-use Rattle.kernel_spec.specs.views.State.{ProgramFile}
-use Rattle.kernel_spec.specs.runs.Run.{Event, Run, Outcome}
-use Rattle.xv_machine.specs.Meaning.{Meaning}
-use Rattle.xv_machine.specs.Sound.{IsSoundMachine}
-use Rattle.xv_machine.proofs.Joins.{goes-none, goes-one, goes-join, events-join}
-use Rattle.xv_machine.proofs.Reached.{reaches_on, reached_is_sound}
-use Rattle.xv_session.specs.Names.{NamesGo, first_names}
-use Rattle.xv_session.specs.Recorded.{IsPlayed, IsLed, GoesBy}
-use Rattle.xv_session.specs.Steps.{Advances, RunsMade}
-use Rattle.xv_session.specs.declared.names.Named.{Named}
-use Rattle.xv_session.specs.declared.running.Running.{Running}
+use Rattle.xv_session.proofs.Prelude.{[], ℕ, ◌++◌, ◌-◌, ◌∙◌, ◌∷◌, ◌≤◌, Advances, ap, ap₂, arith, Event, events-join, first_names, goes-join, goes-none, goes-one, GoesBy, IsLed, IsPlayed}
+use Rattle.xv_session.proofs.Prelude.{IsSoundMachine, List, Meaning, Named, NamesGo, Option, Outcome, ProgramFile, reached_is_sound, reaches_on, refl, replicate, replicate-append-replicate, Run}
+use Rattle.xv_session.proofs.Prelude.{Running, RunsMade, subst, sym}
 use Rattle.xv_session.proofs.NamesGo.{names-one, names-join}
 
 -- ---- events, one behind another

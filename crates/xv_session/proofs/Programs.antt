@@ -1,18 +1,8 @@
 -- The programs of a machine are always those that it was booted with.
-use Rattle.std.proofs.Common.{◌≡◌, ℕ, List, [], ◌∷◌, ◌++◌, Option, Some, None, Ok, refl, sym, ap, ◌∙◌, subst}
-use Rattle.std.specs.Prelude.{ℤ}
-use Rattle.kernel_spec.specs.views.State.{State, ProgramFile}
-use Rattle.kernel_spec.specs.runs.First.{first}
-use Rattle.kernel_spec.specs.runs.Run.{World, Event, Run, Tick, Key, Send, Outcome, Step_of, Turn, Idle, Ticked, Typed, Sent, Halted, TurnTaken, RunHappens, TickHappens, KeyHappens, Happens}
-use Rattle.kernel_spec.specs.waking.Wakes.{IsPromised}
+use Rattle.xv_session.proofs.Prelude.{[], ℕ, ℤ, ◌++◌, ◌∙◌, ◌∷◌, ◌≡◌, ap, boot_reaches, Boots, Event, first, first_names, GoesBy, Halted, Happens, HasEmptyTrace, Idle, IsLed, IsPlayed, IsPromised}
+use Rattle.xv_session.proofs.Prelude.{IsSoundMachine, Key, KeyHappens, List, Meaning, None, Ok, Option, Outcome, ProgramFile, refl, Run, RunHappens, Running, Send, Sent, Some, State, Step_of, subst}
+use Rattle.xv_session.proofs.Prelude.{sym, Tick, Ticked, TickHappens, Turn, TurnTaken, Typed, World}
 use Rattle.kernel_spec.proofs.well.FirstWell.{has_its_programs}
-use Rattle.xv_machine.specs.Boots.{Boots, HasEmptyTrace}
-use Rattle.xv_machine.specs.Meaning.{Meaning}
-use Rattle.xv_machine.specs.Sound.{IsSoundMachine}
-use Rattle.xv_machine.proofs.Reached.{boot_reaches}
-use Rattle.xv_session.specs.Names.{first_names}
-use Rattle.xv_session.specs.Recorded.{IsPlayed, IsLed, GoesBy}
-use Rattle.xv_session.specs.declared.running.Running.{Running}
 use Rattle.xv_session.proofs.Plays.{led-played, led-on}
 
 abbrev SamePrograms : World → World → Type 0

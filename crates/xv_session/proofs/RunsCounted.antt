@@ -1,10 +1,7 @@
 -- How many Runs were sent at once.
-use Rattle.std.proofs.Common.{◌≡◌, ℕ, ◌+◌, ◌<◌, ◌≤◌, List, [], ◌∷◌, length, replicate, Option, None, Some, inl, inr, sym, ap, ◌∙◌, arith, length-append}
-use Rattle.std.proofs.lemmas.List.{length-map, length-replicate}
-use Rattle.kernel_spec.specs.runs.Run.{Event, Run, Outcome}
-use Rattle.kernel_spec.specs.runs.Rounds.{events}
-use Rattle.xv_machine.specs.Drives.{done_by}
-use Rattle.xv_session.specs.Steps.{AreRunsTo}
+use Rattle.xv_session.proofs.Prelude.{[], ℕ, ◌+◌, ◌<◌, ◌∙◌, ◌∷◌, ◌≡◌, ◌≤◌, ap, AreRunsTo, arith, done_by, Event, events, inl, inr, length, length-map, length-replicate, List, None, Option, Outcome}
+use Rattle.xv_session.proofs.Prelude.{replicate, Run, Some, sym}
+use Rattle.std.proofs.Common.{length-append}
 
 -- the events are so many
 pub count-sent : (list : List (Event × Outcome)) (sent : ℕ) → events list ≡ replicate sent Run → length list ≡ sent

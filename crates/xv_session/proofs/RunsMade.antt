@@ -1,24 +1,10 @@
 -- Runs that were sent at once: of a process that runs, and where nobody runs.
-use Rattle.std.proofs.Common.{◌≡◌, ◌≢◌, ◌⊎◌, ℕ, zero, suc, ◌+◌, ◌<◌, List, [], ◌∷◌, ◌++◌, length, replicate, Option, None, Some, inl, inr, refl, sym, ap, ap₂, ◌∙◌, subst, arith}
-use Rattle.std.specs.Prelude.{ℤ, IsSome}
-use Rattle.std.proofs.lemmas.List.{length-replicate, replicate_more, length-append}
-use Rattle.kernel_spec.specs.runs.Run.{World, Event, Run, Outcome, Step_of, Turn, Idle, Halted, Ticked, Typed, Sent, TurnTaken, RunHappens, Happens, stays_current}
-use Rattle.kernel_spec.specs.runs.Rounds.{events}
-use Rattle.kernel_spec.specs.steps.Own.{Answer, Stepped}
-use Rattle.kernel_spec.specs.steps.Step.{own}
-use Rattle.kernel_spec.specs.views.Words.{or_zero}
-use Rattle.kernel_spec.specs.waking.Wakes.{Promised, IsPromised}
-use Rattle.xv_machine.specs.Drives.{Goes, Ran, AreRuns, done_by}
+use Rattle.xv_session.proofs.Prelude.{[], ℕ, ℤ, ◌++◌, ◌+◌, ◌<◌, ◌∙◌, ◌∷◌, ◌≡◌, ◌≢◌, ◌⊎◌, Advances, Answer, ap, ap₂, AreRuns, AreRunsTo, arith, asked_in, done_by, Event, events, events-join, Goes}
+use Rattle.xv_session.proofs.Prelude.{goes-join, goes-one, Halted, Happens, Idle, idle_or_halted, inl, inr, IsEvent, IsHalted, IsPromised, IsSome, IsSoundMachine, length, length-append}
+use Rattle.xv_session.proofs.Prelude.{length-replicate, List, Meaning, Named, names_after, NamesGo, None, Option, or_zero, Outcome, own, passed, Promised, Ran, refl, replicate, replicate_more, Run}
+use Rattle.xv_session.proofs.Prelude.{RunHappens, Running, RunsMade, Sent, Some, stays_current, Step_of, Stepped, subst, suc, sym, Ticked, Turn, TurnTaken, Typed, World, zero}
 use Rattle.xv_machine.specs.Instructions.{NextIsOther}
-use Rattle.xv_machine.specs.Meaning.{Meaning}
-use Rattle.xv_machine.specs.Reached.{IsEvent}
-use Rattle.xv_machine.specs.Sound.{IsSoundMachine, IsHalted}
-use Rattle.xv_machine.proofs.Joins.{events-join, goes-one, goes-join}
 use Rattle.xv_machine.proofs.Sent.{events-again}
-use Rattle.xv_session.specs.Names.{NamesGo, names_after, asked_in}
-use Rattle.xv_session.specs.Steps.{Advances, RunsMade, AreRunsTo, idle_or_halted, passed}
-use Rattle.xv_session.specs.declared.names.Named.{Named}
-use Rattle.xv_session.specs.declared.running.Running.{Running}
 use Rattle.xv_session.proofs.NamesGo.{names-one, names-join, names-again, names-along, IsNameless, step-nameless, turn-nameless, idle-nameless, halted-nameless}
 
 -- ---- where nobody runs

@@ -1,11 +1,5 @@
 -- A search among Runs sends Runs.
-use Rattle.std.proofs.Common.{ℕ, zero, suc, Bool, Option, [], ◌∷◌, replicate, sym, ap, ◌∙◌, subst, add-one}
-use Rattle.std.proofs.lemmas.List.{replicate_more}
-use Rattle.kernel_spec.specs.runs.Run.{Run, Outcome}
-use Rattle.xv_session.specs.Recorded.{GoesBy}
-use Rattle.xv_session.specs.Steps.{IsSound}
-use Rattle.xv_session.specs.Until.{Unmet, Searched}
-use Rattle.xv_session.specs.declared.running.Running.{Running}
+use Rattle.xv_session.proofs.Prelude.{[], ℕ, ◌∙◌, ◌∷◌, add-one, ap, Bool, GoesBy, IsSound, Option, Outcome, replicate, replicate_more, Run, Running, Searched, subst, suc, sym, Unmet, zero}
 use Rattle.xv_session.specs.declared.until.Condition.{Condition}
 use Rattle.xv_session.proofs.NamesLive.{advances-sound}
 use Rattle.xv_session.proofs.Plays.{goes-by-none, goes-by-one, goes-by-join}

@@ -1,17 +1,11 @@
 -- The events of spans, from the first on.
-use Rattle.std.proofs.Common.{◌≡◌, ℕ, zero, suc, ◌+◌, ◌-◌, ◌<◌, ◌≤◌, List, [], ◌∷◌, ◌++◌, length, map, take}
-use Rattle.std.proofs.Common.{drop, get_or, replicate, min, None, Some, inl, inr, refl, sym, ap, ◌∙◌, subst, arith}
-use Rattle.std.specs.Prelude.{slice_get}
-use Rattle.std.proofs.lemmas.Bool.{cases_lt}
+use Rattle.xv_session.proofs.Prelude.{[], ℕ, ◌++◌, ◌+◌, ◌-◌, ◌<◌, ◌∙◌, ◌∷◌, ◌≡◌, ◌≤◌, all_events, ap, arith, cases_lt, drop, Event, event_of, events_in, get_or, inl, inr, Kept, kept, length}
+use Rattle.xv_session.proofs.Prelude.{length-append, length-replicate, List, map, min, None, refl, replicate, replicate-append-replicate, slice_get, Some, Span, span_events, subst, suc, sym, take}
+use Rattle.xv_session.proofs.Prelude.{take-append-drop, take-append-le, take-replicate, take_all, take_more, zero}
 use Rattle.std.proofs.lemmas.Grind.{flat_map-append}
-use Rattle.std.proofs.lemmas.List.{take-append-le, append-nil, append_assoc, length-append, length-replicate, take_all, take-replicate, take_more, take-append-drop, replicate-append-replicate}
+use Rattle.std.proofs.lemmas.List.{append-nil, append_assoc}
 use Rattle.std.proofs.Math.Seq.{take-append-add}
-use Rattle.kernel_spec.specs.runs.Run.{Event}
-use Rattle.xv_machine.specs.Events.{event_of}
 use Rattle.xv_machine.proofs.Kept.{drop-none}
-use Rattle.xv_session.specs.declared.history.Span.{Span}
-use Rattle.xv_session.specs.Answers.{events_in}
-use Rattle.xv_session.specs.Spans.{span_events, all_events, Kept, kept}
 
 -- ---- the first elements of two lists
 

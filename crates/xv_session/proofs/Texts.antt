@@ -1,12 +1,6 @@
 -- A text that is read byte by byte.
-use Rattle.std.proofs.Common.{◌≡◌, ◌≢◌, ℕ, suc, ◌+◌, ◌-◌, ◌<◌, ◌≤◌, List, [], ◌∷◌, ◌++◌, Option, None, Some}
-use Rattle.std.proofs.Common.{Bool, cond, refl, sym, ap, ◌∙◌, arith, append_assoc, append-nil, inl, inr}
-use Rattle.std.specs.Prelude.{unwrap_or}
-use Rattle.std.proofs.lemmas.Bool.Decides.{eqb_tells}
-use Rattle.rv64i_core.specs.Registers.{add}
-use Rattle.kernel_spec.specs.views.State.{State}
-use Rattle.kcall_core.specs.Observers.{byte_at}
-use Rattle.xv_session.specs.Names.{text_from, text_in}
+use Rattle.xv_session.proofs.Prelude.{[], ℕ, ◌++◌, ◌+◌, ◌-◌, ◌<◌, ◌∙◌, ◌∷◌, ◌≡◌, ◌≢◌, ◌≤◌, add, ap, append-nil, append_assoc, arith, Bool, byte_at, cond, eqb_tells, inl, inr, List, None, Option, refl}
+use Rattle.xv_session.proofs.Prelude.{Some, State, suc, sym, text_from, text_in, unwrap_or}
 
 -- a byte that isn't 0 goes on
 goes-on : (o : Option ℕ) (rest : List ℕ) (byte : ℕ) → unwrap_or o 0 ≡ byte → byte ≢ 0 → text_from o rest ≡ byte ∷ rest

@@ -1,4 +1,4 @@
-use Rattle.std.proofs.Common.{rules}
+use Rattle.xv_session.proofs.Prelude.{rules}
 use Rattle.xv_session.proofs.looking.fault_of_run.Goals as goal
 
 pub returns : goal.returns

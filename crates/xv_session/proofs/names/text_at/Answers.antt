@@ -1,10 +1,4 @@
-use Rattle.std.proofs.Common.{◌≡◌, ℕ, ◌-◌, ◌<◌, ◌≤◌, List, ◌++◌, Option, sym, ap, ap₂, ◌∙◌, arith}
-use Rattle.std.specs.Prelude.{unwrap_or}
-use Rattle.arrayvec.specs.ArrayVec.{array_vec_len}
-use Rattle.rv64i_core.specs.Registers.{add}
-use Rattle.xk_base.specs.declared.limits.TheConstants.{MAXPATH}
-use Rattle.kcall_core.specs.Observers.{byte_at}
-use Rattle.xv_session.specs.Names.{text_in}
+use Rattle.xv_session.proofs.Prelude.{ℕ, ◌++◌, ◌-◌, ◌<◌, ◌∙◌, ◌≡◌, ◌≤◌, add, ap, ap₂, arith, array_vec_len, byte_at, List, MAXPATH, Option, sym, text_in, unwrap_or}
 use Rattle.xv_session.proofs.Texts.{text-more, text-ends, text-full}
 use Rattle.xv_session.proofs.names.text_at.Goals as goal
 

@@ -1,7 +1,4 @@
-use Rattle.std.proofs.Common.{◌≡◌, ◌-◌, ◌++◌}
-use Rattle.arrayvec.specs.ArrayVec.{array_vec_len}
-use Rattle.xk_base.specs.declared.limits.TheConstants.{MAXPATH}
-use Rattle.xv_session.specs.Names.{text_in}
+use Rattle.xv_session.proofs.Prelude.{◌++◌, ◌-◌, ◌≡◌, array_vec_len, MAXPATH, text_in}
 use Rattle.xv_session.proofs.names.text_at.Given as goal
 
 -- what was read, and what is left to be read, is the text

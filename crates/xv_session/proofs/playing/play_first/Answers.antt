@@ -1,10 +1,5 @@
-use Rattle.std.proofs.Common.{◌≡◌, ◌-◌, ◌∙◌, ℕ, List, length, take, replicate, min, get_or, sym, ap, subst}
-use Rattle.kernel_spec.specs.runs.Run.{Event}
-use Rattle.xv_machine.specs.Events.{event_of}
+use Rattle.xv_session.proofs.Prelude.{ℕ, ◌-◌, ◌∙◌, ◌≡◌, all_events, ap, Event, event_of, get_or, GoesBy, length, List, min, replicate, Span, subst, sym, take}
 use Rattle.xv_machine.specs.declared.event.Event.TheVariants.{Run}
-use Rattle.xv_session.specs.Recorded.{GoesBy}
-use Rattle.xv_session.specs.Spans.{all_events}
-use Rattle.xv_session.specs.declared.history.Span.{Span}
 use Rattle.xv_session.proofs.Plays.{goes-by-join}
 use Rattle.xv_session.proofs.Spans.{first-more}
 use Rattle.xv_session.proofs.NamesLive.{goes-by-sound}

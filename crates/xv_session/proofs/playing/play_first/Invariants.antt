@@ -1,6 +1,4 @@
-use Rattle.std.proofs.Common.{◌≡◌, ◌-◌, length, take}
-use Rattle.xv_session.specs.Recorded.{GoesBy}
-use Rattle.xv_session.specs.Spans.{all_events}
+use Rattle.xv_session.proofs.Prelude.{◌-◌, ◌≡◌, all_events, GoesBy, length, take}
 use Rattle.xv_session.proofs.playing.play_first.Given as goal
 
 abbrev pub invariant-loop-place : goal.invariant-loop-place

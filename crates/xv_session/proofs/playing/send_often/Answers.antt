@@ -1,5 +1,4 @@
-use Rattle.std.proofs.Common.{arith}
-use Rattle.xv_machine.specs.Events.{event_of, outcome_of}
+use Rattle.xv_session.proofs.Prelude.{arith, event_of, outcome_of}
 use Rattle.xv_session.proofs.Plays.{more-sent, goes-by-one}
 use Rattle.xv_session.proofs.NamesLive.{goes-by-sound}
 use Rattle.xv_session.proofs.playing.send_often.Goals as goal

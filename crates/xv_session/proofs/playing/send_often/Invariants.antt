@@ -1,6 +1,4 @@
-use Rattle.std.proofs.Common.{◌-◌, ◌≤◌, replicate}
-use Rattle.xv_machine.specs.Events.{event_of}
-use Rattle.xv_session.specs.Recorded.{GoesBy}
+use Rattle.xv_session.proofs.Prelude.{◌-◌, ◌≤◌, event_of, GoesBy, replicate}
 use Rattle.xv_session.proofs.playing.send_often.Given as goal
 
 abbrev pub invariant-sends : goal.invariant-sends

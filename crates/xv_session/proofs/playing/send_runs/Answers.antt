@@ -1,8 +1,4 @@
-use Rattle.std.proofs.Common.{◌-◌, ◌≤◌, sym, subst, replicate, arith}
-use Rattle.kernel_spec.specs.runs.Run.{Run}
-use Rattle.xv_machine.specs.Events.{outcome_of}
-use Rattle.std.specs.Prelude.{option_map}
-use Rattle.xv_session.specs.Recorded.{GoesBy}
+use Rattle.xv_session.proofs.Prelude.{◌-◌, ◌≤◌, arith, GoesBy, option_map, outcome_of, replicate, Run, subst, sym}
 use Rattle.xv_session.proofs.NamesLive.{goes-by-sound}
 use Rattle.xv_session.proofs.Plays.{more-sent, goes-by-runs}
 use Rattle.xv_session.proofs.playing.send_runs.Goals as goal

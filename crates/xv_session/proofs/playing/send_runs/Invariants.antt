@@ -1,6 +1,5 @@
-use Rattle.std.proofs.Common.{◌-◌, ◌≤◌, replicate}
+use Rattle.xv_session.proofs.Prelude.{◌-◌, ◌≤◌, GoesBy, replicate}
 use Rattle.kernel_spec.specs.runs.Run as runs
-use Rattle.xv_session.specs.Recorded.{GoesBy}
 use Rattle.xv_session.proofs.playing.send_runs.Given as goal
 
 abbrev pub invariant-runs : goal.invariant-runs

@@ -1,5 +1,4 @@
-use Rattle.std.proofs.Common.{◌≡◌, map, take}
-use Rattle.kernel_spec.specs.views.State.{named_file}
+use Rattle.xv_session.proofs.Prelude.{◌≡◌, map, named_file, take}
 use Rattle.xv_session.proofs.session.copied.Given as goal
 
 abbrev pub invariant-loop-place : goal.invariant-loop-place

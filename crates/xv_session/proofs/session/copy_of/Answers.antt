@@ -1,4 +1,4 @@
-use Rattle.std.proofs.Common.{rules}
+use Rattle.xv_session.proofs.Prelude.{rules}
 use Rattle.xv_session.proofs.session.copy_of.Goals as goal
 
 pub returns : goal.returns

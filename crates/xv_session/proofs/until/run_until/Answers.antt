@@ -1,6 +1,4 @@
-use Rattle.std.proofs.Common.{◌≡◌, ◌≤◌, suc, ◌∙◌, Bool, true, false, Some, sym, ap, refl, subst, add-one, arith}
-use Rattle.xv_machine.specs.Events.{outcome_of}
-use Rattle.xv_session.specs.Until.{Unmet, Searched, meets, meets_with}
+use Rattle.xv_session.proofs.Prelude.{◌∙◌, ◌≡◌, ◌≤◌, add-one, ap, arith, Bool, false, meets, meets_with, outcome_of, refl, Searched, Some, subst, suc, sym, true, Unmet}
 use Rattle.xv_session.proofs.Searches.{unmet-sound}
 use Rattle.xv_session.proofs.until.run_until.Goals as goal
 

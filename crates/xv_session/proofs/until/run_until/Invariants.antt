@@ -1,5 +1,4 @@
-use Rattle.std.proofs.Common.{◌<◌}
-use Rattle.xv_session.specs.Until.{Unmet}
+use Rattle.xv_session.proofs.Prelude.{◌<◌, Unmet}
 use Rattle.xv_session.proofs.until.run_until.Given as goal
 
 -- none of the Runs so far is what is waited for, and there were fewer than all

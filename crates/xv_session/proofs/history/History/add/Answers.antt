@@ -1,5 +1,4 @@
-use Rattle.std.proofs.Common.{◌∙◌, ◌+◌, ◌++◌, ℕ, ap, replicate}
-use Rattle.xv_session.specs.Spans.{Kept, kept}
+use Rattle.xv_session.proofs.Prelude.{ℕ, ◌++◌, ◌+◌, ◌∙◌, ap, Kept, kept, replicate}
 use Rattle.xv_session.proofs.Spans.{kept-more}
 use Rattle.xv_session.proofs.history.History.add.Goals as goal
 

@@ -1,4 +1,4 @@
-use Rattle.std.proofs.Common.{◌∙◌}
+use Rattle.xv_session.proofs.Prelude.{◌∙◌}
 use Rattle.xv_session.proofs.Spans.{cut-last}
 use Rattle.xv_session.proofs.history.History.cut.Goals as goal
 

@@ -1,5 +1,4 @@
-use Rattle.std.proofs.Common.{◌≡◌, ◌+◌, ◌-◌, length, take}
-use Rattle.xv_session.specs.Spans.{kept}
+use Rattle.xv_session.proofs.Prelude.{◌+◌, ◌-◌, ◌≡◌, kept, length, take}
 use Rattle.xv_session.proofs.history.History.cut.Given as goal
 
 -- what is left begins as the events did, up to the place

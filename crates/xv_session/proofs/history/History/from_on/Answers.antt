@@ -1,11 +1,6 @@
-use Rattle.std.proofs.Common.{◌≡◌, ◌+◌, ◌-◌, ◌<◌, ◌≤◌, ℕ, List, length, take, drop, get_or, replicate, Some, ap, sym, subst, ◌∙◌, arith}
-use Rattle.std.proofs.lemmas.List.{get_or_read}
-use Rattle.kernel_spec.specs.runs.Run.{Event}
-use Rattle.xv_machine.specs.Events.{event_of}
+use Rattle.xv_session.proofs.Prelude.{ℕ, ◌+◌, ◌-◌, ◌<◌, ◌∙◌, ◌≡◌, ◌≤◌, all_events, ap, AreEqualFrom, arith, drop, Event, event_of, get_or, get_or_read, Kept, kept, length, List, replicate, Some, Span}
+use Rattle.xv_session.proofs.Prelude.{span_events, subst, sym, take}
 use Rattle.xv_machine.specs.declared.event.Event.TheVariants.{Run}
-use Rattle.xv_session.specs.declared.history.Span.{Span}
-use Rattle.xv_session.specs.Answers.{AreEqualFrom}
-use Rattle.xv_session.specs.Spans.{Kept, kept, all_events, span_events}
 use Rattle.xv_session.proofs.Spans.{around, from-middle, from-last}
 use Rattle.xv_session.proofs.history.History.from_on.Goals as goal
 

@@ -1,5 +1,4 @@
-use Rattle.std.proofs.Common.{◌≡◌, ◌+◌, length, take}
-use Rattle.xv_session.specs.Spans.{all_events}
+use Rattle.xv_session.proofs.Prelude.{◌+◌, ◌≡◌, all_events, length, take}
 use Rattle.xv_session.proofs.history.History.from_on.Given as goal
 
 -- the place lies so many events behind the spans so far

@@ -1,8 +1,4 @@
-use Rattle.std.proofs.Common.{◌≡◌, ◌-◌, ◌∙◌, ap, sym, subst, take, replicate, min, length, List}
-use Rattle.kernel_spec.specs.runs.Run.{Event}
-use Rattle.xv_machine.specs.Events.{event_of}
-use Rattle.xv_session.specs.Recorded.{GoesBy}
-use Rattle.xv_session.specs.Spans.{Kept, all_events}
+use Rattle.xv_session.proofs.Prelude.{◌-◌, ◌∙◌, ◌≡◌, all_events, ap, Event, event_of, GoesBy, Kept, length, List, min, replicate, subst, sym, take}
 use Rattle.xv_session.proofs.Plays.{goes-by-join}
 use Rattle.xv_session.proofs.Spans.{kept-first}
 use Rattle.xv_session.proofs.history.History.play.Goals as goal

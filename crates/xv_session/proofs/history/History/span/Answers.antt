@@ -1,9 +1,5 @@
-use Rattle.std.proofs.Common.{◌≡◌, ◌<◌, ◌++◌, ◌∷◌, [], map, length, get_or, Some, ap, ◌∙◌, arith}
-use Rattle.std.proofs.lemmas.List.{get_or_read}
-use Rattle.std.specs.Prelude.{slice_get}
+use Rattle.xv_session.proofs.Prelude.{[], ◌++◌, ◌<◌, ◌∙◌, ◌∷◌, ◌≡◌, ap, arith, get_or, get_or_read, Kept, length, map, slice_get, Some, Span}
 use Rattle.xv_machine.specs.declared.event.Event.TheVariants.{Run}
-use Rattle.xv_session.specs.declared.history.Span.{Span}
-use Rattle.xv_session.specs.Spans.{Kept}
 use Rattle.xv_session.proofs.Spans.{pair, kept-spans, span-past, span-last, span-at}
 use Rattle.xv_session.proofs.history.History.span.Goals as goal
 

@@ -1,7 +1,5 @@
-use Rattle.std.proofs.Common.{rules, not, nat_eq, List, ap, ◌∙◌}
+use Rattle.xv_session.proofs.Prelude.{◌∙◌, ap, List, Named, nat_eq, not, rules, without}
 use Rattle.arrayvec.proofs.ArrayVecLemmas.{filter-from_retain}
-use Rattle.xv_session.specs.Names.{without}
-use Rattle.xv_session.specs.declared.names.Named.{Named}
 use Rattle.xv_session.proofs.names.Names.forget.Goals as goal
 
 pub returns : goal.returns

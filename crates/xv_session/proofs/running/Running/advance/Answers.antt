@@ -1,6 +1,4 @@
-use Rattle.std.proofs.Common.{◌<◌, arith}
-use Rattle.kernel_spec.specs.views.Words.{or_zero}
-use Rattle.xv_machine.specs.Events.{outcome_of}
+use Rattle.xv_session.proofs.Prelude.{◌<◌, arith, or_zero, outcome_of}
 use Rattle.xv_session.proofs.NamesLive.{instructed-sound}
 use Rattle.xv_session.proofs.RunsMade.{all-done, some-done, there}
 use Rattle.xv_session.proofs.running.Running.advance.Goals as goal

@@ -1,7 +1,4 @@
-use Rattle.std.proofs.Common.{ap, ◌∙◌}
-use Rattle.std.specs.Prelude.{Option, ℕ}
-use Rattle.xv_machine.specs.Events.{event_of, outcome_of}
-use Rattle.xv_session.specs.Names.{names_after}
+use Rattle.xv_session.proofs.Prelude.{ℕ, ◌∙◌, ap, event_of, names_after, Option, outcome_of}
 use Rattle.xv_session.proofs.NamesGo.{asked-enough}
 use Rattle.xv_session.proofs.NamesLive.{event-fit}
 use Rattle.xv_session.proofs.running.Running.event.Goals as goal

@@ -1,7 +1,4 @@
-use Rattle.std.proofs.Common.{Some, sym, subst}
-use Rattle.kernel_spec.specs.runs.Run.{Outcome}
-use Rattle.xv_session.specs.Steps.{RunsMade}
-use Rattle.xv_session.specs.declared.running.Running.{Running}
+use Rattle.xv_session.proofs.Prelude.{Outcome, Running, RunsMade, Some, subst, sym}
 use Rattle.xv_session.proofs.RunsMade.{passes}
 use Rattle.xv_session.proofs.running.Running.pass.Goals as goal
 

@@ -1,7 +1,4 @@
-use Rattle.std.proofs.Common.{◌≡◌, sym, arith}
-use Rattle.kernel_spec.specs.runs.Run.{Run}
-use Rattle.kernel_spec.specs.views.Words.{or_zero}
-use Rattle.xv_machine.specs.Events.{outcome_of}
+use Rattle.xv_session.proofs.Prelude.{◌≡◌, arith, or_zero, outcome_of, Run, sym}
 use Rattle.xv_session.proofs.NamesLive.{instructed-sound}
 use Rattle.xv_session.proofs.RunsMade.{one-done, none-done}
 use Rattle.xv_session.proofs.running.Running.run_once.Goals as goal

@@ -1,7 +1,4 @@
-use Rattle.std.proofs.Common.{◌≡◌, sym, subst, take}
-use Rattle.xv_session.specs.Answers.{stands}
-use Rattle.xv_session.specs.Inside.{recorded}
-use Rattle.xv_session.specs.Recorded.{Recorded, IsLed, IsRecorded}
+use Rattle.xv_session.proofs.Prelude.{◌≡◌, IsLed, IsRecorded, Recorded, recorded, stands, subst, sym, take}
 use Rattle.xv_session.proofs.GoesOn.{recorded-back, stands-back}
 use Rattle.xv_session.proofs.session.Session.back_to.Goals as goal
 

@@ -1,12 +1,4 @@
-use Rattle.std.proofs.Common.{◌≡◌, Ok, refl, sym, ap, ◌∙◌, subst, map, List}
-use Rattle.kernel_spec.specs.runs.First.{first}
-use Rattle.kernel_spec.specs.runs.Run.{Event}
-use Rattle.kernel_spec.specs.views.State.{named_file}
-use Rattle.xv_machine.specs.Boots.{Boots, HasEmptyTrace}
-use Rattle.xv_machine.specs.Meaning.{Meaning}
-use Rattle.xv_machine.specs.Sound.{IsSoundMachine}
-use Rattle.xv_session.specs.Names.{first_names}
-use Rattle.xv_session.specs.Recorded.{IsLed}
+use Rattle.xv_session.proofs.Prelude.{◌∙◌, ◌≡◌, ap, Boots, Event, first, first_names, HasEmptyTrace, IsLed, IsSoundMachine, List, map, Meaning, named_file, Ok, refl, subst, sym}
 use Rattle.xv_session.proofs.Programs.{booted-led}
 use Rattle.xv_session.proofs.session.Session.boot.Goals as goal
 

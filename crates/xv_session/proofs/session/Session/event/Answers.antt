@@ -1,7 +1,4 @@
-use Rattle.std.proofs.Common.{◌≡◌, Some, None, subst}
-use Rattle.std.specs.Prelude.{slice_get}
-use Rattle.xv_machine.specs.Events.{event_of}
-use Rattle.xv_session.specs.Recorded.{Recorded}
+use Rattle.xv_session.proofs.Prelude.{◌≡◌, event_of, None, Recorded, slice_get, Some, subst}
 use Rattle.xv_session.proofs.Spans.{first-equal, none-there}
 use Rattle.xv_session.proofs.session.Session.event.Goals as goal
 

@@ -1,5 +1,4 @@
-use Rattle.std.proofs.Common.{subst}
-use Rattle.xv_session.specs.Recorded.{Recorded, IsRecorded}
+use Rattle.xv_session.proofs.Prelude.{IsRecorded, Recorded, subst}
 use Rattle.xv_session.proofs.session.Session.machine.Goals as goal
 
 pub returns-clause-recorded : goal.returns-clause-recorded

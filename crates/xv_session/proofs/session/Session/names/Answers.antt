@@ -1,8 +1,4 @@
-use Rattle.std.proofs.Common.{List, sym, subst}
-use Rattle.xv_session.specs.Inside.{recorded}
-use Rattle.xv_session.specs.Names.{AreLive}
-use Rattle.xv_session.specs.Recorded.{Recorded}
-use Rattle.xv_session.specs.declared.names.Named.{Named}
+use Rattle.xv_session.proofs.Prelude.{AreLive, List, Named, Recorded, recorded, subst, sym}
 use Rattle.xv_session.proofs.NamesLive.{recorded-live}
 use Rattle.xv_session.proofs.session.Session.names.Goals as goal
 

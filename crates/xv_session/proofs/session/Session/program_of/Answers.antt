@@ -1,8 +1,4 @@
-use Rattle.std.proofs.Common.{ℕ, Option, sym, subst}
-use Rattle.std.specs.Prelude.{IfSome, IsSome}
-use Rattle.kernel_spec.specs.views.State.{live}
-use Rattle.xv_session.specs.Inside.{recorded}
-use Rattle.xv_session.specs.Recorded.{Recorded}
+use Rattle.xv_session.proofs.Prelude.{ℕ, IfSome, IsSome, live, Option, Recorded, recorded, subst, sym}
 use Rattle.xv_session.proofs.NamesLive.{place-live, recorded-live}
 use Rattle.xv_session.proofs.session.Session.program_of.Goals as goal
 

@@ -1,10 +1,4 @@
-use Rattle.std.proofs.Common.{◌≡◌, ◌++◌, ◌∙◌, ap, subst, replicate}
-use Rattle.std.specs.Prelude.{option_map}
-use Rattle.kernel_spec.specs.runs.Run.{Run}
-use Rattle.xv_machine.specs.Events.{outcome_of}
-use Rattle.xv_session.specs.Answers.{RunsSent}
-use Rattle.xv_session.specs.Recorded.{Recorded}
-use Rattle.xv_session.specs.Spans.{Kept}
+use Rattle.xv_session.proofs.Prelude.{◌++◌, ◌∙◌, ◌≡◌, ap, Kept, option_map, outcome_of, Recorded, replicate, Run, RunsSent, subst}
 use Rattle.xv_session.proofs.GoesOn.{recorded-on, stands-on}
 use Rattle.xv_session.proofs.Plays.{goes-by-runs}
 use Rattle.xv_session.proofs.NamesLive.{led-is-sound}

@@ -1,11 +1,4 @@
-use Rattle.std.proofs.Common.{Ok, sym, ap, ◌∙◌, subst, take, map}
-use Rattle.kernel_spec.specs.runs.First.{first}
-use Rattle.kernel_spec.specs.views.State.{named_file}
-use Rattle.xv_machine.specs.Boots.{Boots, HasEmptyTrace}
-use Rattle.xv_machine.specs.Meaning.{Meaning}
-use Rattle.xv_machine.specs.Sound.{IsSoundMachine}
-use Rattle.xv_session.specs.Names.{first_names}
-use Rattle.xv_session.specs.Recorded.{Recorded, IsLed}
+use Rattle.xv_session.proofs.Prelude.{◌∙◌, ap, Boots, first, first_names, HasEmptyTrace, IsLed, IsSoundMachine, map, Meaning, named_file, Ok, Recorded, subst, sym, take}
 use Rattle.xv_session.proofs.GoesOn.{led-anew}
 use Rattle.xv_session.proofs.NamesLive.{anew-sound}
 use Rattle.xv_session.proofs.session.Session.running_at.Goals as goal

@@ -1,8 +1,5 @@
-use Rattle.std.proofs.Common.{◌≡◌, ◌++◌, ◌∷◌, [], ◌∙◌, ap, subst}
-use Rattle.xv_machine.specs.Events.{event_of, outcome_of}
+use Rattle.xv_session.proofs.Prelude.{[], ◌++◌, ◌∙◌, ◌∷◌, ◌≡◌, ap, event_of, Kept, outcome_of, Recorded, subst}
 use Rattle.xv_session.specs.Answers.{Sent}
-use Rattle.xv_session.specs.Recorded.{Recorded}
-use Rattle.xv_session.specs.Spans.{Kept}
 use Rattle.xv_session.proofs.GoesOn.{recorded-on, stands-on}
 use Rattle.xv_session.proofs.Plays.{goes-by-one}
 use Rattle.xv_session.proofs.NamesLive.{led-is-sound}
