@@ -1,9 +1,6 @@
 -- The name of a row's call is the name that the table has at its number.
-use Rattle.std.proofs.Common.{◌≡◌, Option, Some, None, refl, ap, sym, ◌∙◌}
-use Rattle.std.specs.Prelude.{ℤ, option_map}
-use Rattle.kernel_spec.specs.rows.Calls.{Row, row_of}
+use Rattle.xv_report.proofs.Prelude.{ℤ, ◌∙◌, ◌≡◌, ap, call_at, entry_of, None, Option, option_map, refl, Row, row_of, Some, sym}
 use Rattle.kernel_calls.specs.declared.call.KernelCall.{KernelCall}
-use Rattle.kernel_calls.specs.Table.{entry_of, call_at}
 use Rattle.kernel_calls.specs.Rows.{row_for}
 use Rattle.kernel_calls.proofs.Found.{same_numbers, rows_of_calls}
 use Rattle.xv_report.specs.Names.{call_word}

@@ -1,7 +1,5 @@
 -- A descriptor among those of a process that passes a test.
-use Rattle.std.proofs.Common.{◌≡◌, ℕ, ◌+◌, Bool, false, refl, ap, ◌∙◌, add-one}
-use Rattle.std.specs.Prelude.{◌||◌}
-use Rattle.xk_base.specs.Image.{some_below}
+use Rattle.xv_report.proofs.Prelude.{ℕ, ◌+◌, ◌||◌, ◌∙◌, ◌≡◌, add-one, ap, Bool, false, refl, some_below}
 
 pub some-none : (test : ℕ → Bool) → some_below 0 test ≡ false
 unfolding some_below

@@ -1,18 +1,14 @@
 -- A fault is one of the process that runs, so its calls are that process's.
-use Rattle.std.proofs.Common.{◌≡◌, ℕ, Option, None, Some, refl, sym, ap, ◌∙◌, subst}
-use Rattle.std.specs.Prelude.{ℤ, option_map}
-use Rattle.rv64i_core.specs.Registers.{Registers}
-use Rattle.kernel_spec.specs.runs.Run.{Run, Outcome, Step_of, Turn, Idle, Ticked, Typed, Sent, Halted, TurnTaken, RunHappens}
+use Rattle.xv_report.proofs.Prelude.{ℕ, ℤ, ◌∙◌, ◌≡◌, ap, AreCallersNow, AreCallersWith, Halted, Idle, None, Option, option_map, Outcome, refl, Registers, registers_of, Reported, Run, RunHappens, Sent}
+use Rattle.xv_report.proofs.Prelude.{Some, Step_of, subst, sym, Ticked, Turn, TurnTaken, Typed}
 use Rattle.kernel_spec.specs.steps.Own.{Answer, Stepped, Called, Blocked, Exited, Faulted}
 use Rattle.kernel_spec.specs.steps.Step.{own}
 use Rattle.xk_base.specs.declared.access.Cause.{Cause}
-use Rattle.kcall_core.specs.Observers.{registers_of}
 use Rattle.xv_machine.specs.Meaning.{Meaning}
 use Rattle.xv_machine.specs.Reached.{IsEvent}
 use Rattle.xv_session.specs.Looking.{step_with, fault_of, fault_by, FaultTold}
 use Rattle.xv_session.specs.declared.looking.Fault.{Fault}
 use Rattle.xv_session.specs.declared.looking.NextStep.{NextStep}
-use Rattle.xv_report.specs.Reports.{AreCallersWith, AreCallersNow, Reported}
 use Rattle.xv_report.specs.declared.callers.Callers.{Callers}
 
 module _ (m n : Meaning) where

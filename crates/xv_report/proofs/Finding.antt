@@ -1,29 +1,15 @@
 -- The processes that could wake a sleeper, found slot by slot.
-use Rattle.std.proofs.Common.{◌≡◌, ℕ, zero, suc, ◌+◌, inl, inr, Bool, true, false, cond, List, [], ◌∷◌, ◌++◌, length, take, drop, Option, None, Some, refl, sym, ap, subst, ◌∙◌, arith}
-use Rattle.std.specs.Prelude.{IsSome, is_some, Contains}
-use Rattle.std.specs.FinMap.{get}
+use Rattle.xv_report.proofs.Prelude.{[], ℕ, ◌++◌, ◌+◌, ◌∙◌, ◌∷◌, ◌≡◌, Alive, ap, AreWakers, AreWakersBelow, arith, Bool, cases_lt, cond, Contains, Contains-permutation, could_wake, drop, end_of}
+use Rattle.xv_report.proofs.Prelude.{false, file_of, get, HasSlot, holds_end, if_live, inl, inr, is_end, is_running, is_some, is_this, IsFreeSlot, IsNonDecreasing, IsPermutation, IsPermutation-sym}
+use Rattle.xv_report.proofs.Prelude.{IsSome, length, List, Live, live, NOFILE, None, NPROC, Option, Process, refl, Some, some_below, State, Status, subst, suc, sym, take, true, World, zero, Zombie}
 use Rattle.std.specs.List.{refill}
-use Rattle.std.specs.List.Sorted.{IsPermutation, IsNonDecreasing}
 use Rattle.std.proofs.Math.Seq.{take-append_seam}
-use Rattle.std.proofs.lemmas.Bool.{cases_lt}
 use Rattle.std.proofs.lemmas.List.Elements.{Contains-append_left, Contains-push, Contains-push_cases}
-use Rattle.std.proofs.lemmas.List.Sorted.{Contains-permutation, IsPermutation-sym}
-use Rattle.xk_base.specs.Image.{some_below}
-use Rattle.xk_base.specs.declared.limits.TheConstants.{NOFILE, NPROC}
 use Rattle.file_table.specs.declared.open_file.End.{End}
 use Rattle.file_table.specs.declared.open_file.End.TheVariants.{Reading, Writing}
-use Rattle.kernel_spec.specs.others.Quiet.{end_of, file_of}
-use Rattle.kernel_spec.specs.runs.Run.{World}
-use Rattle.kernel_spec.specs.views.Processes.{Process, Live, Alive, Zombie, Status}
-use Rattle.kernel_spec.specs.views.State.{State, live}
 use Rattle.kernel_spec.specs.views.View.{child_of}
 use Rattle.kernel_spec.specs.views.WellFormed.{HasSlots}
-use Rattle.kernel_spec.specs.views.Words.{is_this}
-use Rattle.kernel_spec.specs.waking.Turns.{HasSlot, IsFreeSlot}
 use Rattle.kernel_spec.proofs.Common.{there_if_alive}
-use Rattle.kcall_core.specs.Observers.{if_live}
-use Rattle.xv_report.specs.Waits.{is_end, holds_end, is_running, could_wake}
-use Rattle.xv_report.specs.Wakers.{AreWakers, AreWakersBelow}
 use Rattle.xv_report.specs.declared.waits.Wait.{Wait}
 use Rattle.xv_report.specs.declared.waits.Wait.TheVariants.{Until, Child, PipeBytes, PipeRoom, Keys, Sending}
 

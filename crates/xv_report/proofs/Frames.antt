@@ -1,11 +1,6 @@
 -- The return addresses that frames tell, one frame after another.
-use Rattle.std.proofs.Common.{◌≡◌, ℕ, zero, suc, ◌-◌, ◌<◌, ◌≤◌, true, false, cond, List, [], ◌∷◌, ◌++◌, append_assoc, append-nil, Option, None, Some, refl, sym, ap, ◌∙◌, arith}
-use Rattle.std.proofs.lemmas.Bool.{lt-ltb, le-ltb}
-use Rattle.std.specs.Prelude.{nat_lt, is_some}
-use Rattle.kernel_spec.specs.views.State.{State}
-use Rattle.rv64i_core.specs.Registers.{Registers, reg}
-use Rattle.xv_report.specs.Callers.{RA, S0, caller_at, and_above, callers_from, above_leaf, from_leaf, frames_or_leaf, frames_told}
-use Rattle.xv_report.specs.declared.callers.TheConstants.{CALLERS_MAX}
+use Rattle.xv_report.proofs.Prelude.{[], ℕ, ◌++◌, ◌-◌, ◌<◌, ◌∙◌, ◌∷◌, ◌≡◌, ◌≤◌, above_leaf, and_above, ap, append-nil, append_assoc, arith, caller_at, callers_from, CALLERS_MAX, cond, false}
+use Rattle.xv_report.proofs.Prelude.{frames_or_leaf, frames_told, from_leaf, is_some, le-ltb, List, lt-ltb, nat_lt, None, Option, RA, refl, reg, Registers, S0, Some, State, suc, sym, true, zero}
 use Rattle.xv_report.specs.declared.callers.Caller.{Caller}
 
 module _ (s : State) (p frame : ℕ) where

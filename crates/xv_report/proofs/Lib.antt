@@ -1,3 +1,4 @@
+mod Prelude
 pub mod Sleepers
 pub mod Ends
 pub mod Frames

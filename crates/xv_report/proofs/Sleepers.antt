@@ -1,23 +1,13 @@
 -- What a sleeper waits for, by its call, its descriptor and what is told of it.
-use Rattle.std.proofs.Common.{◌≡◌, ◌≢◌, ℕ, Bool, true, false, cond, List, [], ◌∷◌, Option, None, Some, refl, sym, ap, ◌∙◌}
-use Rattle.std.specs.Prelude.{ℤ, pos, negsuc, option_map, find, nat_eq, nat_lt}
-use Rattle.std.specs.FinMap.{get}
+use Rattle.xv_report.proofs.Prelude.{[], ℕ, ℤ, ◌∙◌, ◌∷◌, ◌≡◌, ◌≢◌, ap, Bool, c_int, Child_of, Close, cond, Condition, Descriptor, descriptor_in, descriptor_of_call, Dup, end_of, Exec, Exit, false}
+use Rattle.xv_report.proofs.Prelude.{file_at, file_of, find, Fork, get, Getpid, Kill, List, Live, live, nat_eq, nat_lt, negsuc, NOFILE, None, Nothing, Open, opened, Option, option_map, or_zero}
+use Rattle.xv_report.proofs.Prelude.{Pipe_row, pos, Read, read_waits_for, refl, Row, row_of, row_waits_for, Sbrk, Sbrklazy, Sleep, sleep_waits_for, Some, State, sym, target_at, target_of_open}
+use Rattle.xv_report.proofs.Prelude.{told_on, true, Uptime, wait_in_this, Wait_row, World, Write, write_waits_for}
 use Rattle.std.specs.FinSet.{contains}
-use Rattle.xk_base.specs.declared.limits.TheConstants.{NOFILE}
 use Rattle.file_table.specs.declared.open_file.OpenFile.{OpenFile}
 use Rattle.file_table.specs.declared.open_file.Target.{Target}
 use Rattle.proc_table.specs.declared.process.Call.{Call}
-use Rattle.kernel_spec.specs.others.Quiet.{file_of, file_at, end_of, target_of_open}
-use Rattle.kernel_spec.specs.rows.Calls.{Row, Fork, Exit, Wait as Wait_row, Pipe_row, Read, Kill, Exec, Dup, Getpid, Sbrk, Sleep, Uptime, Open, Write, Close, Sbrklazy, row_of}
-use Rattle.kernel_spec.specs.runs.Run.{World}
-use Rattle.kernel_spec.specs.views.Processes.{Live}
-use Rattle.kernel_spec.specs.views.State.{State, live}
-use Rattle.kernel_spec.specs.views.Words.{c_int, or_zero}
-use Rattle.kernel_spec.specs.waking.Conditions.{Condition, Nothing, Child_of, target_at, read_waits_for, write_waits_for, sleep_waits_for, row_waits_for}
 use Rattle.kernel_spec.proofs.rows.NoRow.{apart}
-use Rattle.kcall_core.specs.Observers.{opened}
-use Rattle.kcall_core.specs.declared.kernel.observers.Descriptor.{Descriptor}
-use Rattle.xv_report.specs.Waits.{told_on, descriptor_in, descriptor_of_call, wait_in_this}
 
 -- ---- descriptors
 

@@ -1,4 +1,4 @@
-use Rattle.std.proofs.Common.{◌∙◌, sym, arith}
+use Rattle.xv_report.proofs.Prelude.{◌∙◌, arith, sym}
 use Rattle.xv_report.proofs.Frames.{none-more, none-told, found-all, found-one, found-more}
 use Rattle.xv_report.proofs.callers.+follow.Goals as goal
 

@@ -1,8 +1,4 @@
-use Rattle.std.proofs.Common.{◌≡◌, ◌∙◌, ◌-◌, ◌∷◌, ◌++◌, [], None, Some, sym, ap, rules}
-use Rattle.std.specs.Prelude.{is_some}
-use Rattle.rv64i_core.specs.Registers.{reg}
-use Rattle.xv_report.specs.Callers.{RA, S0, callers_from}
-use Rattle.xv_report.specs.declared.callers.TheConstants.{CALLERS_MAX}
+use Rattle.xv_report.proofs.Prelude.{[], ◌++◌, ◌-◌, ◌∙◌, ◌∷◌, ◌≡◌, ap, callers_from, CALLERS_MAX, is_some, None, RA, reg, rules, S0, Some, sym}
 use Rattle.xv_report.proofs.Frames.{by-frame, by-leaf}
 use Rattle.xv_report.proofs.callers.frames_told.Goals as goal
 

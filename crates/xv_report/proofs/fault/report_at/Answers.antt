@@ -1,6 +1,4 @@
-use Rattle.std.proofs.Common.{◌≡◌, ◌∙◌, Bool, true, ap, subst, rules}
-use Rattle.std.specs.Prelude.{slice_get}
-use Rattle.xv_report.specs.Reports.{is_run, ToldOf}
+use Rattle.xv_report.proofs.Prelude.{◌∙◌, ◌≡◌, ap, Bool, is_run, rules, slice_get, subst, ToldOf, true}
 use Rattle.xv_report.proofs.fault.report_at.Goals as goal
 
 pub returns : goal.returns

@@ -1,7 +1,5 @@
 -- The name is that of the call that the number finds in the table.
-use Rattle.std.proofs.Common.{Some, None, ap, sym, ◌∙◌, w32}
-use Rattle.std.proofs.lemmas.Int.{to_z-of_z}
-use Rattle.kernel_calls.specs.Table.{call_at}
+use Rattle.xv_report.proofs.Prelude.{◌∙◌, ap, call_at, None, Some, sym, to_z-of_z, w32}
 use Rattle.xv_report.proofs.CallNames.{named}
 use Rattle.xv_report.proofs.names.call_name.Goals as goal
 

@@ -1,10 +1,7 @@
-use Rattle.std.proofs.Common.{◌≡◌, ◌∙◌, ◌<◌, ℕ, Bool, true, false, sym, ap, rules}
-use Rattle.xk_base.specs.declared.limits.TheConstants.{NOFILE}
-use Rattle.kernel_spec.specs.others.Quiet.{end_of, file_at}
-use Rattle.xv_report.specs.Waits.{is_end}
+use Rattle.xv_report.proofs.Prelude.{ℕ, ◌<◌, ◌∙◌, ◌≡◌, ap, Bool, end_of, false, file_at, is_end, NOFILE, rules, sym, true}
 use Rattle.xv_report.proofs.Ends.{some-none, some-more}
-use Rattle.xv_report.proofs.waits.holds_end.Goals as goal
 use Rattle.addr_space.proofs.Prices.{some-yes}
+use Rattle.xv_report.proofs.waits.holds_end.Goals as goal
 
 pub loop-number-init : goal.loop-number-init
 loop-number-init c = some-none _

@@ -1,7 +1,4 @@
-use Rattle.std.proofs.Common.{◌≡◌, false}
-use Rattle.xk_base.specs.Image.{some_below}
-use Rattle.kernel_spec.specs.others.Quiet.{end_of, file_at}
-use Rattle.xv_report.specs.Waits.{is_end}
+use Rattle.xv_report.proofs.Prelude.{◌≡◌, end_of, false, file_at, is_end, some_below}
 use Rattle.xv_report.proofs.waits.holds_end.Given as goal
 
 abbrev pub invariant-loop-number : goal.invariant-loop-number

@@ -1,7 +1,4 @@
-use Rattle.std.proofs.Common.{◌∙◌, sym, ap, refl, w32}
-use Rattle.std.proofs.lemmas.Int.{to_z-of_z}
-use Rattle.kernel_spec.specs.waking.Conditions.{read_waits_for}
-use Rattle.xv_report.specs.Waits.{descriptor_in}
+use Rattle.xv_report.proofs.Prelude.{◌∙◌, ap, descriptor_in, read_waits_for, refl, sym, to_z-of_z, w32}
 use Rattle.xv_report.proofs.Sleepers.{told-of-target, none-of-number, none-of-target}
 use Rattle.xv_report.proofs.waits.read_in_call.Goals as goal
 

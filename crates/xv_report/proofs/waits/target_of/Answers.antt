@@ -1,7 +1,4 @@
-use Rattle.std.proofs.Common.{◌∙◌, sym, ap}
-use Rattle.std.specs.Prelude.{option_map}
-use Rattle.kernel_spec.specs.others.Quiet.{file_at}
-use Rattle.kcall_core.specs.declared.kernel.observers.Descriptor.{Descriptor}
+use Rattle.xv_report.proofs.Prelude.{◌∙◌, ap, Descriptor, file_at, option_map, sym}
 use Rattle.xv_report.proofs.Sleepers.{target-told}
 use Rattle.xv_report.proofs.waits.target_of.Goals as goal
 

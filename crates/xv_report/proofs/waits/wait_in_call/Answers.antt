@@ -1,5 +1,4 @@
-use Rattle.std.proofs.Common.{◌∙◌, Some, sym, rules}
-use Rattle.xv_report.specs.Waits.{descriptor_of_call}
+use Rattle.xv_report.proofs.Prelude.{◌∙◌, descriptor_of_call, rules, Some, sym}
 use Rattle.xv_report.proofs.Sleepers.{wait-waits, read-waits, write-waits, sleep-waits, other-waits}
 use Rattle.xv_report.proofs.waits.wait_in_call.Goals as goal
 

@@ -1,8 +1,4 @@
-use Rattle.std.proofs.Common.{◌≡◌, ◌∙◌, ℕ, ◌+◌, List, [], ◌∷◌, ◌++◌, Option, true, false, sym, ap, subst}
-use Rattle.std.specs.Prelude.{IfNone}
-use Rattle.kernel_spec.specs.waking.Turns.{IsFreeSlot}
-use Rattle.xv_report.specs.Waits.{could_wake}
-use Rattle.xv_report.specs.Wakers.{AreWakersBelow}
+use Rattle.xv_report.proofs.Prelude.{[], ℕ, ◌++◌, ◌+◌, ◌∙◌, ◌∷◌, ◌≡◌, ap, AreWakersBelow, could_wake, false, IfNone, IsFreeSlot, List, Option, subst, sym, true}
 use Rattle.xv_report.proofs.Finding.{next-able, next-free, next-unable}
 use Rattle.xv_report.proofs.waking.add_waker.Goals as goal
 

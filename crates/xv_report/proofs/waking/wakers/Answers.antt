@@ -1,8 +1,4 @@
-use Rattle.std.proofs.Common.{◌≡◌, ◌∙◌, ℕ, List, length, sym, subst}
-use Rattle.std.specs.List.Sorted.{IsPermutation}
-use Rattle.std.proofs.lemmas.List.Sorted.{IsNonDecreasingBy-from_sort}
-use Rattle.arrayvec.specs.ArrayVec.{array_vec_len}
-use Rattle.xv_report.specs.Wakers.{AreWakers}
+use Rattle.xv_report.proofs.Prelude.{ℕ, ◌∙◌, ◌≡◌, AreWakers, array_vec_len, IsNonDecreasingBy-from_sort, IsPermutation, length, List, subst, sym}
 use Rattle.xv_report.proofs.Finding.{all-found, put-back}
 use Rattle.xv_report.proofs.waking.wakers.Goals as goal
 

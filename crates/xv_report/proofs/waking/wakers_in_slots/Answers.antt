@@ -1,5 +1,4 @@
-use Rattle.std.proofs.Common.{ℕ, List, sym, subst, rules}
-use Rattle.xv_report.specs.Wakers.{AreWakersBelow}
+use Rattle.xv_report.proofs.Prelude.{ℕ, AreWakersBelow, List, rules, subst, sym}
 use Rattle.xv_report.proofs.Finding.{none-found}
 use Rattle.xv_report.proofs.waking.wakers_in_slots.Goals as goal
 

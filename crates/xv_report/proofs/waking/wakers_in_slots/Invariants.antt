@@ -1,6 +1,4 @@
-use Rattle.std.proofs.Common.{◌≤◌}
-use Rattle.arrayvec.specs.ArrayVec.{array_vec_len}
-use Rattle.xv_report.specs.Wakers.{AreWakersBelow}
+use Rattle.xv_report.proofs.Prelude.{◌≤◌, AreWakersBelow, array_vec_len}
 use Rattle.xv_report.proofs.waking.wakers_in_slots.Given as goal
 
 abbrev pub invariant-loop-slot : goal.invariant-loop-slot
