@@ -1,6 +1,5 @@
 -- Lines, one behind another.
-use Rattle.std.proofs.Common.{suc, refl}
-use Rattle.xv_session.specs.Recorded.{Recorded}
+use Rattle.xv_debug.proofs.Prelude.{Recorded, refl, suc}
 use Rattle.xv_debug.specs.Conversations.{Converses, MovesByWord}
 
 -- none yet

@@ -1,3 +1,4 @@
+mod Prelude
 pub mod Conversed
 pub mod PipeBytes
 pub mod Results

@@ -1,11 +1,10 @@
 -- The bytes of a pipe, one by one.
-use Rattle.std.proofs.Common.{◌≡◌, ℕ, [], slice_get, Option, None, Some, sym, refl, arith}
+use Rattle.xv_debug.proofs.Prelude.{[], ℕ, ◌≡◌, arith, bytes_in, None, Option, pipe_bytes, refl, slice_get, Some, sym}
 use Rattle.std.specs.FinMap.{get}
 use Rattle.std.proofs.lemmas.Option.{slice_get_past}
 use Rattle.pipe_core.specs.Pipe.{Pipe}
 use Rattle.kernel_spec.specs.views.State.{State}
 use Rattle.kcall_core.specs.ObservedPipes.{byte_of_pipe, pipe_byte_of}
-use Rattle.xv_debug.specs.Pipes.{bytes_in, pipe_bytes}
 
 byte-told : (o : Option Pipe) (place : ℕ) → byte_of_pipe place o ≡ slice_get (bytes_in o) place
 byte-told None place = sym (slice_get_past {X = ℕ} [] place (omega arith))

@@ -1,19 +1,11 @@
 -- Events that are played one behind another, and what the console shows of them.
-use Rattle.std.proofs.Common.{◌≡◌, ◌≤◌, ◌-◌, ℕ, zero, suc, Bool, true, false, ◌||◌, Option, None, Some, ◌+◌, ◌<◌, List, [], ◌∷◌, ◌++◌, length, get_or, map, replicate, take, sym, ap, ap₂, ◌∙◌, subst}
-use Rattle.std.proofs.Common.{append_assoc, add-one, refl, arith, length-append, min, Result, Ok, Err, IfErr}
-use Rattle.std.proofs.lemmas.List.{append-nil, map-append, replicate-append-replicate, take_more}
+use Rattle.xv_debug.proofs.Prelude.{[], ℕ, ◌++◌, ◌+◌, ◌-◌, ◌<◌, ◌||◌, ◌∙◌, ◌∷◌, ◌≡◌, ◌≤◌, add-one, any_fault, ap, append-nil, append_assoc, ap₂, arith, Bool, bytes_out, Err, Event, events_of, false}
+use Rattle.xv_debug.proofs.Prelude.{faults, get_or, IfErr, KeepsShown, Key, last_outcome, length, length-append, List, map, map-append, Meaning, min, None, Ok, Option, out, Outcome, Plays, PlaysPart}
+use Rattle.xv_debug.proofs.Prelude.{PlaysTelling, Recorded, refl, replicate, replicate-append-replicate, Result, rounds_of, Sends, Sent, Some, subst, suc, sym, take, take_more, true, zero}
 use Rattle.std.proofs.lemmas.Grind.{flat_map-append}
 use Rattle.circular_buffer.specs.Buffer.{keep_last, buffer, Buffer}
-use Rattle.kernel_spec.specs.runs.Run.{Event, Key, Outcome, bytes_out, out}
-use Rattle.xv_machine.specs.Meaning.{Meaning}
 use Rattle.xv_machine.specs.Reached.{AreEvents}
 use Rattle.xv_machine.proofs.Kept.{keep-more, keep-all}
-use Rattle.xv_session.specs.Answers.{Sent}
-use Rattle.xv_session.specs.Recorded.{Recorded}
-use Rattle.xv_session.specs.Until.{faults}
-use Rattle.xv_debug.specs.motion.Sent.{Plays, Sends, last_outcome, any_fault}
-use Rattle.xv_debug.specs.motion.Shown.{KeepsShown}
-use Rattle.xv_debug.specs.motion.Rounds.{PlaysTelling, PlaysPart, events_of, rounds_of}
 use Rattle.xv_debug.specs.declared.motion.output.Output.{Output}
 use Rattle.xv_debug.specs.declared.motion.rounds.Round.{Round}
 use Rattle.xv_debug.proofs.Reached.{adds-none, adds-join}

@@ -1,16 +1,7 @@
 -- Runs that are sent one by one, and where they stop.
-use Rattle.std.proofs.Common.{◌≡◌, ℕ, zero, suc, Bool, true, false, Option, Some, ◌+◌, List, [], ◌++◌, replicate, sym, ap, ◌∙◌, subst, append_assoc, add-one, arith}
-use Rattle.std.proofs.lemmas.List.{append-nil, replicate-append-replicate}
-use Rattle.kernel_spec.specs.runs.Run.{Event, Run, Outcome}
-use Rattle.xv_machine.specs.Meaning.{Meaning}
-use Rattle.xv_session.specs.Answers.{stands, Found}
-use Rattle.xv_session.specs.Recorded.{Recorded, running_of}
-use Rattle.xv_session.specs.Steps.{Advances}
-use Rattle.xv_session.specs.Until.{meets}
+use Rattle.xv_debug.proofs.Prelude.{[], ℕ, ◌++◌, ◌+◌, ◌∙◌, ◌≡◌, add-one, Adds, AddsRuns, Advances, ap, append-nil, append_assoc, arith, Bool, Condition, Event, false, Found, LastMet, List, Meaning}
+use Rattle.xv_debug.proofs.Prelude.{meets, NoneMet, Option, Outcome, Recorded, replicate, replicate-append-replicate, Run, running_of, Some, stands, subst, suc, sym, true, zero}
 use Rattle.xv_session.specs.declared.running.Running.{Running}
-use Rattle.xv_session.specs.declared.until.Condition.{Condition}
-use Rattle.xv_debug.specs.motion.Effects.{Adds, AddsRuns}
-use Rattle.xv_debug.specs.motion.Reaching.{NoneMet, LastMet}
 
 -- ---- events that are added
 

@@ -1,5 +1,5 @@
 -- What is left whatever a call answers.
-use Rattle.std.proofs.Common.{Result, Ok, Err, IfOk, IfErr}
+use Rattle.xv_debug.proofs.Prelude.{Err, IfErr, IfOk, Ok, Result}
 
 pub if-ok : {A E : Type 0} {P : Type 0} (r : Result A E) → P → IfOk r (λ _. P)
 if-ok (Ok a) p = p

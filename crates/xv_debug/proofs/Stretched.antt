@@ -1,18 +1,11 @@
 -- Runs that are sent at once, stretch by stretch.
-use Rattle.std.proofs.Common.{◌≡◌, ◌≢◌, ◌∙◌, ℕ, zero, suc, ◌+◌, ◌<◌, ◌≤◌, List, [], ◌∷◌, ◌++◌, length, Option, None, Some, inl, inr, refl, sym, ap, ap₂, subst, replicate, arith}
-use Rattle.std.proofs.lemmas.List.{replicate-append-replicate}
-use Rattle.kernel_spec.specs.runs.Run.{Event, Run, Outcome, World}
+use Rattle.xv_debug.proofs.Prelude.{[], ℕ, ◌++◌, ◌+◌, ◌<◌, ◌∙◌, ◌∷◌, ◌≡◌, ◌≢◌, ◌≤◌, ap, ap₂, AreRunsTo, arith, Event, inl, inr, last_of, last_outcome, length, List, None, Option, Outcome, Ran}
+use Rattle.xv_debug.proofs.Prelude.{Recorded, refl, replicate, replicate-append-replicate, Run, RunsSent, Sent, Some, Stop, subst, suc, sym, World, zero}
 use Rattle.kernel_spec.specs.views.Words.{or_zero}
 use Rattle.xv_machine.specs.Drives.{done_by}
 use Rattle.xv_machine.proofs.Joins.{goes-none, goes-one, goes-join, events-join}
-use Rattle.xv_session.specs.Answers.{Sent, RunsSent}
-use Rattle.xv_session.specs.Recorded.{Recorded}
-use Rattle.xv_session.specs.Steps.{AreRunsTo}
 use Rattle.xv_session.proofs.RunsCounted.{count-sent, runs-count}
-use Rattle.xv_debug.specs.motion.Ran.{Ran, last_of}
 use Rattle.xv_debug.specs.motion.Resting.{RestsBy}
-use Rattle.xv_debug.specs.motion.Sent.{last_outcome}
-use Rattle.xv_debug.specs.declared.motion.journey.Stop.{Stop}
 use Rattle.xv_debug.specs.declared.motion.journey.Stop.TheVariants.{Done, Met, Asleep, Halted, Refused}
 use Rattle.xv_debug.proofs.Reached.{adds-none, adds-more}
 use Rattle.xv_debug.proofs.Played.{Steps, last-one}

@@ -1,4 +1,4 @@
-use Rattle.std.proofs.Common.{◌≡◌, ◌%◌}
+use Rattle.xv_debug.proofs.Prelude.{◌%◌, ◌≡◌}
 use Rattle.xv_debug.proofs.instruction.list.Given as goal
 
 abbrev pub invariant-loop-place : goal.invariant-loop-place

@@ -1,6 +1,5 @@
-use Rattle.std.proofs.Common.{◌≤◌, [], ◌∷◌, ◌++◌, ◌∙◌, sym, ap, arith}
+use Rattle.xv_debug.proofs.Prelude.{[], ◌++◌, ◌∙◌, ◌∷◌, ◌≤◌, ap, arith, pipe_bytes, sym}
 use Rattle.debug_views.proofs.Lists.{take-past, take-next}
-use Rattle.xv_debug.specs.Pipes.{pipe_bytes}
 use Rattle.xv_debug.specs.declared.pipes.TheConstants.{SHOWN_MOST}
 use Rattle.xv_debug.proofs.PipeBytes.{byte-is}
 use Rattle.xv_debug.proofs.pipes.oldest.Goals as goal

@@ -1,5 +1,4 @@
-use Rattle.std.proofs.Common.{◌≡◌, take}
-use Rattle.xv_debug.specs.Pipes.{pipe_bytes}
+use Rattle.xv_debug.proofs.Prelude.{◌≡◌, pipe_bytes, take}
 use Rattle.xv_debug.proofs.pipes.oldest.Given as goal
 
 abbrev pub invariant-loop-place : goal.invariant-loop-place

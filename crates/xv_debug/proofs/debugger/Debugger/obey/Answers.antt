@@ -1,4 +1,4 @@
-use Rattle.std.proofs.Common.{refl}
+use Rattle.xv_debug.proofs.Prelude.{refl}
 use Rattle.debug_words.specs.declared.vocabulary.Word.TheVariants.{Nothing}
 use Rattle.xv_debug.proofs.debugger.Debugger.obey.Goals as goal
 

@@ -1,4 +1,4 @@
-use Rattle.std.proofs.Common.{inr}
+use Rattle.xv_debug.proofs.Prelude.{inr}
 use Rattle.xv_debug.specs.Effects.{Plays}
 use Rattle.xv_debug.proofs.Results.{if-ok, if-err}
 use Rattle.xv_debug.proofs.debugger.Debugger.play.Goals as goal

@@ -1,6 +1,4 @@
-use Rattle.std.proofs.Common.{inr, option_map, replicate}
-use Rattle.xv_machine.specs.Events.{event_of, outcome_of}
-use Rattle.xv_debug.specs.Effects.{SendsFirst}
+use Rattle.xv_debug.proofs.Prelude.{event_of, inr, option_map, outcome_of, replicate, SendsFirst}
 use Rattle.xv_debug.proofs.Results.{if-ok, if-err}
 use Rattle.xv_debug.proofs.debugger.Debugger.send_often.Goals as goal
 

@@ -1,5 +1,4 @@
-use Rattle.std.proofs.Common.{option_map}
-use Rattle.xv_machine.specs.Events.{outcome_of}
+use Rattle.xv_debug.proofs.Prelude.{option_map, outcome_of}
 use Rattle.xv_debug.proofs.debugger.Debugger.step.Goals as goal
 
 pub returns : goal.returns

@@ -1,7 +1,4 @@
-use Rattle.std.proofs.Common.{ℕ, List, inr, option_map, map, take, length, subst}
-use Rattle.kernel_spec.specs.runs.Run.{Key}
-use Rattle.xv_machine.specs.Events.{outcome_of}
-use Rattle.xv_debug.specs.Effects.{SendsFirst}
+use Rattle.xv_debug.proofs.Prelude.{ℕ, inr, Key, length, List, map, option_map, outcome_of, SendsFirst, subst, take}
 use Rattle.xv_debug.proofs.Results.{if-ok, if-err}
 use Rattle.xv_debug.proofs.debugger.Debugger.type_in.Goals as goal
 

@@ -1,4 +1,4 @@
-use Rattle.std.proofs.Common.{ℕ, ◌<◌}
+use Rattle.xv_debug.proofs.Prelude.{ℕ, ◌<◌}
 use Rattle.kernel_spec.specs.waking.Turns.{HasSlot}
 use Rattle.kernel_spec.specs.waking.Wakes.{IsRunnable}
 use Rattle.xv_debug.proofs.motion.resting.is_any_runnable.Given as goal

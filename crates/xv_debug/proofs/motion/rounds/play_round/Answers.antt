@@ -1,6 +1,4 @@
-use Rattle.std.proofs.Common.{[], ◌∷◌, ◌++◌, replicate, append_assoc}
-use Rattle.kernel_spec.specs.runs.Run.{Run, Tick, Send}
-use Rattle.xv_debug.specs.motion.Rounds.{events_of}
+use Rattle.xv_debug.proofs.Prelude.{[], ◌++◌, ◌∷◌, append_assoc, events_of, replicate, Run, Send, Tick}
 use Rattle.xv_debug.proofs.Played.{if-err, part-of-all, part-more, part-those, plays-join, telling-more}
 use Rattle.xv_debug.proofs.motion.rounds.play_round.Goals as goal
 

@@ -1,6 +1,4 @@
-use Rattle.std.proofs.Common.{◌≤◌, ◌+◌, ◌++◌, false, true, sym, subst, arith}
-use Rattle.xv_debug.specs.motion.Rounds.{RoundsLeave, PlaysToFault, PlaysPart, events_of, rounds_of}
-use Rattle.xv_debug.specs.declared.motion.journey.Stop.{Stop}
+use Rattle.xv_debug.proofs.Prelude.{◌++◌, ◌+◌, ◌≤◌, arith, events_of, false, PlaysPart, PlaysToFault, rounds_of, RoundsLeave, Stop, subst, sym, true}
 use Rattle.xv_debug.proofs.Played.{plays-those, plays-join, telling-those, telling-join, telling-nothing, rounds-more, rounds-part, part-those, part-of-all}
 use Rattle.xv_debug.proofs.motion.rounds.play_rounds.Goals as goal
 

@@ -1,5 +1,4 @@
-use Rattle.xv_debug.specs.motion.Rounds.{rounds_of}
-use Rattle.xv_debug.specs.motion.Sent.{Plays}
+use Rattle.xv_debug.proofs.Prelude.{Plays, rounds_of}
 use Rattle.xv_debug.proofs.motion.rounds.play_rounds.Given as goal
 
 abbrev pub invariant-loop-count : goal.invariant-loop-count

@@ -1,4 +1,4 @@
-use Rattle.xv_machine.specs.Events.{event_of}
+use Rattle.xv_debug.proofs.Prelude.{event_of}
 use Rattle.xv_debug.proofs.Played.{part-often}
 use Rattle.xv_debug.proofs.motion.rounds.send_all.Goals as goal
 

@@ -1,9 +1,4 @@
-use Rattle.std.proofs.Common.{◌≡◌, ◌≤◌, ℕ, List, [], ◌∷◌, ◌++◌, ◌+◌, ◌||◌, Bool, replicate, refl, sym, ap, subst, arith}
-use Rattle.std.proofs.lemmas.List.{replicate_more}
-use Rattle.kernel_spec.specs.runs.Run.{Run}
-use Rattle.xv_machine.specs.Events.{outcome_of}
-use Rattle.xv_session.specs.Until.{faults}
-use Rattle.xv_debug.specs.motion.Shown.{KeepsShown}
+use Rattle.xv_debug.proofs.Prelude.{[], ℕ, ◌++◌, ◌+◌, ◌||◌, ◌∷◌, ◌≡◌, ◌≤◌, ap, arith, Bool, faults, KeepsShown, List, outcome_of, refl, replicate, replicate_more, Run, subst, sym}
 use Rattle.xv_debug.proofs.Played.{part-often, plays-still, telling-those, telling-join, telling-one}
 use Rattle.xv_debug.proofs.motion.rounds.send_runs.Goals as goal
 

@@ -1,6 +1,5 @@
-use Rattle.std.proofs.Common.{replicate}
+use Rattle.xv_debug.proofs.Prelude.{PlaysTelling, replicate}
 use Rattle.kernel_spec.specs.runs.Run as runs
-use Rattle.xv_debug.specs.motion.Rounds.{PlaysTelling}
 use Rattle.xv_debug.proofs.motion.rounds.send_runs.Given as goal
 
 abbrev pub invariant-loop-sent : goal.invariant-loop-sent

@@ -1,11 +1,5 @@
-use Rattle.std.proofs.Common.{◌≡◌, ◌+◌, ◌∙◌, true, false, Some, option_map, refl, sym, ap, subst}
-use Rattle.kernel_spec.specs.runs.Run.{Run}
-use Rattle.xv_machine.specs.Events.{outcome_of}
-use Rattle.xv_machine.specs.Meaning.{Meaning}
-use Rattle.xv_session.specs.Recorded.{running_of}
+use Rattle.xv_debug.proofs.Prelude.{◌+◌, ◌∙◌, ◌≡◌, ap, false, Journey, LastMet, Meaning, meets_aim, option_map, outcome_of, Reaches, refl, Run, running_of, Some, subst, sym, true}
 use Rattle.xv_debug.specs.motion.Aims.{meets}
-use Rattle.xv_debug.specs.motion.Reaching.{Reaches, LastMet, meets_aim}
-use Rattle.xv_debug.specs.declared.motion.journey.Journey.{Journey}
 use Rattle.xv_debug.proofs.Reached.{adds-more, none-more, last-met}
 use Rattle.xv_debug.proofs.motion.running.run_to.Goals as goal
 

@@ -1,5 +1,4 @@
-use Rattle.std.proofs.Common.{option_map, arith}
-use Rattle.xv_machine.specs.Events.{outcome_of}
+use Rattle.xv_debug.proofs.Prelude.{arith, option_map, outcome_of}
 use Rattle.xv_debug.proofs.Stretched.{ran-none, ran-more}
 use Rattle.xv_debug.proofs.motion.running.step.Goals as goal
 

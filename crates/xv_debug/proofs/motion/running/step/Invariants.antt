@@ -1,6 +1,4 @@
-use Rattle.std.proofs.Common.{◌-◌, ◌≤◌, option_map}
-use Rattle.xv_machine.specs.Events.{outcome_of}
-use Rattle.xv_debug.specs.motion.Ran.{Ran}
+use Rattle.xv_debug.proofs.Prelude.{◌-◌, ◌≤◌, option_map, outcome_of, Ran}
 use Rattle.xv_debug.proofs.motion.running.step.Given as goal
 
 abbrev pub invariant-runs : goal.invariant-runs

@@ -1,11 +1,4 @@
-use Rattle.std.proofs.Common.{◌+◌, ◌∙◌, option_map, sym, subst}
-use Rattle.kernel_spec.specs.runs.Run.{Run}
-use Rattle.xv_machine.specs.Events.{outcome_of}
-use Rattle.xv_session.specs.Recorded.{running_of}
-use Rattle.xv_session.specs.Until.{meets}
-use Rattle.xv_debug.specs.motion.Effects.{AddsRuns}
-use Rattle.xv_debug.specs.motion.Reaching.{Reaches, LastMet}
-use Rattle.xv_debug.specs.declared.motion.journey.Journey.{Journey}
+use Rattle.xv_debug.proofs.Prelude.{◌+◌, ◌∙◌, AddsRuns, Journey, LastMet, meets, option_map, outcome_of, Reaches, Run, running_of, subst, sym}
 use Rattle.xv_debug.proofs.Reached.{adds-more, none-more, last-met, found-one}
 use Rattle.xv_debug.proofs.motion.running.until.Goals as goal
 

@@ -1,9 +1,4 @@
-use Rattle.std.proofs.Common.{option_map}
-use Rattle.xv_machine.specs.Events.{outcome_of}
-use Rattle.xv_session.specs.Recorded.{running_of}
-use Rattle.xv_session.specs.Until.{meets}
-use Rattle.xv_debug.specs.motion.Effects.{AddsRuns}
-use Rattle.xv_debug.specs.motion.Reaching.{NoneMet}
+use Rattle.xv_debug.proofs.Prelude.{AddsRuns, meets, NoneMet, option_map, outcome_of, running_of}
 use Rattle.xv_debug.proofs.motion.running.until.Given as goal
 
 abbrev pub invariant-loop-sent : goal.invariant-loop-sent

@@ -1,9 +1,4 @@
-use Rattle.std.proofs.Common.{◌≡◌, ℕ, List, [], ◌∷◌, ◌++◌, ◌+◌, Some, option_map, replicate, refl, sym, subst, arith}
-use Rattle.std.proofs.lemmas.List.{replicate_more}
-use Rattle.xv_machine.specs.Events.{event_of, outcome_of}
-use Rattle.xv_debug.specs.motion.Sent.{Sends}
-use Rattle.xv_debug.specs.motion.Shown.{KeepsShown}
-use Rattle.xv_debug.specs.declared.motion.journey.Journey.{Journey}
+use Rattle.xv_debug.proofs.Prelude.{[], ℕ, ◌++◌, ◌+◌, ◌∷◌, ◌≡◌, arith, event_of, Journey, KeepsShown, List, option_map, outcome_of, refl, replicate, replicate_more, Sends, Some, subst, sym}
 use Rattle.xv_debug.proofs.Played.{sends-none, sends-more, sends-those, sends-still}
 use Rattle.xv_debug.proofs.motion.sending.send_often.Goals as goal
 

@@ -1,6 +1,4 @@
-use Rattle.std.proofs.Common.{replicate, option_map}
-use Rattle.xv_machine.specs.Events.{event_of, outcome_of}
-use Rattle.xv_debug.specs.motion.Sent.{Sends}
+use Rattle.xv_debug.proofs.Prelude.{event_of, option_map, outcome_of, replicate, Sends}
 use Rattle.xv_debug.proofs.motion.sending.send_often.Given as goal
 
 abbrev pub invariant-loop-sent : goal.invariant-loop-sent

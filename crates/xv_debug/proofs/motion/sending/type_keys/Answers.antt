@@ -1,9 +1,4 @@
-use Rattle.std.proofs.Common.{◌≡◌, ℕ, List, [], ◌∷◌, ◌++◌, ◌+◌, Some, option_map, map, take, length, get_or, refl, sym, subst, arith}
-use Rattle.kernel_spec.specs.runs.Run.{Key}
-use Rattle.xv_machine.specs.Events.{outcome_of}
-use Rattle.xv_debug.specs.motion.Sent.{Sends}
-use Rattle.xv_debug.specs.motion.Shown.{KeepsShown}
-use Rattle.xv_debug.specs.declared.motion.journey.Journey.{Journey}
+use Rattle.xv_debug.proofs.Prelude.{[], ℕ, ◌++◌, ◌+◌, ◌∷◌, ◌≡◌, arith, get_or, Journey, KeepsShown, Key, length, List, map, option_map, outcome_of, refl, Sends, Some, subst, sym, take}
 use Rattle.xv_debug.proofs.Played.{sends-none, sends-more, sends-those, sends-still, keys-more}
 use Rattle.xv_debug.proofs.motion.sending.type_keys.Goals as goal
 

@@ -1,7 +1,5 @@
-use Rattle.std.proofs.Common.{map, take, option_map}
+use Rattle.xv_debug.proofs.Prelude.{map, option_map, outcome_of, Sends, take}
 use Rattle.kernel_spec.specs.runs.Run as runs
-use Rattle.xv_machine.specs.Events.{outcome_of}
-use Rattle.xv_debug.specs.motion.Sent.{Sends}
 use Rattle.xv_debug.proofs.motion.sending.type_keys.Given as goal
 
 abbrev pub invariant-loop-place : goal.invariant-loop-place

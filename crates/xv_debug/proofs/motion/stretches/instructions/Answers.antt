@@ -1,7 +1,4 @@
-use Rattle.std.proofs.Common.{Some, option_map, sym, subst}
-use Rattle.kernel_spec.specs.runs.Run.{Outcome}
-use Rattle.xv_machine.specs.Events.{outcome_of}
-use Rattle.xv_debug.specs.motion.Ran.{Ran}
+use Rattle.xv_debug.proofs.Prelude.{option_map, Outcome, outcome_of, Ran, Some, subst, sym}
 use Rattle.xv_debug.proofs.Stretched.{ran-runs, runs-within}
 use Rattle.xv_debug.proofs.motion.stretches.instructions.Goals as goal
 

@@ -1,4 +1,4 @@
-use Rattle.xv_machine.specs.Events.{outcome_of}
+use Rattle.xv_debug.proofs.Prelude.{outcome_of}
 use Rattle.xv_debug.proofs.Stretched.{ran-one}
 use Rattle.xv_debug.proofs.motion.stretches.turn.Goals as goal
 

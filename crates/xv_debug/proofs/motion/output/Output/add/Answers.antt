@@ -1,5 +1,4 @@
-use Rattle.std.proofs.Common.{take, get_or, ◌+◌}
-use Rattle.std.proofs.lemmas.List.{take_more}
+use Rattle.xv_debug.proofs.Prelude.{◌+◌, get_or, take, take_more}
 use Rattle.xv_debug.proofs.Played.{pushed-kept, pushed-counted}
 use Rattle.xv_debug.proofs.motion.output.Output.add.Goals as goal
 

@@ -1,5 +1,4 @@
-use Rattle.std.proofs.Common.{take}
-use Rattle.xv_debug.specs.motion.Shown.{KeepsShown}
+use Rattle.xv_debug.proofs.Prelude.{KeepsShown, take}
 use Rattle.xv_debug.proofs.motion.output.Output.add.Given as goal
 
 abbrev pub invariant-loop-place : goal.invariant-loop-place
