@@ -1,14 +1,8 @@
 -- What is shown by events, one behind another.
-use Rattle.std.proofs.Common.{◌≡◌, ◌∙◌, ℕ, zero, suc, List, [], ◌∷◌, ◌++◌, append-nil, append_assoc, Option, Result, Ok, Err, OnOk, refl, sym, ap, ap₂, subst, replicate}
-use Rattle.std.proofs.KnownBytes.{Appends-nil, Appends-trans}
-use Rattle.std.specs.Io.KnownBytes.{Appends}
-use Rattle.kernel_spec.specs.runs.Run.{World, Event, Run, Outcome, Happens, bytes_out, out}
-use Rattle.kernel_spec.specs.runs.Rounds.{events}
-use Rattle.kernel_spec.specs.waking.Wakes.{IsPromised}
-use Rattle.xv_machine.proofs.Joins.{goes-none, goes-one, goes-join, events-join, shows-join}
+use Rattle.xv_live.proofs.Prelude.{[], ℕ, ◌++◌, ◌∙◌, ◌∷◌, ◌≡◌, ap, append-nil, append_assoc, Appends, Appends-nil, Appends-trans, ap₂, bytes_out, Err, Event, events, events-join, goes-join, goes-none}
+use Rattle.xv_live.proofs.Prelude.{goes-one, Happens, IsPromised, List, Ok, OnOk, Option, out, Outcome, Recorded, refl, replicate, Result, Run, RunsSent, Sent, shows-join, stands, subst, suc, sym}
+use Rattle.xv_live.proofs.Prelude.{World, zero}
 use Rattle.xv_machine.proofs.Shown.{run-shows}
-use Rattle.xv_session.specs.Answers.{stands, Sent, RunsSent}
-use Rattle.xv_session.specs.Recorded.{Recorded}
 use Rattle.xv_live.specs.Shown.{Shown}
 
 -- no event

@@ -1,3 +1,4 @@
+mod Prelude
 pub mod Joined
 pub mod Lines
 pub mod Played

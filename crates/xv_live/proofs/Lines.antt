@@ -1,13 +1,10 @@
 -- The events of lines, one behind another.
-use Rattle.std.proofs.Common.{◌≡◌, ◌∙◌, ℕ, ◌+◌, ◌-◌, ◌<◌, ◌≤◌, List, [], ◌∷◌, ◌++◌, length, take, drop, min, get_or, append-nil, append_assoc, sym, ap, replicate, arith}
+use Rattle.xv_live.proofs.Prelude.{[], ℕ, ◌++◌, ◌+◌, ◌-◌, ◌<◌, ◌∙◌, ◌∷◌, ◌≡◌, ◌≤◌, ap, append-nil, append_assoc, arith, drop, Event, events_of_line, events_of_lines, flat_map-append, get_or, length}
+use Rattle.xv_live.proofs.Prelude.{length-drop, length-replicate, length-take, List, min, replicate, replicate-append-replicate, sym, take, take_all, take_more}
 use Rattle.std.proofs.Math.Seq.{take-add}
-use Rattle.std.proofs.lemmas.Grind.{flat_map-append}
-use Rattle.std.proofs.lemmas.List.{take_all, take_more, length-take, length-drop, length-replicate, replicate-append-replicate}
-use Rattle.kernel_spec.specs.runs.Run as runs
-use Rattle.kernel_spec.specs.runs.Run.{Event}
 use Rattle.xv_record.specs.declared.line.Line.{Line}
 use Rattle.xv_record.specs.declared.line.Line.TheVariants.{Key}
-use Rattle.xv_live.specs.Plays.{events_of_line, events_of_lines}
+use Rattle.kernel_spec.specs.runs.Run as runs
 
 -- one line more
 pub lines-push : (xs : List Line) (l : Line) → events_of_lines (xs ++ l ∷ []) ≡ events_of_lines xs ++ events_of_line l

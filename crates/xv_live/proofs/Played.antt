@@ -1,14 +1,8 @@
 -- Records that are played, event by event.
-use Rattle.std.proofs.Common.{◌≡◌, ◌∙◌, ℕ, ◌-◌, ◌<◌, ◌≤◌, List, [], ◌∷◌, ◌++◌, Option, refl, ap, ap₂, subst, replicate, arith}
-use Rattle.std.proofs.lemmas.List.{replicate-append-replicate}
-use Rattle.std.specs.Io.KnownBytes.{Appends}
-use Rattle.kernel_spec.specs.runs.Run.{Event, Run, Outcome, bytes_out}
+use Rattle.xv_live.proofs.Prelude.{[], ℕ, ◌++◌, ◌-◌, ◌<◌, ◌∙◌, ◌∷◌, ◌≡◌, ◌≤◌, ap, Appends, ap₂, arith, bytes_out, Event, events-join, List, Option, Outcome, Plays, Recorded, refl, replicate}
+use Rattle.xv_live.proofs.Prelude.{replicate-append-replicate, Run, RunsSent, Sent, subst}
 use Rattle.kernel_spec.specs.views.Words.{or_zero}
-use Rattle.xv_machine.proofs.Joins.{events-join}
-use Rattle.xv_session.specs.Answers.{Sent, RunsSent}
-use Rattle.xv_session.specs.Recorded.{Recorded}
 use Rattle.xv_session.proofs.RunsCounted.{count-sent, runs-count}
-use Rattle.xv_live.specs.Plays.{Plays}
 use Rattle.xv_live.proofs.Joined.{shown-none, shown-one, shown-join, shown-runs}
 
 pub plays-none : (s : Recorded) (h : Option (List ℕ)) → Plays [] s s h h

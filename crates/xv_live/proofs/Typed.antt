@@ -1,20 +1,11 @@
 -- Keys that are typed, one behind another.
-use Rattle.std.proofs.Common.{◌≡◌, ◌∙◌, ℕ, zero, suc, List, [], ◌∷◌, ◌++◌, append_assoc, append-nil, Option, Some, refl, sym, ap, ap₂, subst, replicate}
-use Rattle.std.proofs.KnownBytes.{Consumes-nil, Consumes-trans}
-use Rattle.std.proofs.lemmas.Grind.{flat_map-append}
-use Rattle.std.specs.Io.KnownBytes.{Consumes}
-use Rattle.kernel_spec.specs.runs.Run as runs
-use Rattle.kernel_spec.specs.runs.Run.{Event}
-use Rattle.kernel_spec.specs.runs.Rounds.{events}
-use Rattle.xv_machine.proofs.Joins.{events-join}
-use Rattle.xv_session.specs.Recorded.{Recorded}
-use Rattle.xv_live.specs.Attends.{Types, TypesFirst, Attends}
+use Rattle.xv_live.proofs.Prelude.{[], ℕ, ◌++◌, ◌∙◌, ◌∷◌, ◌≡◌, ap, append-nil, append_assoc, ap₂, Attends, bytes_in, Consumes, Consumes-nil, Consumes-trans, Event, events, events-join}
+use Rattle.xv_live.proofs.Prelude.{flat_map-append, key_in, key_of, keys_of, List, Looks, Option, Plays, Recorded, refl, replicate, Some, subst, suc, sym, typed_by, typed_of, Types, TypesFirst, zero}
 use Rattle.std.specs.Option.{option_to_list}
 use Rattle.xv_live.specs.declared.host.Look.{Look}
 use Rattle.xv_live.specs.declared.host.Look.TheVariants.{Came}
-use Rattle.xv_live.specs.Keys.{Looks, bytes_in, key_in, keys_of, key_of, typed_by, typed_of}
-use Rattle.xv_live.specs.Plays.{Plays}
 use Rattle.xv_live.proofs.Joined.{shown-none, shown-join}
+use Rattle.kernel_spec.specs.runs.Run as runs
 
 keys-join : (xs ys : List Event) → keys_of (xs ++ ys) ≡ keys_of xs ++ keys_of ys
 keys-join xs ys = flat_map-append key_in xs ys

@@ -1,13 +1,11 @@
 -- A process that waits for ticks, as it is told.
-use Rattle.std.proofs.Common.{◌≡◌, ◌∙◌, ℕ, Bool, Option, Some, IsSome, option_map, refl, ap, subst}
+use Rattle.xv_live.proofs.Prelude.{ℕ, ◌∙◌, ◌≡◌, ap, Bool, IsSome, Option, option_map, refl, Some, subst, WaitsForTicks, World}
 use Rattle.std.specs.FinMap.{get}
 use Rattle.std.specs.FinSet.{contains}
 use Rattle.proc_table.specs.declared.process.Call.{Call}
-use Rattle.kernel_spec.specs.runs.Run.{World}
 use Rattle.kernel_spec.proofs.Common.{alive_part}
 use Rattle.kcall_core.specs.Observers.{process_at, told}
 use Rattle.kcall_core.specs.declared.kernel.observers.ProcessState.TheVariants as state
-use Rattle.xv_live.specs.Resting.{WaitsForTicks}
 
 pub sleep_told : (w : World) (p : ℕ) → (h : WaitsForTicks w p) → process_at w p ≡ Some (state.Live h.process.parent h.process.killed (Some h.call) (contains w.turns.sleepers p))
 sleep_told w p h =

@@ -1,4 +1,4 @@
-use Rattle.xv_live.specs.Keys.{waiting}
+use Rattle.xv_live.proofs.Prelude.{waiting}
 use Rattle.xv_live.proofs.Typed.{attends-none, attends-join}
 use Rattle.xv_live.proofs.attending.attend.Goals as goal
 

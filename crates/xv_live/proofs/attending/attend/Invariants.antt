@@ -1,5 +1,4 @@
-use Rattle.xv_live.specs.Attends.{Attends}
-use Rattle.xv_live.specs.Keys.{waiting}
+use Rattle.xv_live.proofs.Prelude.{Attends, waiting}
 use Rattle.xv_live.proofs.attending.attend.Given as goal
 
 abbrev pub invariant-turns : goal.invariant-turns

@@ -1,4 +1,4 @@
-use Rattle.std.proofs.lemmas.Result.{on_ok_weaker}
+use Rattle.xv_live.proofs.Prelude.{on_ok_weaker}
 use Rattle.xv_live.proofs.Typed.{first-then}
 use Rattle.xv_live.proofs.attending.go_on.Goals as goal
 

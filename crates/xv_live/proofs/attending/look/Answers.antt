@@ -1,6 +1,5 @@
-use Rattle.std.proofs.Common.{◌∙◌, subst}
+use Rattle.xv_live.proofs.Prelude.{◌∙◌, NothingHappens, subst}
 use Rattle.xv_machine.specs.Meaning.{Meaning}
-use Rattle.xv_live.specs.Resting.{NothingHappens}
 use Rattle.xv_live.proofs.Typed.{looks-came}
 use Rattle.xv_live.proofs.attending.look.Goals as goal
 

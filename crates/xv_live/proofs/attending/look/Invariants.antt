@@ -1,5 +1,4 @@
-use Rattle.std.proofs.Common.{◌≡◌}
-use Rattle.xv_live.specs.Keys.{Looks, waiting}
+use Rattle.xv_live.proofs.Prelude.{◌≡◌, Looks, waiting}
 use Rattle.xv_live.proofs.attending.look.Given as goal
 
 abbrev pub invariant-looks : goal.invariant-looks

@@ -1,6 +1,4 @@
-use Rattle.std.proofs.Common.{[], ◌∷◌}
-use Rattle.std.proofs.lemmas.Result.{on_ok_weaker}
-use Rattle.kernel_spec.specs.runs.Run.{Tick}
+use Rattle.xv_live.proofs.Prelude.{[], ◌∷◌, on_ok_weaker, Tick}
 use Rattle.xv_live.proofs.Typed.{types-none, types-plays}
 use Rattle.xv_live.proofs.attending.tick.Goals as goal
 

@@ -1,4 +1,4 @@
-use Rattle.std.proofs.Common.{◌∙◌, ap}
+use Rattle.xv_live.proofs.Prelude.{◌∙◌, ap}
 use Rattle.xv_live.proofs.Joined.{on-ok}
 use Rattle.xv_live.proofs.Typed.{attends-looks, attends-types, attends-join}
 use Rattle.xv_live.proofs.attending.turn.Goals as goal

@@ -1,4 +1,4 @@
-use Rattle.xv_live.specs.Keys.{waiting}
+use Rattle.xv_live.proofs.Prelude.{waiting}
 use Rattle.xv_live.proofs.Typed.{first-none, first-took}
 use Rattle.xv_live.proofs.attending.type_keys.Goals as goal
 

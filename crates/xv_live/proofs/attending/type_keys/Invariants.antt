@@ -1,5 +1,4 @@
-use Rattle.xv_live.specs.Attends.{TypesFirst}
-use Rattle.xv_live.specs.Keys.{waiting}
+use Rattle.xv_live.proofs.Prelude.{TypesFirst, waiting}
 use Rattle.xv_live.proofs.attending.type_keys.Given as goal
 
 abbrev pub invariant-keys : goal.invariant-keys

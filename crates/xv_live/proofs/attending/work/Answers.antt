@@ -1,4 +1,4 @@
-use Rattle.std.proofs.Common.{[]}
+use Rattle.xv_live.proofs.Prelude.{[]}
 use Rattle.xv_live.proofs.Typed.{types-none, types-runs, types-join}
 use Rattle.xv_live.proofs.attending.work.Goals as goal
 

@@ -1,5 +1,4 @@
-use Rattle.std.proofs.Common.{[]}
-use Rattle.xv_live.specs.Attends.{Types}
+use Rattle.xv_live.proofs.Prelude.{[], Types}
 use Rattle.xv_live.proofs.attending.work.Given as goal
 
 abbrev pub invariant-runs : goal.invariant-runs

@@ -1,5 +1,4 @@
-use Rattle.std.proofs.Common.{[], ◌∷◌}
-use Rattle.kernel_spec.specs.runs.Run.{Send}
+use Rattle.xv_live.proofs.Prelude.{[], ◌∷◌, Send}
 use Rattle.xv_live.proofs.Typed.{types-none, types-plays, types-join}
 use Rattle.xv_live.proofs.events.drain.Goals as goal
 

@@ -1,7 +1,4 @@
-use Rattle.std.proofs.Common.{ℕ, List, subst}
-use Rattle.std.proofs.lemmas.Result.{on_ok_weaker}
-use Rattle.std.specs.Io.KnownBytes.{Appends}
-use Rattle.xv_machine.specs.Events.{event_of, outcome_of}
+use Rattle.xv_live.proofs.Prelude.{ℕ, Appends, event_of, List, on_ok_weaker, outcome_of, subst}
 use Rattle.xv_live.proofs.Played.{plays-one}
 use Rattle.xv_live.proofs.events.send.Goals as goal
 

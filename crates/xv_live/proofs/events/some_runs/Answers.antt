@@ -1,5 +1,4 @@
-use Rattle.std.proofs.Common.{option_map}
-use Rattle.xv_machine.specs.Events.{outcome_of}
+use Rattle.xv_live.proofs.Prelude.{option_map, outcome_of}
 use Rattle.xv_live.proofs.Played.{plays-runs, runs-within}
 use Rattle.xv_live.proofs.events.some_runs.Goals as goal
 

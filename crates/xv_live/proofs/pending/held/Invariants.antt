@@ -1,4 +1,4 @@
-use Rattle.std.proofs.Common.{◌≤◌, length}
+use Rattle.xv_live.proofs.Prelude.{◌≤◌, length}
 use Rattle.console_core.specs.Lists.{list_of}
 use Rattle.xv_live.proofs.pending.held.Given as goal
 

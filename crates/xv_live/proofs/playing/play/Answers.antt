@@ -1,7 +1,5 @@
-use Rattle.std.proofs.Common.{arith, List, sym, subst, take, get_or}
-use Rattle.kernel_spec.specs.runs.Run.{Event}
+use Rattle.xv_live.proofs.Prelude.{arith, Event, events_of_line, events_of_lines, get_or, List, Plays, subst, sym, take}
 use Rattle.xv_record.specs.declared.line.Line.TheVariants.{Run}
-use Rattle.xv_live.specs.Plays.{Plays, events_of_line, events_of_lines}
 use Rattle.xv_live.proofs.Lines.{lines-all, lines-more}
 use Rattle.xv_live.proofs.Played.{plays-none, plays-join, plays-list}
 use Rattle.xv_live.proofs.playing.play.Goals as goal

@@ -1,5 +1,4 @@
-use Rattle.std.proofs.Common.{take}
-use Rattle.xv_live.specs.Plays.{Plays, events_of_lines}
+use Rattle.xv_live.proofs.Prelude.{events_of_lines, Plays, take}
 use Rattle.xv_live.proofs.playing.play.Given as goal
 
 abbrev pub invariant-loop-line : goal.invariant-loop-line

@@ -1,5 +1,4 @@
-use Rattle.std.proofs.Common.{◌≡◌, ◌-◌, arith}
-use Rattle.xv_machine.specs.Events.{event_of}
+use Rattle.xv_live.proofs.Prelude.{◌-◌, ◌≡◌, arith, event_of}
 use Rattle.xv_live.proofs.Played.{plays-begun, plays-more, plays-same}
 use Rattle.xv_live.proofs.playing.play_often.Goals as goal
 

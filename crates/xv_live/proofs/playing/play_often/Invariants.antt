@@ -1,6 +1,4 @@
-use Rattle.std.proofs.Common.{◌-◌, ◌≤◌, replicate}
-use Rattle.xv_machine.specs.Events.{event_of}
-use Rattle.xv_live.specs.Plays.{Plays}
+use Rattle.xv_live.proofs.Prelude.{◌-◌, ◌≤◌, event_of, Plays, replicate}
 use Rattle.xv_live.proofs.playing.play_often.Given as goal
 
 abbrev pub invariant-sends : goal.invariant-sends

@@ -1,5 +1,4 @@
-use Rattle.std.proofs.Common.{◌≡◌, ◌≤◌, ◌-◌, sym, arith}
-use Rattle.kernel_spec.specs.runs.Run.{Run}
+use Rattle.xv_live.proofs.Prelude.{◌-◌, ◌≡◌, ◌≤◌, arith, Run, sym}
 use Rattle.xv_live.proofs.Played.{plays-begun, plays-more, plays-same}
 use Rattle.xv_live.proofs.playing.play_runs.Goals as goal
 

@@ -1,6 +1,5 @@
-use Rattle.std.proofs.Common.{◌-◌, ◌≤◌, replicate}
+use Rattle.xv_live.proofs.Prelude.{◌-◌, ◌≤◌, Plays, replicate}
 use Rattle.kernel_spec.specs.runs.Run as runs
-use Rattle.xv_live.specs.Plays.{Plays}
 use Rattle.xv_live.proofs.playing.play_runs.Given as goal
 
 abbrev pub invariant-runs : goal.invariant-runs

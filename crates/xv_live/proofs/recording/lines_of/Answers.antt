@@ -1,6 +1,4 @@
-use Rattle.std.proofs.Common.{◌≡◌, ◌∙◌, ◌+◌, ◌≤◌, take, length, sym, ap, arith}
-use Rattle.xv_machine.specs.Events.{event_of}
-use Rattle.xv_live.specs.Plays.{events_of_lines}
+use Rattle.xv_live.proofs.Prelude.{◌+◌, ◌∙◌, ◌≡◌, ◌≤◌, ap, arith, event_of, events_of_lines, length, sym, take}
 use Rattle.xv_live.proofs.Lines.{equal-within, equal-taken}
 use Rattle.xv_live.proofs.recording.lines_of.Goals as goal
 

@@ -1,5 +1,4 @@
-use Rattle.std.proofs.Common.{◌≡◌, ◌-◌, ◌≤◌, take, length}
-use Rattle.xv_live.specs.Plays.{events_of_lines}
+use Rattle.xv_live.proofs.Prelude.{◌-◌, ◌≡◌, ◌≤◌, events_of_lines, length, take}
 use Rattle.xv_live.proofs.recording.lines_of.Given as goal
 
 abbrev pub invariant-spans : goal.invariant-spans

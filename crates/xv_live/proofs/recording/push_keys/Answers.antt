@@ -1,5 +1,4 @@
-use Rattle.std.proofs.Common.{◌∙◌, ap}
-use Rattle.xv_live.specs.Plays.{events_of_lines}
+use Rattle.xv_live.proofs.Prelude.{◌∙◌, ap, events_of_lines}
 use Rattle.xv_live.proofs.Lines.{keys-push}
 use Rattle.xv_live.proofs.recording.push_keys.Goals as goal
 

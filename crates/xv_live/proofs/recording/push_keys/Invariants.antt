@@ -1,6 +1,4 @@
-use Rattle.std.proofs.Common.{◌≡◌, ◌++◌, replicate}
-use Rattle.kernel_spec.specs.runs.Run.{Key}
-use Rattle.xv_live.specs.Plays.{events_of_lines}
+use Rattle.xv_live.proofs.Prelude.{◌++◌, ◌≡◌, events_of_lines, Key, replicate}
 use Rattle.xv_live.proofs.recording.push_keys.Given as goal
 
 abbrev pub invariant-keys : goal.invariant-keys

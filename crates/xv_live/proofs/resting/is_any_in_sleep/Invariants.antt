@@ -1,6 +1,4 @@
-use Rattle.std.proofs.Common.{ℕ, ◌<◌}
-use Rattle.kernel_spec.specs.waking.Turns.{HasSlot}
-use Rattle.xv_live.specs.Resting.{WaitsForTicks}
+use Rattle.xv_live.proofs.Prelude.{ℕ, ◌<◌, HasSlot, WaitsForTicks}
 use Rattle.xv_live.proofs.resting.is_any_in_sleep.Given as goal
 
 -- none that has one of the slots so far waits for ticks

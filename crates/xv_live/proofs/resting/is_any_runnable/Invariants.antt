@@ -1,6 +1,4 @@
-use Rattle.std.proofs.Common.{ℕ, ◌<◌}
-use Rattle.kernel_spec.specs.waking.Turns.{HasSlot}
-use Rattle.kernel_spec.specs.waking.Wakes.{IsRunnable}
+use Rattle.xv_live.proofs.Prelude.{ℕ, ◌<◌, HasSlot, IsRunnable}
 use Rattle.xv_live.proofs.resting.is_any_runnable.Given as goal
 
 -- none that has one of the slots so far may run
