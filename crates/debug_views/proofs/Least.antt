@@ -1,8 +1,5 @@
 -- The least number among those that the first of some places have.
-use Rattle.std.proofs.Common.{◌≡◌, ℕ, ◌+◌, ◌<◌, ◌≤◌, ◌⊎◌, inl, inr, min, Option, None, Some, refl, sym, ◌∙◌, subst, arith}
-use Rattle.std.proofs.lemmas.Bool.{cases_lt}
-use Rattle.std.proofs.lemmas.Option.{same_Some, none-some}
-use Rattle.debug_views.specs.Focus.{lesser}
+use Rattle.debug_views.proofs.Prelude.{ℕ, ◌+◌, ◌<◌, ◌∙◌, ◌≡◌, ◌≤◌, ◌⊎◌, arith, cases_lt, inl, inr, lesser, min, None, none-some, Option, refl, same_Some, Some, subst, sym}
 
 -- an option that has a number, not above another one
 pub record IsUpTo (most : ℕ) (o : Option ℕ) : Type 0 where

@@ -1,3 +1,4 @@
+mod Prelude
 pub mod Least
 pub mod Lists
 pub mod Pids

@@ -1,8 +1,6 @@
 -- The first elements of a list, one by one.
-use Rattle.std.proofs.Common.{◌≡◌, ℕ, ◌+◌, ◌≤◌, inl, inr, List, [], ◌∷◌, ◌++◌, length, take, slice_get, get_or, None, Some, sym, ◌∙◌, ap, arith}
-use Rattle.std.proofs.lemmas.Bool.{cases_lt}
-use Rattle.std.proofs.lemmas.List.{take_all, take_more}
-use Rattle.std.proofs.lemmas.Option.{slice_get_within, slice_get-get_or, get_or_from_slice_get, none-some}
+use Rattle.debug_views.proofs.Prelude.{[], ℕ, ◌++◌, ◌+◌, ◌∙◌, ◌∷◌, ◌≡◌, ◌≤◌, ap, arith, cases_lt, get_or, get_or_from_slice_get, inl, inr, length, List, None, none-some, slice_get, slice_get-get_or}
+use Rattle.debug_views.proofs.Prelude.{slice_get_within, Some, sym, take, take_all, take_more}
 
 -- behind the last one there is no more
 pub take-past : (xs : List ℕ) (place n : ℕ) → slice_get xs place ≡ None → place ≤ n → take place xs ≡ take n xs

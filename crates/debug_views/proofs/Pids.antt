@@ -1,12 +1,8 @@
 -- The least pid of a process.
-use Rattle.std.proofs.Common.{◌≡◌, ℕ, ◌<◌, ◌≤◌, Option, None, Some, IsSome, IfSome, IfNone, ◌+◌, subst, ap, arith, refl}
+use Rattle.debug_views.proofs.Prelude.{ℕ, ◌+◌, ◌<◌, ◌≡◌, ◌≤◌, ap, arith, IfNone, IfSome, IsLeastFrom, IsPid, IsSome, lesser, None, NPROC, Option, refl, same_Some, Some, subst, World}
 use Rattle.std.specs.FinMap.{get}
-use Rattle.std.proofs.lemmas.Option.{same_Some}
-use Rattle.xk_base.specs.declared.limits.TheConstants.{NPROC}
-use Rattle.kernel_spec.specs.runs.Run.{World}
 use Rattle.kernel_spec.specs.views.WellFormed.{HasSlots}
 use Rattle.kernel_spec.specs.waking.Turns.{HasSlot}
-use Rattle.debug_views.specs.Focus.{IsPid, IsLeastFrom, lesser}
 use Rattle.debug_views.proofs.Least.{IsLeast, least-more}
 
 -- a slot has a process of this pid, which isn't below a number

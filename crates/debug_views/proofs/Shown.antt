@@ -1,17 +1,7 @@
 -- What is written of a machine, line by line.
-use Rattle.std.proofs.Common.{◌≡◌, ℕ, zero, suc, ◌+◌, ◌-◌, ◌^◌, ◌<◌, ◌≤◌, ◌⊎◌, inl, inr, min, List, [], ◌++◌, length, take, drop, Option, None, Some, Result, OnOk, refl, sym, ◌∙◌, ap, subst}
-use Rattle.std.proofs.Common.{arith, append-nil, eq-eqb, ne_eqb, lt-ltb, le-ltb, length-take, length-drop}
-use Rattle.std.proofs.lemmas.List.{length-replicate}
-use Rattle.std.proofs.lemmas.Result.{on_ok_weaker}
-use Rattle.kernel_spec.specs.runs.Run.{Event}
-use Rattle.kernel_spec.specs.views.State.{State}
-use Rattle.kcall_core.specs.declared.kernel.observers.frame_uses.FrameUse.{FrameUse}
-use Rattle.xv_session.specs.Recorded.{Recorded}
-use Rattle.xv_session.specs.Answers.{AreEqualFrom}
-use Rattle.debug_views.specs.EventText.{AreEvents, equal_text, more_events}
-use Rattle.debug_views.specs.Focus.{IsLeastFrom}
-use Rattle.debug_views.specs.FrameText.{AreShares, more_text, share_text}
-use Rattle.debug_views.specs.MemoryText.{memory_line, memory_lines}
+use Rattle.debug_views.proofs.Prelude.{[], ℕ, ◌++◌, ◌+◌, ◌-◌, ◌<◌, ◌^◌, ◌∙◌, ◌≡◌, ◌≤◌, ◌⊎◌, ap, append-nil, AreEqualFrom, AreEvents, AreShares, arith, drop, eq-eqb, equal_text, Event, FrameUse, inl}
+use Rattle.debug_views.proofs.Prelude.{inr, IsLeastFrom, le-ltb, length, length-drop, length-replicate, length-take, List, lt-ltb, memory_line, memory_lines, min, more_events, more_text, ne_eqb, None}
+use Rattle.debug_views.proofs.Prelude.{on_ok_weaker, OnOk, Option, Recorded, refl, Result, share_text, Some, State, subst, suc, sym, take, zero}
 use Rattle.debug_views.specs.Written.{Writes}
 use Rattle.debug_views.proofs.Texts.{two_behind}
 

@@ -1,9 +1,8 @@
 -- Texts that are written one behind another.
-use Rattle.std.proofs.Common.{◌≡◌, ℕ, ◌+◌, List, [], ◌∷◌, ◌++◌, map, flat_map, refl, sym, ◌∙◌, ap, append_assoc, append-nil, map-id, arith, if◌then◌else◌, Result, Ok, Err, OnOk}
+use Rattle.debug_views.proofs.Prelude.{[], ℕ, ◌++◌, ◌+◌, ◌∙◌, ◌∷◌, ◌≡◌, ap, append-nil, append_assoc, arith, Err, flat_map, if◌then◌else◌, List, map, map-id, Ok, on_ok_weaker, OnOk, range_with_len}
+use Rattle.debug_views.proofs.Prelude.{refl, Result, sym}
 use Rattle.std.proofs.lemmas.List.Concat.{flat_map-append}
-use Rattle.std.proofs.lemmas.Result.{on_ok_weaker}
 use Rattle.std.proofs.lemmas.List.FromFn.{map-range_with_len_more}
-use Rattle.std.specs.List.{range_with_len}
 use Rattle.std.specs.Result.{is_ok}
 
 -- a text behind an answer, and another behind it

@@ -1,17 +1,8 @@
 -- Runs of pages, one behind another, and the tree that they are shown as.
-use Rattle.std.proofs.Common.{◌≡◌, ℕ, ◌+◌, ◌-◌, ◌<◌, ◌≤◌, ◌⊎◌, ◌&&◌, ◌||◌, Bool, true, false, refl}
-use Rattle.std.proofs.Common.{All, List, [], ◌∷◌, ◌++◌, length, take, drop, get_or, sym, ◌∙◌, ap, subst, arith, append_assoc, append-nil}
-use Rattle.std.specs.Prelude.{not}
-use Rattle.std.specs.List.{list_all, list_any}
-use Rattle.std.proofs.lemmas.List.{take_more, drop_more}
+use Rattle.debug_views.proofs.Prelude.{[], ℕ, ◌&&◌, ◌++◌, ◌+◌, ◌-◌, ◌<◌, ◌||◌, ◌∙◌, ◌∷◌, ◌≡◌, ◌≤◌, ◌⊎◌, Adds, All, ap, append-nil, append_assoc, AreRunsIn, arith, Bool, branches_among, drop}
+use Rattle.debug_views.proofs.Prelude.{drop_more, false, Frames, FrameUse, get_or, IsRunFrom, length, List, list_all, list_any, not, PageRun, refl, run_text, runs_text, State, subst, sym, take}
+use Rattle.debug_views.proofs.Prelude.{take_more, true, VPN_END}
 use Rattle.std.proofs.lemmas.List.Elements.{All-cons, All-nil}
-use Rattle.xk_base.specs.declared.limits.TheConstants.{VPN_END}
-use Rattle.kcall_core.specs.declared.kernel.observers.frame_uses.FrameUse.{FrameUse}
-use Rattle.kernel_spec.specs.views.State.{State}
-use Rattle.xv_machine.specs.Meaning.{Frames}
-use Rattle.debug_views.specs.PageRuns.{Adds, AreRunsIn, IsRunFrom}
-use Rattle.debug_views.specs.PagesText.{branches_among, run_text, runs_text}
-use Rattle.debug_views.specs.declared.page_runs.PageRun.{PageRun}
 
 -- none is other if all are so
 pub none-other : {X : Type 0} (p : X → Bool) (xs : List X) → not (list_any (λ x. not (p x)) xs) ≡ list_all p xs

@@ -1,17 +1,10 @@
 -- The uses of frames, as a list that is made one by one.
-use Rattle.std.proofs.Common.{◌≡◌, ℕ, ◌+◌, ◌<◌, ◌≤◌, ◌⊎◌, inl, inr, min, ◌&&◌, Bool, true, false, nat_eq, nat_le, if◌then◌else◌}
-use Rattle.std.proofs.Common.{List, [], ◌∷◌, ◌++◌, length, length-append, slice_get, Option, None, Some, refl, sym, ◌∙◌, subst, ap, arith}
-use Rattle.std.proofs.lemmas.Bool.{eqb-true, eq-eqb, leb-true, le-leb, and_parts, cases_lt}
+use Rattle.debug_views.proofs.Prelude.{[], ℕ, ◌&&◌, ◌++◌, ◌+◌, ◌<◌, ◌∙◌, ◌∷◌, ◌≡◌, ◌≤◌, ◌⊎◌, and_parts, ap, AreUses, arith, Bool, cases_lt, eqb-true, false, FRAMES_MAX, FrameUse, Free, if◌then◌else◌}
+use Rattle.debug_views.proofs.Prelude.{inl, inr, IsLeastLower, IsUsed, le-leb, leb-true, length, length-append, lesser, List, Lower, lower_in, Meaning, min, nat_eq, nat_le, None, none-some, Option}
+use Rattle.debug_views.proofs.Prelude.{Page, Pipe, refl, Root, same_Some, slice_get, slice_get_within, Some, subst, sym, Trapframe, true, Upper}
+use Rattle.std.proofs.lemmas.Bool.{eq-eqb}
 use Rattle.std.proofs.lemmas.Bool.Decides.{eqb_tells}
-use Rattle.std.proofs.lemmas.Option.{slice_get_within, same_Some, none-some}
 use Rattle.circular_buffer.proofs.Places.{slice_get-last, slice_get-push}
-use Rattle.xk_base.specs.declared.limits.TheConstants.{FRAMES_MAX}
-use Rattle.kcall_core.specs.declared.kernel.observers.frame_uses.FrameUse.{FrameUse}
-use Rattle.kcall_core.specs.declared.kernel.observers.frame_uses.FrameUse.TheVariants.{Free, Trapframe, Root, Upper, Lower, Page, Pipe}
-use Rattle.xv_machine.specs.Meaning.{Meaning}
-use Rattle.xv_machine.specs.FrameUses.{IsUsed}
-use Rattle.debug_views.specs.FrameLists.{AreUses, IsLeastLower, lower_in}
-use Rattle.debug_views.specs.Focus.{lesser}
 use Rattle.debug_views.proofs.Least.{IsLeast, least-more}
 
 -- The uses of the first frames, so many, of a machine that has no fewer

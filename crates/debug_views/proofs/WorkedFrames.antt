@@ -1,14 +1,7 @@
 -- Worked cases of who owns the frames of RAM, as it is shown.
-use Rattle.std.proofs.Common.{◌≡◌, ℕ, true, false, List, [], ◌∷◌, ◌++◌, codes, decimal, Option, None, Some, refl, ap}
-use Rattle.std.specs.Fmt.{digits, padded, padded_integral, char_count, take_chars}
-use Rattle.std.specs.List.{concat}
-use Rattle.debug_words.specs.Texts.{at_left, at_right, grouped, grouped_by, many, name_shown, named, number_at_right}
-use Rattle.kcall_core.specs.declared.kernel.observers.frame_uses.FrameUse.{FrameUse}
-use Rattle.kcall_core.specs.declared.kernel.observers.frame_uses.FrameUse.TheVariants.{Free, Trapframe, Root, Upper, Lower, Page, Pipe}
-use Rattle.xv_session.specs.Recorded.{Recorded}
-use Rattle.debug_views.specs.Focus.{name_in}
-use Rattle.debug_views.specs.FrameText.{more_text, or_stroke, owner_text, rights_shown, share_text, shares_head, use_text}
-use Rattle.debug_views.specs.FrameLists.{is_frame_of}
+use Rattle.debug_views.proofs.Prelude.{[], ℕ, ◌++◌, ◌∷◌, ◌≡◌, ap, at_left, at_right, char_count, codes, concat, decimal, digits, false, FrameUse, Free, grouped, grouped_by, is_frame_of, List, Lower}
+use Rattle.debug_views.proofs.Prelude.{many, more_text, name_in, name_shown, named, None, number_at_right, Option, or_stroke, owner_text, padded, padded_integral, Page, Pipe, Recorded, refl}
+use Rattle.debug_views.proofs.Prelude.{rights_shown, Root, share_text, shares_head, Some, take_chars, Trapframe, true, Upper, use_text}
 
 each_right : rights_shown (Some (record { read = true; write = false; execute = true; user = false }))
     ++ rights_shown (Some (record { read = false; write = true; execute = false; user = true })) ≡ codes "r-x--w-u"

@@ -1,17 +1,8 @@
 -- Worked cases of the tree of tables and pages, as it is shown.
-use Rattle.std.proofs.Common.{◌≡◌, true, false, List, [], ◌∷◌, ◌++◌, codes, refl, Some, inl, inr, arith}
-use Rattle.std.specs.Fmt.{digits, padded_integral, char_count}
-use Rattle.debug_words.specs.Texts.{grouped_by}
-use Rattle.kcall_core.specs.declared.kernel.observers.frame_uses.FrameUse.{FrameUse}
-use Rattle.kcall_core.specs.declared.kernel.observers.frame_uses.FrameUse.TheVariants.{Free, Root, Upper, Lower}
-use Rattle.kernel_spec.specs.views.State.{State}
-use Rattle.xv_machine.specs.FrameUses.{page_frame_at}
-use Rattle.xv_machine.specs.Meaning.{Frames}
-use Rattle.debug_views.specs.PageRuns.{AreRuns, AreRunsIn, behind_runs}
-use Rattle.debug_views.specs.PagesText.{branch, branches_among, below, go_on_text, leaf_text, lower_head, lower_text, pages_end, pages_head, root_text, run_text, runs_text, upper_head, upper_text}
-use Rattle.debug_views.specs.PagesText.{frame_text, frames_end, frames_of_text, frames_word}
+use Rattle.debug_views.proofs.Prelude.{[], ◌++◌, ◌∷◌, ◌≡◌, AreRuns, AreRunsIn, arith, behind_runs, below, branch, branches_among, char_count, codes, digits, false, frame_text, Frames, frames_end}
+use Rattle.debug_views.proofs.Prelude.{frames_of_text, frames_word, FrameUse, Free, go_on_text, grouped_by, inl, inr, leaf_text, List, Lower, lower_head, lower_text, padded_integral, page_frame_at}
+use Rattle.debug_views.proofs.Prelude.{PageRun, pages_end, pages_head, refl, Root, root_text, run_text, runs_text, Some, State, true, Upper, upper_head, upper_text}
 use Rattle.debug_views.specs.declared.page_runs.Kind.TheVariants.{There, Absent, NoTable}
-use Rattle.debug_views.specs.declared.page_runs.PageRun.{PageRun}
 
 -- pages 0 and 1, the rest of their lower table, and 1,000 pages without one
 abbrev two : PageRun

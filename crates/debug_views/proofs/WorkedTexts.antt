@@ -1,18 +1,11 @@
 -- Worked cases of registers, memory, descriptors, the console and events as they are shown.
-use Rattle.std.proofs.Common.{◌≡◌, ◌-◌, ◌^◌, true, false, List, [], ◌∷◌, ◌++◌, codes, None, Some, refl}
-use Rattle.std.specs.Fmt.{digits, padded, padded_integral, char_count, take_chars}
-use Rattle.debug_words.specs.Texts.{grouped_by}
+use Rattle.debug_views.proofs.Prelude.{[], ◌++◌, ◌-◌, ◌^◌, ◌∷◌, ◌≡◌, AreEvents, byte_in_line, char_count, character, codes, console_text, descriptor_told, digits, digits_shown, equal_text, event_text}
+use Rattle.debug_views.proofs.Prelude.{events_head, false, file_name, first_place, first_registers, gap_at, grouped_by, Key, List, list_text, memory_line, memory_lines, None, padded, padded_integral}
+use Rattle.debug_views.proofs.Prelude.{ProgramFile, refl, registers_told, rights_text, Run, Send, sharing_text, Some, State, take_chars, target_text, Tick, true}
 use Rattle.file_table.specs.declared.open_file.Target.TheVariants.{Console, Program, Pipe}
 use Rattle.file_table.specs.declared.open_file.End.TheVariants.{Reading, Writing}
-use Rattle.kernel_spec.specs.runs.Run.{Run, Tick, Key, Send}
-use Rattle.kernel_spec.specs.views.State.{State, ProgramFile}
 use Rattle.uasm_text.specs.Text.{register}
 use Rattle.rv64i_core.specs.Registers.{fresh, put}
-use Rattle.debug_views.specs.ConsoleText.{console_text, list_text}
-use Rattle.debug_views.specs.DescriptorText.{descriptor_told, file_name, rights_text, sharing_text, target_text}
-use Rattle.debug_views.specs.EventText.{AreEvents, equal_text, event_text, events_head, first_place}
-use Rattle.debug_views.specs.MemoryText.{byte_in_line, character, digits_shown, gap_at, memory_line, memory_lines}
-use Rattle.debug_views.specs.RegisterText.{first_registers, registers_told}
 
 -- ---- registers
 

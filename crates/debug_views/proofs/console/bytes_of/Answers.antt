@@ -1,6 +1,4 @@
-use Rattle.std.proofs.Common.{◌≤◌, [], ◌∷◌, ◌++◌, ◌∙◌, sym, ap, arith}
-use Rattle.console_core.specs.Lists.{list_of}
-use Rattle.debug_views.specs.declared.console.TheConstants.{SHOWN_MOST}
+use Rattle.debug_views.proofs.Prelude.{[], ◌++◌, ◌∙◌, ◌∷◌, ◌≤◌, ap, arith, list_of, SHOWN_MOST, sym}
 use Rattle.debug_views.proofs.Lists.{take-past, take-next}
 use Rattle.debug_views.proofs.console.bytes_of.Goals as goal
 

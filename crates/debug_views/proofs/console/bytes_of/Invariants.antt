@@ -1,5 +1,4 @@
-use Rattle.std.proofs.Common.{◌≡◌, take}
-use Rattle.console_core.specs.Lists.{list_of}
+use Rattle.debug_views.proofs.Prelude.{◌≡◌, list_of, take}
 use Rattle.debug_views.proofs.console.bytes_of.Given as goal
 
 abbrev pub invariant-loop-place : goal.invariant-loop-place

@@ -1,7 +1,4 @@
-use Rattle.std.proofs.Common.{◌≡◌, ◌++◌, codes, take, string_bytes, OnOk, subst}
-use Rattle.xv_machine.specs.Meaning.{Meaning}
-use Rattle.debug_views.specs.ConsoleText.{console_text, list_text, room_text}
-use Rattle.debug_views.specs.declared.console.TheConstants.{SHOWN_MOST}
+use Rattle.debug_views.proofs.Prelude.{◌++◌, ◌≡◌, codes, console_text, list_text, Meaning, OnOk, room_text, SHOWN_MOST, string_bytes, subst, take}
 use Rattle.debug_views.proofs.Texts.{four_shown}
 use Rattle.debug_views.proofs.console.show_console.Goals as goal
 

@@ -1,6 +1,5 @@
-use Rattle.std.proofs.Common.{◌≡◌, ◌∙◌, true, Some, sym, ap}
+use Rattle.debug_views.proofs.Prelude.{◌∙◌, ◌≡◌, ap, names_file, Some, sym, true}
 use Rattle.xk_base.proofs.Least.{least_below-found, least_below-next, least_below-zero}
-use Rattle.debug_views.specs.Sharing.{names_file}
 use Rattle.debug_views.proofs.descriptors.first_on.Goals as goal
 
 pub loop-number-init : goal.loop-number-init

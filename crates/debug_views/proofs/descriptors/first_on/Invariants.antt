@@ -1,6 +1,5 @@
-use Rattle.std.proofs.Common.{◌≡◌, None}
+use Rattle.debug_views.proofs.Prelude.{◌≡◌, names_file, None}
 use Rattle.xk_base.specs.Words.{least_below}
-use Rattle.debug_views.specs.Sharing.{names_file}
 use Rattle.debug_views.proofs.descriptors.first_on.Given as goal
 
 abbrev pub invariant-loop-number : goal.invariant-loop-number

@@ -1,6 +1,4 @@
-use Rattle.std.proofs.Common.{arith}
-use Rattle.kcall_core.specs.Observers.{descriptor_of}
-use Rattle.debug_views.specs.DescriptorText.{descriptor_told}
+use Rattle.debug_views.proofs.Prelude.{arith, descriptor_of, descriptor_told}
 use Rattle.debug_views.proofs.Texts.{one_more}
 use Rattle.debug_views.proofs.descriptors.show_all.Goals as goal
 

@@ -1,7 +1,4 @@
-use Rattle.std.proofs.Common.{◌≡◌, ◌++◌, string_bytes, flat_map}
-use Rattle.std.specs.List.{range_with_len}
-use Rattle.kcall_core.specs.Observers.{descriptor_of}
-use Rattle.debug_views.specs.DescriptorText.{descriptor_told}
+use Rattle.debug_views.proofs.Prelude.{◌++◌, ◌≡◌, descriptor_of, descriptor_told, flat_map, range_with_len, string_bytes}
 use Rattle.debug_views.proofs.descriptors.show_all.Given as goal
 
 abbrev pub invariant-loop-number : goal.invariant-loop-number

@@ -1,9 +1,4 @@
-use Rattle.std.proofs.Common.{◌≡◌, ◌∙◌, ◌++◌, Bool, true, false, if◌then◌else◌, string_bytes, OnOk, sym, ap, subst}
-use Rattle.std.specs.Prelude.{is_some}
-use Rattle.kernel_spec.specs.views.State.{live}
-use Rattle.xv_machine.specs.Meaning.{Meaning}
-use Rattle.debug_views.specs.Focus.{no_process}
-use Rattle.debug_views.specs.DescriptorText.{descriptors_text}
+use Rattle.debug_views.proofs.Prelude.{◌++◌, ◌∙◌, ◌≡◌, ap, Bool, descriptors_text, false, if◌then◌else◌, is_some, live, Meaning, no_process, OnOk, string_bytes, subst, sym, true}
 use Rattle.debug_views.proofs.descriptors.show_descriptors.Goals as goal
 
 pub returns-then-lives : goal.returns-then-lives

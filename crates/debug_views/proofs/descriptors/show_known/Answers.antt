@@ -1,8 +1,4 @@
-use Rattle.std.proofs.Common.{◌≡◌, ◌∙◌, ◌++◌, string_bytes, OnOk, subst}
-use Rattle.xv_machine.specs.Meaning.{Meaning}
-use Rattle.xk_base.specs.declared.limits.TheConstants.{NOFILE}
-use Rattle.debug_views.specs.DescriptorText.{descriptors_head, first_descriptors}
-use Rattle.debug_views.specs.Focus.{name_in}
+use Rattle.debug_views.proofs.Prelude.{◌++◌, ◌∙◌, ◌≡◌, descriptors_head, first_descriptors, Meaning, name_in, NOFILE, OnOk, string_bytes, subst}
 use Rattle.debug_views.proofs.Texts.{shown_behind}
 use Rattle.debug_views.proofs.descriptors.show_known.Goals as goal
 

@@ -1,5 +1,4 @@
-use Rattle.std.proofs.Common.{◌≡◌, ℕ, ◌+◌, Option, sym, subst, arith}
-use Rattle.xk_base.specs.declared.limits.TheConstants.{NPROC}
+use Rattle.debug_views.proofs.Prelude.{ℕ, ◌+◌, ◌≡◌, arith, NPROC, Option, subst, sym}
 use Rattle.debug_views.proofs.Least.{IsLeast}
 use Rattle.debug_views.proofs.Pids.{IsIn, pid-more, least-of-all}
 use Rattle.debug_views.proofs.focus.least_from.Goals as goal

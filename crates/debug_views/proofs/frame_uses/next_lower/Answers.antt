@@ -1,7 +1,4 @@
-use Rattle.std.proofs.Common.{◌≡◌, ℕ, ◌+◌, ◌∙◌, length, Option, Some, sym, ap, subst, arith}
-use Rattle.std.proofs.lemmas.Option.{slice_get-get_or}
-use Rattle.debug_views.specs.Focus.{lesser}
-use Rattle.debug_views.specs.FrameLists.{lower_in}
+use Rattle.debug_views.proofs.Prelude.{ℕ, ◌+◌, ◌∙◌, ◌≡◌, ap, arith, length, lesser, lower_in, Option, slice_get-get_or, Some, subst, sym}
 use Rattle.debug_views.proofs.Least.{IsLeast}
 use Rattle.debug_views.proofs.Uses.{IsLowerAt, lower-more, lower-least}
 use Rattle.debug_views.proofs.frame_uses.next_lower.Goals as goal

@@ -1,6 +1,4 @@
-use Rattle.std.proofs.Common.{ℕ, ◌+◌, ◌<◌, ◌≤◌, inl, inr, List, sym, subst, arith}
-use Rattle.kcall_core.specs.declared.kernel.observers.frame_uses.FrameUse.{FrameUse}
-use Rattle.xv_machine.specs.FrameUses.{IsUsed}
+use Rattle.debug_views.proofs.Prelude.{ℕ, ◌+◌, ◌<◌, ◌≤◌, arith, FrameUse, inl, inr, IsUsed, List, subst, sym}
 use Rattle.debug_views.proofs.Uses.{UsesSoFar, uses-all, uses-more, within-ram}
 use Rattle.debug_views.proofs.frame_uses.uses_of.Goals as goal
 

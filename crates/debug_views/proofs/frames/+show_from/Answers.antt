@@ -1,7 +1,4 @@
-use Rattle.std.proofs.Common.{◌+◌, ◌-◌, ◌<◌, None, Some, subst, arith}
-use Rattle.xv_machine.specs.Meaning.{Meaning}
-use Rattle.debug_views.specs.Focus.{IsLeastFrom}
-use Rattle.debug_views.specs.FrameText.{AreShares, more_text, share_text}
+use Rattle.debug_views.proofs.Prelude.{◌+◌, ◌-◌, ◌<◌, AreShares, arith, IsLeastFrom, Meaning, more_text, None, share_text, Some, subst}
 use Rattle.debug_views.proofs.Shown.{no-shares, no-shares-left, shares-next, shows-behind, shows-text, writes-nothing}
 use Rattle.debug_views.proofs.frames.+show_from.Goals as goal
 

@@ -1,7 +1,4 @@
-use Rattle.std.proofs.Common.{◌≡◌, ◌≤◌, ◌∙◌, inl, inr, ◌++◌, string_bytes, OnOk, refl, subst}
-use Rattle.xv_machine.specs.FrameUses.{IsUsed}
-use Rattle.xv_machine.specs.Meaning.{Meaning}
-use Rattle.debug_views.specs.FrameText.{IsFrameText, frame_head, no_frame, use_text}
+use Rattle.debug_views.proofs.Prelude.{◌++◌, ◌∙◌, ◌≡◌, ◌≤◌, frame_head, inl, inr, IsFrameText, IsUsed, Meaning, no_frame, OnOk, refl, string_bytes, subst, use_text}
 use Rattle.debug_views.proofs.Shown.{shows-text}
 use Rattle.debug_views.proofs.Texts.{shown_behind}
 use Rattle.debug_views.proofs.frames.show_frame.Goals as goal

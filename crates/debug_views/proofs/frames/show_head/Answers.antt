@@ -1,8 +1,4 @@
-use Rattle.std.proofs.Common.{◌≡◌, ◌∙◌, [], ◌∷◌, ◌++◌, ap, codes, length, string_bytes}
-use Rattle.std.proofs.lemmas.Result.{on_ok_weaker}
-use Rattle.std.specs.List.{concat}
-use Rattle.xv_machine.specs.Meaning.{Meaning}
-use Rattle.debug_words.specs.Texts.{grouped, many}
+use Rattle.debug_views.proofs.Prelude.{[], ◌++◌, ◌∙◌, ◌∷◌, ◌≡◌, ap, codes, concat, grouped, length, many, Meaning, on_ok_weaker, string_bytes}
 use Rattle.debug_views.proofs.frames.show_head.Goals as goal
 
 pub returns : goal.returns

@@ -1,5 +1,4 @@
-use Rattle.std.proofs.Common.{◌≡◌, ℕ, ◌++◌, Option, Some, string_bytes, OnOk, sym, subst}
-use Rattle.debug_views.specs.FrameText.{more_text}
+use Rattle.debug_views.proofs.Prelude.{ℕ, ◌++◌, ◌≡◌, more_text, OnOk, Option, Some, string_bytes, subst, sym}
 use Rattle.debug_views.proofs.frames.show_more.Goals as goal
 
 pub returns : goal.returns

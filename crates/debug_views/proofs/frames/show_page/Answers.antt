@@ -1,5 +1,4 @@
-use Rattle.std.proofs.Common.{string_bytes}
-use Rattle.debug_views.specs.FrameText.{owner_text, page_head}
+use Rattle.debug_views.proofs.Prelude.{owner_text, page_head, string_bytes}
 use Rattle.debug_views.proofs.Texts.{shown_behind}
 use Rattle.debug_views.proofs.frames.show_page.Goals as goal
 

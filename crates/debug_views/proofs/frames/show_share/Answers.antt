@@ -1,9 +1,4 @@
-use Rattle.std.proofs.Common.{◌∙◌, [], ◌∷◌, ◌++◌, codes, string_bytes}
-use Rattle.std.proofs.lemmas.Result.{on_ok_weaker}
-use Rattle.std.specs.Fmt.{styled_decimal, styled_text}
-use Rattle.std.specs.List.{concat}
-use Rattle.debug_words.specs.Texts.{grouped, name_shown}
-use Rattle.debug_views.specs.FrameText.{share_text}
+use Rattle.debug_views.proofs.Prelude.{[], ◌++◌, ◌∙◌, ◌∷◌, codes, concat, grouped, name_shown, on_ok_weaker, share_text, string_bytes, styled_decimal, styled_text}
 use Rattle.debug_views.proofs.frames.show_share.Goals as goal
 
 pub returns : goal.returns

@@ -1,7 +1,4 @@
-use Rattle.std.proofs.Common.{refl, subst, sym}
-use Rattle.xv_machine.specs.Meaning.{Meaning}
-use Rattle.debug_views.specs.FrameLists.{AreUses}
-use Rattle.debug_views.specs.FrameText.{AreShares, IsSharesText, shares_head}
+use Rattle.debug_views.proofs.Prelude.{AreShares, AreUses, IsSharesText, Meaning, refl, shares_head, subst, sym}
 use Rattle.debug_views.proofs.Shown.{shows-behind}
 use Rattle.debug_views.proofs.frames.show_shares.Goals as goal
 

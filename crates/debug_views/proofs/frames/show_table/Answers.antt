@@ -1,5 +1,4 @@
-use Rattle.std.proofs.Common.{string_bytes}
-use Rattle.debug_views.specs.FrameText.{owner_text, table_head}
+use Rattle.debug_views.proofs.Prelude.{owner_text, string_bytes, table_head}
 use Rattle.debug_views.proofs.Texts.{shown_behind}
 use Rattle.debug_views.proofs.frames.show_table.Goals as goal
 

@@ -1,6 +1,4 @@
-use Rattle.std.proofs.Common.{◌≡◌, ◌++◌, codes, string_bytes, OnOk, subst, sym}
-use Rattle.kcall_core.specs.declared.kernel.observers.frame_uses.FrameUse.{FrameUse}
-use Rattle.debug_views.specs.FrameText.{owner_text, use_text}
+use Rattle.debug_views.proofs.Prelude.{◌++◌, ◌≡◌, codes, FrameUse, OnOk, owner_text, string_bytes, subst, sym, use_text}
 use Rattle.debug_views.proofs.Texts.{shown_behind}
 use Rattle.debug_views.proofs.frames.show_use.Goals as goal
 

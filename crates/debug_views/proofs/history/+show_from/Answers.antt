@@ -1,7 +1,5 @@
-use Rattle.std.proofs.Common.{◌≡◌, ◌+◌, ◌-◌, ◌<◌, ◌≤◌, length, option_map, subst, sym, arith}
+use Rattle.debug_views.proofs.Prelude.{◌+◌, ◌-◌, ◌<◌, ◌≡◌, ◌≤◌, AreEqualFrom, AreEvents, arith, equal_text, length, more_events, option_map, subst, sym}
 use Rattle.xv_machine.specs.Events.{event_of}
-use Rattle.xv_session.specs.Answers.{AreEqualFrom}
-use Rattle.debug_views.specs.EventText.{AreEvents, equal_text, more_events}
 use Rattle.debug_views.specs.declared.history.Equal.{Equal}
 use Rattle.debug_views.proofs.Shown.{equal-within, events-next, no-events, no-lines-left, shows-behind, shows-text, writes-nothing}
 use Rattle.debug_views.proofs.history.+show_from.Goals as goal

@@ -1,5 +1,4 @@
-use Rattle.std.proofs.Common.{◌++◌, ap, subst}
-use Rattle.debug_views.specs.EventText.{AreEvents, IsEventsText, events_head}
+use Rattle.debug_views.proofs.Prelude.{◌++◌, ap, AreEvents, events_head, IsEventsText, subst}
 use Rattle.debug_views.proofs.Shown.{shows-behind}
 use Rattle.debug_views.proofs.history.show_events.Goals as goal
 

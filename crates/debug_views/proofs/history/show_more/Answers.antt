@@ -1,4 +1,4 @@
-use Rattle.std.proofs.Common.{string_bytes, sym, arith, append-nil, lt-ltb, le-ltb}
+use Rattle.debug_views.proofs.Prelude.{append-nil, arith, le-ltb, lt-ltb, string_bytes, sym}
 use Rattle.debug_views.proofs.history.show_more.Goals as goal
 
 pub returns-then-place-all : goal.returns-then-place-all

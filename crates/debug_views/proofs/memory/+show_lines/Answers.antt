@@ -1,8 +1,7 @@
-use Rattle.std.proofs.Common.{◌≡◌, [], ◌<◌, inl, inr, arith, sym, append-nil}
-use Rattle.debug_views.specs.MemoryText.{memory_lines}
+use Rattle.debug_views.proofs.Prelude.{[], ◌<◌, ◌≡◌, append-nil, arith, inl, inr, memory_lines, sym}
 use Rattle.debug_views.proofs.Shown.{no-lines, lines-shown, last-shown}
-use Rattle.debug_views.proofs.memory.+show_lines.Goals as goal
 use Rattle.debug_views.proofs.memory.+show_lines.Goals.{then-lines-eq0-via-then-lines-eq0, then-lines-eq0-via-else-lines-eq0+then-count-eq0}
+use Rattle.debug_views.proofs.memory.+show_lines.Goals as goal
 
 pub returns-then-lines-eq0 : goal.returns-then-lines-eq0
 returns-then-lines-eq0 n c =

@@ -1,5 +1,4 @@
-use Rattle.std.proofs.Common.{codes}
-use Rattle.debug_views.specs.MemoryText.{characters_in_line}
+use Rattle.debug_views.proofs.Prelude.{characters_in_line, codes}
 use Rattle.debug_views.proofs.Texts.{pushed, three_shown}
 use Rattle.debug_views.proofs.memory.show_between_strokes.Goals as goal
 

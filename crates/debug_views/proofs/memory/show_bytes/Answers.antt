@@ -1,5 +1,4 @@
-use Rattle.std.proofs.Common.{arith}
-use Rattle.debug_views.specs.MemoryText.{byte_in_line}
+use Rattle.debug_views.proofs.Prelude.{arith, byte_in_line}
 use Rattle.debug_views.proofs.Texts.{one_more}
 use Rattle.debug_views.proofs.memory.show_bytes.Goals as goal
 

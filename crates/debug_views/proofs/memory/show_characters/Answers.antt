@@ -1,6 +1,5 @@
-use Rattle.std.proofs.Common.{rules, ◌≡◌, [], ◌∷◌, ◌++◌, string_bytes}
+use Rattle.debug_views.proofs.Prelude.{[], ◌++◌, ◌∷◌, ◌≡◌, character, rules, string_bytes}
 use Rattle.debug_views.specs.Bytes.{byte_behind}
-use Rattle.debug_views.specs.MemoryText.{character}
 use Rattle.debug_views.proofs.Texts.{one_byte_more}
 use Rattle.debug_views.proofs.memory.show_characters.Goals as goal
 

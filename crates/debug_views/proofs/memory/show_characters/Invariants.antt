@@ -1,5 +1,4 @@
-use Rattle.std.proofs.Common.{◌≡◌, ◌++◌, string_bytes}
-use Rattle.debug_views.specs.MemoryText.{characters_in_line}
+use Rattle.debug_views.proofs.Prelude.{◌++◌, ◌≡◌, characters_in_line, string_bytes}
 use Rattle.debug_views.proofs.memory.show_characters.Given as goal
 
 abbrev pub invariant-loop-place : goal.invariant-loop-place

@@ -1,7 +1,4 @@
-use Rattle.std.proofs.Common.{◌≡◌, ◌∙◌, ◌++◌, string_bytes, OnOk, subst}
-use Rattle.xv_machine.specs.Meaning.{Meaning}
-use Rattle.debug_views.specs.MemoryText.{memory_head, memory_lines}
-use Rattle.debug_views.specs.Focus.{name_in}
+use Rattle.debug_views.proofs.Prelude.{◌++◌, ◌∙◌, ◌≡◌, Meaning, memory_head, memory_lines, name_in, OnOk, string_bytes, subst}
 use Rattle.debug_views.proofs.Texts.{shown_behind}
 use Rattle.debug_views.proofs.memory.show_known.Goals as goal
 

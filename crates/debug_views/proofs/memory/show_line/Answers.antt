@@ -1,6 +1,4 @@
-use Rattle.std.proofs.Common.{◌≡◌, ◌++◌, codes, rules, string_bytes}
-use Rattle.debug_words.specs.Texts.{hexadecimal_places}
-use Rattle.debug_views.specs.MemoryText.{characters_between, digits_in_line}
+use Rattle.debug_views.proofs.Prelude.{◌++◌, ◌≡◌, characters_between, codes, digits_in_line, hexadecimal_places, rules, string_bytes}
 use Rattle.debug_views.proofs.Texts.{three_shown}
 use Rattle.debug_views.proofs.memory.show_line.Goals as goal
 

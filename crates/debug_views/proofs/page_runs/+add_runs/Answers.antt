@@ -1,7 +1,7 @@
-use Rattle.std.proofs.Common.{◌≡◌, ◌<◌, ◌≤◌, ◌⊎◌, inl, inr, arith}
+use Rattle.debug_views.proofs.Prelude.{◌<◌, ◌≡◌, ◌≤◌, ◌⊎◌, arith, inl, inr}
 use Rattle.debug_views.proofs.Trees.{no-run-added, run-added}
-use Rattle.debug_views.proofs.page_runs.+add_runs.Goals as goal
 use Rattle.debug_views.proofs.page_runs.+add_runs.Goals.{then-room-eq0-via-then-room-eq0, then-room-eq0-via-else-room-eq0+then-from-end}
+use Rattle.debug_views.proofs.page_runs.+add_runs.Goals as goal
 
 pub returns-then-room-eq0 : goal.returns-then-room-eq0
 returns-then-room-eq0 n c =

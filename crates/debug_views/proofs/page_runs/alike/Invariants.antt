@@ -1,6 +1,4 @@
-use Rattle.std.proofs.Common.{◌≡◌, ℕ, ◌<◌, ◌≤◌}
-use Rattle.kcall_core.specs.Observers.{rights_at}
-use Rattle.debug_views.specs.PageRuns.{kind_by}
+use Rattle.debug_views.proofs.Prelude.{ℕ, ◌<◌, ◌≡◌, ◌≤◌, kind_by, rights_at}
 use Rattle.debug_views.proofs.page_runs.alike.Given as goal
 
 abbrev pub invariant-loop-number : goal.invariant-loop-number

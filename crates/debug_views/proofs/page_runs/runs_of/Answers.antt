@@ -1,4 +1,4 @@
-use Rattle.debug_views.specs.PageRuns.{AreRuns}
+use Rattle.debug_views.proofs.Prelude.{AreRuns}
 use Rattle.debug_views.proofs.Trees.{added-alone}
 use Rattle.debug_views.proofs.page_runs.runs_of.Goals as goal
 

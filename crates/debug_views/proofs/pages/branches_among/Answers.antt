@@ -1,7 +1,4 @@
-use Rattle.std.proofs.Common.{◌≡◌, ◌∙◌, ap}
-use Rattle.std.specs.Prelude.{not}
-use Rattle.std.specs.List.{list_all}
-use Rattle.debug_views.specs.PagesText.{no_other_lower, same_upper}
+use Rattle.debug_views.proofs.Prelude.{◌∙◌, ◌≡◌, ap, list_all, no_other_lower, not, same_upper}
 use Rattle.debug_views.proofs.Trees.{none-other}
 use Rattle.debug_views.proofs.pages.branches_among.Goals as goal
 

@@ -1,5 +1,4 @@
-use Rattle.std.proofs.Common.{◌≡◌, ◌∙◌, ◌++◌, string_bytes}
-use Rattle.debug_views.specs.PagesText.{below, branch, pages_text}
+use Rattle.debug_views.proofs.Prelude.{◌++◌, ◌∙◌, ◌≡◌, below, branch, pages_text, string_bytes}
 use Rattle.debug_views.proofs.Texts.{shown_behind}
 use Rattle.debug_views.proofs.pages.show_below.Goals as goal
 

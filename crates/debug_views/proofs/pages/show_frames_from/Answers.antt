@@ -1,6 +1,4 @@
-use Rattle.std.proofs.Common.{◌+◌, refl}
-use Rattle.xv_machine.specs.FrameUses.{page_frame_at}
-use Rattle.debug_views.specs.PagesText.{frame_text}
+use Rattle.debug_views.proofs.Prelude.{◌+◌, frame_text, page_frame_at, refl}
 use Rattle.debug_views.proofs.Texts.{one_more}
 use Rattle.debug_views.proofs.pages.show_frames_from.Goals as goal
 

@@ -1,5 +1,4 @@
-use Rattle.std.proofs.Common.{◌≡◌, ◌++◌, string_bytes}
-use Rattle.debug_views.specs.PagesText.{frames_text}
+use Rattle.debug_views.proofs.Prelude.{◌++◌, ◌≡◌, frames_text, string_bytes}
 use Rattle.debug_views.proofs.pages.show_frames_from.Given as goal
 
 abbrev pub invariant-loop-place : goal.invariant-loop-place

@@ -1,8 +1,4 @@
-use Rattle.std.proofs.Common.{refl, subst, sym}
-use Rattle.xv_machine.specs.Meaning.{Meaning}
-use Rattle.debug_views.specs.Focus.{name_in}
-use Rattle.debug_views.specs.FrameLists.{AreUses}
-use Rattle.debug_views.specs.PagesText.{ArePagesFrom, IsTreeText, size_text}
+use Rattle.debug_views.proofs.Prelude.{ArePagesFrom, AreUses, IsTreeText, Meaning, name_in, refl, size_text, subst, sym}
 use Rattle.debug_views.proofs.Shown.{shows-behind}
 use Rattle.debug_views.proofs.pages.show_from.Goals as goal
 

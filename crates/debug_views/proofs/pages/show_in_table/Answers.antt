@@ -1,5 +1,4 @@
-use Rattle.std.proofs.Common.{◌/◌}
-use Rattle.debug_views.specs.PagesText.{below_text, if_begins, lower_text}
+use Rattle.debug_views.proofs.Prelude.{◌/◌, below_text, if_begins, lower_text}
 use Rattle.debug_views.proofs.Texts.{shown_behind}
 use Rattle.debug_views.proofs.pages.show_in_table.Goals as goal
 

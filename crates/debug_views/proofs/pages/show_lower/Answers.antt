@@ -1,7 +1,4 @@
-use Rattle.std.proofs.Common.{◌≡◌, ◌∙◌, ℕ, [], ◌∷◌, ◌++◌, Option, codes, decimal, position, string_bytes, OnOk, subst}
-use Rattle.std.specs.List.{concat}
-use Rattle.debug_views.specs.FrameLists.{is_lower_of}
-use Rattle.debug_views.specs.PagesText.{lower_head, table_text}
+use Rattle.debug_views.proofs.Prelude.{[], ℕ, ◌++◌, ◌∙◌, ◌∷◌, ◌≡◌, codes, concat, decimal, is_lower_of, lower_head, OnOk, Option, position, string_bytes, subst, table_text}
 use Rattle.debug_views.proofs.Texts.{shown_behind}
 use Rattle.debug_views.proofs.pages.show_lower.Goals as goal
 

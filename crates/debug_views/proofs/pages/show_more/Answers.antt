@@ -1,8 +1,4 @@
-use Rattle.std.proofs.Common.{◌≡◌, ◌∙◌, ◌*◌, ◌<◌, Bool, if◌then◌else◌, [], ◌∷◌, ◌++◌, ap, arith, codes, lt-ltb, string_bytes, sym}
-use Rattle.std.proofs.lemmas.Result.{on_ok_weaker}
-use Rattle.std.specs.List.{concat}
-use Rattle.debug_words.specs.Texts.{hexadecimal}
-use Rattle.debug_views.specs.PagesText.{go_on_text}
+use Rattle.debug_views.proofs.Prelude.{[], ◌*◌, ◌++◌, ◌<◌, ◌∙◌, ◌∷◌, ◌≡◌, ap, arith, Bool, codes, concat, go_on_text, hexadecimal, if◌then◌else◌, lt-ltb, on_ok_weaker, string_bytes, sym}
 use Rattle.debug_views.proofs.pages.show_more.Goals as goal
 
 pub returns : goal.returns

@@ -1,8 +1,4 @@
-use Rattle.std.proofs.Common.{◌≡◌, ◌∙◌, ◌/◌, ℕ, min, Option, None, Some, ap, refl, subst, sym}
-use Rattle.kcall_core.specs.Observers.{size_of}
-use Rattle.xv_machine.specs.Meaning.{Meaning}
-use Rattle.debug_views.specs.Focus.{no_process}
-use Rattle.debug_views.specs.PagesText.{ArePagesFrom, ArePagesOf, IsPagesText, pages_end}
+use Rattle.debug_views.proofs.Prelude.{ℕ, ◌/◌, ◌∙◌, ◌≡◌, ap, ArePagesFrom, ArePagesOf, IsPagesText, Meaning, min, no_process, None, Option, pages_end, refl, size_of, Some, subst, sym}
 use Rattle.debug_views.proofs.Shown.{shows-same, shows-text}
 use Rattle.debug_views.proofs.pages.show_pages.Goals as goal
 

@@ -1,4 +1,4 @@
-use Rattle.debug_views.specs.PagesText.{kind_text, pages_head}
+use Rattle.debug_views.proofs.Prelude.{kind_text, pages_head}
 use Rattle.debug_views.proofs.Texts.{shown_behind}
 use Rattle.debug_views.proofs.pages.show_pages_of.Goals as goal
 

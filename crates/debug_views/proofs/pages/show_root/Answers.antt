@@ -1,6 +1,4 @@
-use Rattle.std.proofs.Common.{◌≡◌, ℕ, ◌++◌, Option, codes, position, string_bytes, OnOk, subst}
-use Rattle.debug_views.specs.FrameLists.{is_root_of}
-use Rattle.debug_views.specs.PagesText.{table_text}
+use Rattle.debug_views.proofs.Prelude.{ℕ, ◌++◌, ◌≡◌, codes, is_root_of, OnOk, Option, position, string_bytes, subst, table_text}
 use Rattle.debug_views.proofs.Texts.{shown_behind}
 use Rattle.debug_views.proofs.pages.show_root.Goals as goal
 

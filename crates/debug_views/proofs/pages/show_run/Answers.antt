@@ -1,5 +1,4 @@
-use Rattle.std.proofs.Common.{◌/◌}
-use Rattle.debug_views.specs.PagesText.{if_begins, leaf_text, upper_text}
+use Rattle.debug_views.proofs.Prelude.{◌/◌, if_begins, leaf_text, upper_text}
 use Rattle.debug_views.proofs.Texts.{shown_behind}
 use Rattle.debug_views.proofs.pages.show_run.Goals as goal
 

@@ -1,7 +1,4 @@
-use Rattle.std.proofs.Common.{◌≡◌, ◌+◌, ◌≤◌, ◌∙◌, List, [], ◌++◌, append-nil, arith, drop, length, sym, take, string_bytes, ap}
-use Rattle.std.proofs.lemmas.List.{drop_all}
-use Rattle.debug_views.specs.PagesText.{branches_among, run_text, runs_text}
-use Rattle.debug_views.specs.declared.page_runs.PageRun.{PageRun}
+use Rattle.debug_views.proofs.Prelude.{[], ◌++◌, ◌+◌, ◌∙◌, ◌≡◌, ◌≤◌, ap, append-nil, arith, branches_among, drop, drop_all, length, List, PageRun, run_text, runs_text, string_bytes, sym, take}
 use Rattle.debug_views.specs.declared.pages.Branches.{Branches}
 use Rattle.debug_views.proofs.Trees.{runs-shown}
 use Rattle.debug_views.proofs.pages.show_runs.Goals as goal

@@ -1,5 +1,4 @@
-use Rattle.std.proofs.Common.{◌≡◌, ◌++◌, [], drop, string_bytes, take}
-use Rattle.debug_views.specs.PagesText.{runs_text}
+use Rattle.debug_views.proofs.Prelude.{[], ◌++◌, ◌≡◌, drop, runs_text, string_bytes, take}
 use Rattle.debug_views.proofs.pages.show_runs.Given as goal
 
 -- what is left, behind what was written, is all of it

@@ -1,6 +1,4 @@
-use Rattle.std.proofs.Common.{◌∙◌, ◌++◌, string_bytes}
-use Rattle.std.proofs.lemmas.Result.{on_ok_weaker}
-use Rattle.debug_views.specs.PagesText.{size_text}
+use Rattle.debug_views.proofs.Prelude.{◌++◌, ◌∙◌, on_ok_weaker, size_text, string_bytes}
 use Rattle.debug_views.proofs.pages.show_size.Goals as goal
 
 pub returns : goal.returns

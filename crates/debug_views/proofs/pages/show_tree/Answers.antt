@@ -1,6 +1,4 @@
-use Rattle.std.proofs.Common.{◌≡◌, All, [], ◌++◌, string_bytes, OnOk, refl, subst, sym}
-use Rattle.debug_views.specs.PageRuns.{AreRuns, behind_runs}
-use Rattle.debug_views.specs.PagesText.{IsTreeText, go_on_text, root_text, runs_text}
+use Rattle.debug_views.proofs.Prelude.{[], ◌++◌, ◌≡◌, All, AreRuns, behind_runs, go_on_text, IsTreeText, OnOk, refl, root_text, runs_text, string_bytes, subst, sym}
 use Rattle.debug_views.proofs.Shown.{shows-text}
 use Rattle.debug_views.proofs.Texts.{three_shown}
 use Rattle.debug_views.proofs.Trees.{IsWithin, runs-within}

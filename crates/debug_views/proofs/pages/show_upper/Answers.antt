@@ -1,7 +1,4 @@
-use Rattle.std.proofs.Common.{◌≡◌, ◌∙◌, ℕ, [], ◌∷◌, ◌++◌, Option, codes, decimal, position, string_bytes, OnOk, subst}
-use Rattle.std.specs.List.{concat}
-use Rattle.debug_views.specs.FrameLists.{is_upper_of}
-use Rattle.debug_views.specs.PagesText.{upper_head, table_text}
+use Rattle.debug_views.proofs.Prelude.{[], ℕ, ◌++◌, ◌∙◌, ◌∷◌, ◌≡◌, codes, concat, decimal, is_upper_of, OnOk, Option, position, string_bytes, subst, table_text, upper_head}
 use Rattle.debug_views.proofs.Texts.{shown_behind}
 use Rattle.debug_views.proofs.pages.show_upper.Goals as goal
 

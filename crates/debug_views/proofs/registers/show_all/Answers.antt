@@ -1,5 +1,4 @@
-use Rattle.std.proofs.Common.{◌+◌, arith}
-use Rattle.debug_views.specs.RegisterText.{register_text}
+use Rattle.debug_views.proofs.Prelude.{◌+◌, arith, register_text}
 use Rattle.debug_views.proofs.Texts.{one_more}
 use Rattle.debug_views.proofs.registers.show_all.Goals as goal
 

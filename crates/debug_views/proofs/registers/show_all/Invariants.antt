@@ -1,6 +1,4 @@
-use Rattle.std.proofs.Common.{◌≡◌, ◌++◌, string_bytes, flat_map}
-use Rattle.std.specs.List.{range_with_len}
-use Rattle.debug_views.specs.RegisterText.{register_text}
+use Rattle.debug_views.proofs.Prelude.{◌++◌, ◌≡◌, flat_map, range_with_len, register_text, string_bytes}
 use Rattle.debug_views.proofs.registers.show_all.Given as goal
 
 abbrev pub invariant-loop-place : goal.invariant-loop-place

@@ -1,8 +1,4 @@
-use Rattle.std.proofs.Common.{◌≡◌, ◌∙◌, ◌++◌, codes, string_bytes}
-use Rattle.std.specs.Fmt.{styled_text}
-use Rattle.debug_words.specs.Texts.{hexadecimal}
-use Rattle.debug_views.specs.RegisterText.{first_registers, pc_text, registers_head}
-use Rattle.debug_views.specs.Focus.{name_in}
+use Rattle.debug_views.proofs.Prelude.{◌++◌, ◌∙◌, ◌≡◌, codes, first_registers, hexadecimal, name_in, pc_text, registers_head, string_bytes, styled_text}
 use Rattle.debug_views.proofs.Texts.{four_shown}
 use Rattle.debug_views.proofs.registers.show_known.Goals as goal
 
