@@ -1,7 +1,9 @@
 //! The programs of a record, by their names and checksums.
-ghost use Rattle.std.specs.Prelude.{◌≡◌, List, ℕ, length, map, IfOk, IfSome};
+ghost use Rattle.std.specs.Prelude.{◌≡◌, List, ℕ, length, map, option_copied, IfOk, IfErr, IfSome};
+ghost use Rattle.std.specs.List.{All};
 ghost use Rattle.std.specs.String.{string_bytes};
 ghost use Rattle.sha2.specs.Sha256.{sha256};
+ghost use Rattle.xv_record.specs.Chosen.{named, IsThere, IsReason, IsRefused};
 ghost use Rattle.xv_record.specs.Told.{IsProgramTold, program_told_of, program_told, told_program};
 
 use crate::RecordRefusal;
@@ -29,7 +31,7 @@ pub fn sum_of(bytes: &[u8]) -> [u8; 32]
 
 // The program of this name, if there is one.
 fn named<'a>(programs: &'a [Program], name: &str) -> Option<&'a Program>
-    ensures { IfSome result (λ p. p.now.name.items ≡ name.now) }
+    ensures { option_copied result ≡ named programs.now name.now }
 {
     programs
         .iter()
@@ -42,7 +44,9 @@ fn found<'a>(
     programs: &[Program],
     wanted: &'a ProgramSum,
 ) -> Result<Program, RecordRefusal<'a>>
-    ensures { IfOk result (λ p. program_told p ≡ told_program wanted.now) }
+    ensures same { IfOk result (λ p. program_told p ≡ told_program wanted.now) }
+    ensures there { IfOk result (λ p. IsThere programs.now (told_program wanted.now)) }
+    ensures reason { IfErr result (λ e. IsReason programs.now (told_program wanted.now) e) }
 {
     let Some(program) = named(programs, wanted.name.as_str()) else {
         return Err(RecordRefusal::Missing(wanted.name.as_str()));
@@ -69,7 +73,11 @@ pub fn chosen<'a>(
     programs: &[Program],
     wanted: &'a [ProgramSum],
 ) -> Result<Vec<Program>, RecordRefusal<'a>>
-    ensures { IfOk result (λ list. map program_told list.items ≡ map told_program wanted.now) }
+    // they are those that were recorded
+    ensures same { IfOk result (λ list. map program_told list.items ≡ map told_program wanted.now) }
+    // each is the program of its name
+    ensures there { IfOk result (λ list. All (IsThere programs.now) (map told_program wanted.now)) }
+    ensures refused { IfErr result (λ e. IsRefused programs.now (map told_program wanted.now) e) }
 {
     let mut list = Vec::new(alloc);
     for sum in wanted {

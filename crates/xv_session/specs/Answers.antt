@@ -1,5 +1,5 @@
 -- What the calls of a session answer, and what they leave.
-use Rattle.std.specs.Prelude.{◌≡◌, ℕ, ◌<◌, ◌≤◌, Bool, List, [], ◌∷◌, ◌++◌, take, drop, length, replicate, flat_map, slice_get, Option, None, Some, Result, Ok, Err}
+use Rattle.std.specs.Prelude.{◌≡◌, ℕ, ◌<◌, ◌≤◌, Bool, List, [], ◌∷◌, ◌++◌, take, drop, length, replicate, Option, None, Some, Result, Ok, Err}
 use Rattle.xk_base.specs.declared.errors.BootError.{BootError}
 use Rattle.kernel_spec.specs.views.State.{ProgramFile}
 use Rattle.kernel_spec.specs.runs.Run.{Event, Run, Outcome}
@@ -48,11 +48,3 @@ WentBack place old new = new ≡ stands old (take place old.events) new.machine 
 abbrev pub AreEqualFrom : List Event → (place : ℕ) → Option (Event × ℕ) → Type 0
 AreEqualFrom list place None = length list ≤ place
 AreEqualFrom list place (Some (e, count)) = (0 < count) × (take count (drop place list) ≡ replicate count e)
-
--- a span of events: one event, and how many of it, one behind another
-abbrev pub events_in : List (Event × ℕ) → List Event
-events_in spans = flat_map (λ (s : Event × ℕ). replicate s.1 s.0) spans
-
--- the events are spans, one behind another, and this is the one at a place among them; none where there are fewer spans
-abbrev pub IsSpanOf : List Event → (place : ℕ) → Option (Event × ℕ) → Type 0
-IsSpanOf list place answer = (spans : List (Event × ℕ)) × (events_in spans ≡ list) × (answer ≡ slice_get spans place)

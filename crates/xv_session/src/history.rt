@@ -100,7 +100,7 @@ impl History {
 
 impl History {
     ghost use Rattle.std.specs.Prelude.{◌≡◌, option_map};
-    ghost use Rattle.xv_session.specs.Answers.{AreEqualFrom, IsSpanOf};
+    ghost use Rattle.xv_session.specs.Answers.{AreEqualFrom};
     ghost use Rattle.xv_session.specs.Spans.{pair_of};
 
     /// The event at a place, and how many events from there on are equal to it; `None` where there are fewer.
@@ -119,21 +119,6 @@ impl History {
             before -= span.count;
         }
         Some((self.last.event, self.last.count - before))
-    }
-
-    /// The event of the span at a place, and how many there are; `None` where there are fewer spans.
-    pub fn span(&self, place: usize) -> Option<(Event, u64)>
-        ensures { IsSpanOf self.now.events place (option_map pair_of result) }
-    {
-        let over = self.over.len();
-        if place > over {
-            return None;
-        }
-        if place == over {
-            return Some((self.last.event, self.last.count));
-        }
-        let span = self.over[place];
-        Some((span.event, span.count))
     }
 }
 

@@ -87,7 +87,7 @@ impl Session {
     ghost use Rattle.xv_machine.specs.Events.{event_of, outcome_of};
     ghost use Rattle.xv_machine.specs.Sound.{IsSoundMachine};
     ghost use Rattle.xv_session.specs.Recorded.{IsPlayed, IsLed, IsRecorded};
-    ghost use Rattle.xv_session.specs.Answers.{machine_of, IsNew, Sent, RunsSent, Found, WentBack, AreEqualFrom, IsSpanOf};
+    ghost use Rattle.xv_session.specs.Answers.{machine_of, IsNew, Sent, RunsSent, Found, WentBack, AreEqualFrom};
     ghost use Rattle.xv_session.specs.Names.{place_in, AreLive};
     ghost use Rattle.xv_session.specs.Spans.{pair_of};
 
@@ -182,14 +182,6 @@ impl Session {
         ensures { AreEqualFrom self.now.events place (option_map pair_of result) }
     {
         self.history.from_on(place)
-    }
-
-    /// The spans of the run, one by one: the event of the span at this place, and how many of it came one behind
-    /// another. `None` where there are fewer spans. The next span may be of an equal event, and a span may have none.
-    pub fn span(&self, place: usize) -> Option<(Event, u64)>
-        ensures { IsSpanOf self.now.events place (option_map pair_of result) }
-    {
-        self.history.span(place)
     }
 
     /// The machine as it was after the first events, so many, booted anew, with its names.
