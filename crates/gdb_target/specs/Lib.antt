@@ -5,3 +5,4 @@ pub mod SameRun
 pub mod Standing
 pub mod Found
 pub mod Told
+pub mod Chosen

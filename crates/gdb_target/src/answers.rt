@@ -2,6 +2,7 @@
 ghost use Rattle.std.specs.Prelude.{◌≡◌, IfOk, IfSome, IsSome};
 ghost use Rattle.kernel_spec.specs.views.State.{live};
 ghost use Rattle.gdb_packets.specs.Answers.{refusal};
+ghost use Rattle.gdb_target.specs.Chosen as chooses;
 ghost use Rattle.gdb_target.specs.Told as meant;
 
 use crate::documents::REGISTERS;
@@ -159,7 +160,9 @@ impl Target {
 
     /// The process that a choice of a thread means: the one that stopped, where none is named; `None` where the one
     /// that is named doesn't live.
-    fn meant_by(&self, thread: Thread) -> Option<Pid> {
+    fn meant_by(&self, thread: Thread) -> Option<Pid>
+        ensures { chooses.IsMeant self.now thread result }
+    {
         match thread {
             Thread::All | Thread::Any => Some(self.stopped.pid),
             Thread::One(number) => live_process(self.run.machine(), number),
@@ -169,7 +172,8 @@ impl Target {
     /// The process that a step of a thread means: the one that was chosen for it, where none is named; `None` where it
     /// doesn't live.
     pub fn steps(&self, thread: Thread) -> Option<Pid>
-        ensures { IfSome result (λ pid. IsSome (live (meant.state_of self.now) pid)) }
+        ensures lives { IfSome result (λ pid. IsSome (live (meant.state_of self.now) pid)) }
+        ensures means { chooses.IsStepped self.now thread result }
     {
         match thread {
             Thread::All | Thread::Any if is_live(self.run.machine(), self.stepped) => {
@@ -187,7 +191,8 @@ impl Target {
         thread: Thread,
         resumes: bool,
     ) -> Result<Vec<u8>, AllocError>
-        ensures { self.new.run ≡ self.old.run }
+        ensures run { self.new.run ≡ self.old.run }
+        ensures chosen { IfOk result (λ text. chooses.Chooses self.old (Command.Choose thread resumes) self.new text.items) }
     {
         let Some(pid) = self.meant_by(thread) else {
             return refusal(alloc, NO_SUCH);
@@ -208,7 +213,8 @@ impl Target {
         address: u64,
         length: u64,
     ) -> Result<Vec<u8>, AllocError>
-        ensures { self.new.run ≡ self.old.run }
+        ensures run { self.new.run ≡ self.old.run }
+        ensures chosen { IfOk result (λ text. chooses.IsInserted point address length self.old self.new text.items) }
     {
         if point == Point::Watchpoint && length > WATCHED_MOST {
             return refusal(alloc, MALFORMED);
@@ -225,7 +231,8 @@ impl Target {
         address: u64,
         length: u64,
     ) -> Result<Vec<u8>, AllocError>
-        ensures { self.new.run ≡ self.old.run }
+        ensures run { self.new.run ≡ self.old.run }
+        ensures chosen { IfOk result (λ text. chooses.Chooses self.old (Command.Remove point address length) self.new text.items) }
     {
         self.points.remove(point, address, length);
         text(alloc, b"OK")
@@ -274,6 +281,7 @@ impl Target {
     pub fn answer(&mut self, alloc: Global, command: Command) -> Result<Vec<u8>, AllocError>
         ensures told { IfOk result (λ text. meant.IsTold self.old command text.items) }
         ensures run { self.new.run ≡ self.old.run }
+        ensures chosen { IfOk result (λ text. chooses.Chooses self.old command self.new text.items) }
     {
         match command {
             Command::Choose { thread, resumes } => self.choose(alloc, thread, resumes),

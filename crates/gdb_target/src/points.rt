@@ -1,6 +1,7 @@
 //! Breakpoints and watchpoints.
-ghost use Rattle.std.specs.Prelude.{◌≡◌, [], ◌==◌};
+ghost use Rattle.std.specs.Prelude.{◌≡◌, [], ◌==◌, IfOk};
 ghost use Rattle.std.specs.List.{list_any};
+ghost use Rattle.gdb_target.specs.Chosen.{IsPut, IsTaken};
 
 use gdb_packets::Point;
 use std::alloc::{AllocError, Global};
@@ -59,7 +60,9 @@ impl Points {
     /// # Errors
     ///
     /// [`AllocError`] if the host has too little memory.
-    pub fn insert(&mut self, point: Point, address: u64, length: u64) -> Result<(), AllocError> {
+    pub fn insert(&mut self, point: Point, address: u64, length: u64) -> Result<(), AllocError>
+        ensures { IfOk result (λ _. IsPut point address length self.old self.new) }
+    {
         match point {
             Point::Breakpoint => {
                 if !self.is_breakpoint(address) {
@@ -77,7 +80,9 @@ impl Points {
     }
 
     /// Takes a point away, if it is there.
-    pub fn remove(&mut self, point: Point, address: u64, length: u64) {
+    pub fn remove(&mut self, point: Point, address: u64, length: u64)
+        ensures { IsTaken point address length self.old self.new }
+    {
         match point {
             Point::Breakpoint => self.breakpoints.retain(|at| *at != address),
             Point::Watchpoint => {

@@ -10,6 +10,9 @@ use Rattle.xv_session.specs.Steps.{Advances, RunsMade}
 use Rattle.xv_session.specs.Until.{Searched}
 use Rattle.xv_session.specs.declared.names.Named.{Named}
 use Rattle.xv_session.specs.declared.until.Condition.{Condition}
+use Rattle.xv_session.specs.declared.history.TheConstants.{EVENTS_MAX}
+use Rattle.xv_session.specs.declared.session.SessionError.{SessionError}
+use Rattle.xv_session.specs.declared.session.SessionError.TheVariants.{Memory, Full}
 
 -- the machine of a session, where there is one
 abbrev pub machine_of : Result Recorded BootError → Result Meaning BootError
@@ -48,3 +51,8 @@ WentBack place old new = new ≡ stands old (take place old.events) new.machine 
 abbrev pub AreEqualFrom : List Event → (place : ℕ) → Option (Event × ℕ) → Type 0
 AreEqualFrom list place None = length list ≤ place
 AreEqualFrom list place (Some (e, count)) = (0 < count) × (take count (drop place list) ≡ replicate count e)
+
+-- Why no event is taken: the host has too little memory, of which nothing is said here; or the session keeps all that it may
+abbrev pub IsReason : SessionError → (kept : ℕ) → Type 0
+IsReason Memory kept = Unit {0}
+IsReason Full kept = EVENTS_MAX ≤ kept
