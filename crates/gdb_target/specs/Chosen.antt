@@ -1,5 +1,5 @@
 -- What GDB chooses: the process that it looks at, the one that it steps, and the points at which programs stop.
-use Rattle.std.specs.Prelude.{◌≡◌, ◌×◌, ◌⊎◌, ◌<◌, ◌≤◌, ℕ, Bool, true, false, ◌==◌, ◌&&◌, not, if◌then◌else◌, List, [], ◌∷◌, ◌++◌, filter, codes, Option, None, Some, is_some, IsSome}
+use Rattle.std.specs.Prelude.{◌≡◌, ◌⊎◌, ◌<◌, ◌≤◌, ℕ, Bool, true, false, ◌==◌, ◌&&◌, not, if◌then◌else◌, List, [], ◌∷◌, ◌++◌, filter, codes, Option, None, Some, is_some, IsSome}
 use Rattle.std.specs.List.{list_any}
 use Rattle.kernel_spec.specs.views.State.{live}
 use Rattle.gdb_packets.specs.Answers.{refusal}

@@ -1,5 +1,5 @@
 -- Which of the programs that are there a record is played with, and why it can't be played with them.
-use Rattle.std.specs.Prelude.{◌≡◌, ◌≢◌, ◌×◌, ℕ, ⊤, List, ◌∷◌, ◌++◌, Option, None, Some, find, bytes_eq}
+use Rattle.std.specs.Prelude.{◌≡◌, ◌≢◌, ℕ, List, ◌∷◌, ◌++◌, Option, None, Some, find, bytes_eq}
 use Rattle.std.specs.List.{All}
 use Rattle.xk_base.specs.declared.program.Program.{Program}
 use Rattle.xv_record.specs.declared.refusal.RecordRefusal.{RecordRefusal}
@@ -26,13 +26,13 @@ pub record IsOther (programs : List Program) (recorded : ProgramTold) : Type 0 w
 abbrev pub IsReason : List Program → ProgramTold → RecordRefusal → Type 0
 IsReason programs recorded (Missing name) = (name.now ≡ recorded.name) × (named programs recorded.name ≡ None)
 IsReason programs recorded (Differs name) = (name.now ≡ recorded.name) × IsOther programs recorded
-IsReason programs recorded Memory = ⊤
+IsReason programs recorded Memory = Unit {0}
 
--- The reason is one of a program before which all are there
-pub record IsRefused (programs : List Program) (recorded : List ProgramTold) (reason : RecordRefusal) : Type 0 where
+-- It is refused for a program before which all are there
+pub record IsRefused (programs : List Program) (recorded : List ProgramTold) (refusal : RecordRefusal) : Type 0 where
   pub before : List ProgramTold
   pub refused : ProgramTold
   pub after : List ProgramTold
   pub parts : recorded ≡ before ++ refused ∷ after
   pub there : All (IsThere programs) before
-  pub reason : IsReason programs refused reason
+  pub reason : IsReason programs refused refusal
