@@ -313,6 +313,8 @@ async function refusals(page) {
   ]) { const words = await boots(list); holds(wanted.every((it) => words.includes(it)), `refused in words: ${words}`); }
   holds(await page.eval("page.app.view?.facts.status === 7"), "the only program runs as init");
   for (const [line, wanted] of [["  li a0, 1 // one", "begins with `#`"], ["  li a0, 'a'", "97"], [".equ N, 5", "no names for numbers"], ["  li a0, 0b101", "5"], ["again: beqz t0, again", "beq t0, x0, again"], ["again: bgt t0, t1, again # up", "blt t1, t0, again"], ["  neg t0, t1", "sub t0, x0, t1"], ["  addi a9, a0, 1", "`a9`: there is no such register"], ["  li a0, '#'", "35"], ["  j nowhere", "`nowhere`"]]) {
+    // (What was told of the line before isn't to be taken for this one's.)
+    await page.eval("document.getElementById('mistake').textContent = ''");
     await files(page, [{ name: "init.s", text: `${line}\n${EXIT}` }]);
     await comes(page, "document.getElementById('mistake').textContent.startsWith('line 1')", 2000);
     const words = await text_of(page, "mistake");
