@@ -192,7 +192,9 @@ async function large(page) {
   holds((await message(page)).includes("big.txt") && (await message(page)).includes("MiB") && !(await page.eval("page.app.files.some((it) => it.name === 'big.txt')")), `a file that is too large is refused: ${await message(page)}`);
   holds(await page.eval("page.app.files.some((it) => it.name === 'fits.txt')"), "one that fits is taken beside it");
   const opened = await page.eval(`(async () => { const text = 'a line of text\\n'.repeat(69000); const began = performance.now(); await page.programs.take([new File([text], 'long.txt')]); document.getElementById('source').offsetHeight; await new Promise(requestAnimationFrame); return performance.now() - began; })()`);
-  holds(opened < 1500, `a text of a megabyte is opened in ${opened.toFixed(0)} ms`);
+  // (What a bare text field takes for it on this host: hosts differ by more than twice.)
+  const bare = await page.eval(`(async () => { const text = 'a line of text\\n'.repeat(69000), it = document.createElement('textarea'); document.body.append(it); const began = performance.now(); it.value = text; it.offsetHeight; await new Promise(requestAnimationFrame); const took = performance.now() - began; it.remove(); return took; })()`);
+  holds(opened < 4 * bare + 300, `a text of a megabyte is opened in ${opened.toFixed(0)} ms, a bare text field takes ${bare.toFixed(0)}`);
   await drop(page, [["many.s", LONG]]);
   await page.sleep(1500);
   const keys = await page.eval(`(async () => {
