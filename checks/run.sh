@@ -33,6 +33,7 @@ tell_others() {
     tell outside.sh 'outside.sh' "others' programs do what they do under QEMU: minutes, with \`torture\` an hour; needs packages, told by the script"
     tell back-to/run.sh 'back-to/run.sh [N]' 'the stored runs, played back to 20 places each: slow; needs rt'
     tell release.sh 'release.sh FOLDER' 'a release, tried in a bare Debian 12, natively and by Node: some minutes; needs root, debootstrap and the network'
+    tell imports.py 'imports.py [--tell] CRATE..' 'writes the heads of the proofs, and the module that hands on their words: a second'
     tell html-links.py 'html-links.py FOLDER' 'the links of a release that was untarred'
     tell terminal/by_hand.sh 'terminal/by_hand.sh [FOLDER]' 'sessions at a real terminal, with their screens: a minute; needs tmux'
     tell terminal/measure.py 'terminal/measure.py' 'the terminal'"'"'s speed beside xv_run, its echo, and what it takes while all sleep: a minute'

@@ -1,27 +1,12 @@
 -- A frame of a space is given back: the entry that led to it is made blank.
-use Rattle.std.proofs.Common.{◌≡◌, ◌≢◌, ℕ, zero, suc, ◌+◌, ◌*◌, ◌/◌, ◌%◌, ◌^◌, ◌<◌, ◌≤◌, Bool, List, ◌∷◌, length, Some, None, refl, sym, ap, ◌∙◌, subst, arith}
-use Rattle.xk_base.specs.Frames.{copies, Once}
-use Rattle.xk_base.specs.declared.access.Rights.{Rights}
-use Rattle.xk_base.proofs.Frames.{length-same, at, at-same, copies-cons, same-cons, Once-less, SameFrames}
-use Rattle.phys_ram.specs.Ram.{word_at, WordWritten}
-use Rattle.frame_list.specs.declared.Pool.{Pool}
-use Rattle.frame_list.specs.Pool.{free_in}
-use Rattle.sv39_core.specs.declared.entry.Entry.{Entry}
-use Rattle.sv39_core.specs.declared.entry.Entry.TheVariants.{Invalid, Table, Leaf}
-use Rattle.sv39_core.specs.Sv39.{entry_of, entry_at, table_of, below, table_at, last, page_entry}
-use Rattle.sv39_core.proofs.Words.{entry_of-zero}
-use Rattle.sv39_core.specs.Tree.{page_at, frame_of, page_frames, owned, IsTree}
-use Rattle.addr_space.specs.Steps.{Holds, Cleared, Freed}
-use Rattle.frame_list.specs.Traded.{Traded}
-use Rattle.addr_space.specs.Space.{Usual}
-use Rattle.sv39_core.proofs.Listings.{listed-same, listed-more}
-use Rattle.sv39_core.proofs.Tree.{Spot, Hung, hung-others, hung-pages, leaf-tables, leaf-here, leaf-others, entry-other, entry-here, up}
-use Rattle.sv39_core.proofs.Places.{below-some, upper-place, lower-place, spot-of, table-owned}
-use Rattle.sv39_core.proofs.Owned.{Kept, kept-tables, kept-pages, kept-image, kept-owned, hung-owned-upper, hung-owned-lower, leaf-owned}
+use Rattle.addr_space.proofs.Prelude.{ℕ, ◌%◌, ◌*◌, ◌+◌, ◌/◌, ◌<◌, ◌^◌, ◌∙◌, ◌∷◌, ◌≡◌, ◌≢◌, ◌≤◌, ap, arith, at, at-same, below, below-some, Bool, Cleared, copies, copies-cons, Entry, entry-here}
+use Rattle.addr_space.proofs.Prelude.{entry-other, entry_at, entry_of, entry_of-zero, frame_of, free_in, Freed, given-free, Holds, Hung, hung-others, hung-owned-lower, hung-owned-upper, hung-pages}
+use Rattle.addr_space.proofs.Prelude.{Invalid, IsTree, Kept, kept-image, kept-owned, kept-pages, kept-tables, last, Leaf, leaf-here, leaf-others, leaf-owned, leaf-tables, length, length-same, List}
+use Rattle.addr_space.proofs.Prelude.{listed-more, listed-same, lower-place, None, Once, Once-less, owned, page_at, page_entry, page_frames, Pool, refl, Rights, same-cons, SameFrames, Some, Spot}
+use Rattle.addr_space.proofs.Prelude.{spot-of, subst, suc, sym, Table, table-owned, table_at, table_of, Traded, up, upper-place, Usual, word_at, WordWritten, zero}
 use Rattle.addr_space.proofs.Steps.{table-write-image}
 use Rattle.addr_space.proofs.Half.{Half, half-kept, half-written, not-root}
 use Rattle.addr_space.proofs.Trades.{given-others}
-use Rattle.frame_list.proofs.Trades.{given-free}
 
 -- the write that takes a write back
 back : (ram mid : List (List ℕ)) (f i w : ℕ) → WordWritten ram mid f i w → WordWritten mid ram f i (word_at ram f i)

@@ -1,40 +1,16 @@
 -- A space is copied page by page.
-use Rattle.std.proofs.Common.{◌≡◌, ℕ, zero, suc, ◌+◌, ◌-◌, ◌*◌, ◌/◌, ◌%◌, ◌^◌, ◌<◌, ◌≤◌, Bool, true, cond, List, [], length, set, Option, Some, None, refl, sym, ap, ◌∙◌, subst, arith}
-use Rattle.std.proofs.lemmas.Bool.{le-ltb}
-use Rattle.std.specs.Ordering.{nat_cmp}
-use Rattle.std.specs.FinMap.{FinMap, empty, insert, get, get-insert}
-use Rattle.std.specs.Cmp.{nat_cmp_total}
-use Rattle.std.proofs.lemmas.List.{get_or-set_same}
-use Rattle.xk_base.specs.Frames.{copies, Once}
-use Rattle.xk_base.proofs.Frames.{copies-nil}
-use Rattle.xk_base.specs.declared.access.Rights.{Rights}
-use Rattle.phys_ram.specs.Ram.{frame_at, word_at, zero_frame, OthersStay}
-use Rattle.frame_list.specs.declared.Pool.{Pool}
-use Rattle.frame_list.specs.Pool.{free_in}
-use Rattle.sv39_core.specs.declared.entry.Entry.{Entry}
-use Rattle.sv39_core.specs.declared.entry.Entry.TheVariants.{Invalid, Table, Leaf}
-use Rattle.sv39_core.specs.Sv39.{given, table_at, page_entry, last}
-use Rattle.sv39_core.proofs.Words.{leaf-perm}
-use Rattle.xk_base.specs.Access.{is_perm}
-use Rattle.addr_space.specs.declared.Space.{Space}
-use Rattle.sv39_core.specs.Listed.{gathered, insert_some}
-use Rattle.xk_base.specs.Image.{Page, Image, price, with_page, no_pages}
-use Rattle.addr_space.specs.Changes.{zeroed}
-use Rattle.sv39_core.specs.Tree.{page_of, page_at, pages_of, frame_of, owned}
-use Rattle.addr_space.specs.Space.{image_of, frames_of, IsSpace, Belongs, Changed, Made, Usual}
-use Rattle.sv39_core.proofs.Places.{page-owned}
+use Rattle.addr_space.proofs.Prelude.{[], ℕ, ◌%◌, ◌*◌, ◌+◌, ◌-◌, ◌/◌, ◌<◌, ◌^◌, ◌∙◌, ◌≡◌, ◌≤◌, ap, arith, Belongs, Bool, Changed, cond, copies, copies-nil, empty, Entry, FinMap, frame_at, frame_of}
+use Rattle.addr_space.proofs.Prelude.{frames_of, free_in, gathered, gathered-get, get, get-insert, get_or-set_same, given, Image, image_of, insert, insert-twice, insert_some, Invalid, is_perm}
+use Rattle.addr_space.proofs.Prelude.{IsSpace, Kept, kept-image, kept-owned, kept-pages, kept-tables, last, le-ltb, Leaf, leaf-perm, length, List, Made, nat_cmp, nat_cmp_total, no_pages, None, Once}
+use Rattle.addr_space.proofs.Prelude.{Option, others_stay-set, OthersStay, owned, Page, page-owned, page_at, page_entry, page_of, pages_of, Pool, price, refl, Rights, set, Some, Space, subst, suc}
+use Rattle.addr_space.proofs.Prelude.{sym, Table, table_at, tie-yes, trade-join, trade-lengths, true, Usual, with_page, word_at, zero, zero_frame, zeroed}
 use Rattle.addr_space.proofs.Pages.{leaf-given, page-is, page-written}
-use Rattle.sv39_core.proofs.Owned.{Kept, kept-image, kept-tables, kept-pages, kept-owned}
-use Rattle.xk_base.proofs.Gathered.{gathered-get, tie-yes}
-use Rattle.xk_base.proofs.Maps.{insert-twice}
 use Rattle.addr_space.proofs.Steps.{gathered-same}
 use Rattle.addr_space.proofs.Prices.{page-got, price-more, length-kinds}
 use Rattle.addr_space.proofs.Growing.{cost}
 use Rattle.addr_space.proofs.PriceTo.{cost-size}
 use Rattle.addr_space.proofs.Trades.{belongs-after, free-after, space-price}
-use Rattle.frame_list.proofs.Trades.{trade-lengths, trade-join}
 use Rattle.addr_space.proofs.Half.{half-kept}
-use Rattle.phys_ram.proofs.Words.{others_stay-set}
 use Rattle.addr_space.proofs.Freeing.{changed-none, changed-join, same-frames, page-none}
 
 abbrev image_pages : Image → FinMap nat_cmp Page

@@ -1,21 +1,8 @@
 -- A root that is a frame of zeros.
-use Rattle.std.proofs.Common.{◌≡◌, ℕ, zero, suc, ◌+◌, ◌/◌, ◌%◌, ◌^◌, ◌<◌, ◌≤◌, List, [], ◌∷◌, ◌++◌, length, Option, Some, None, inl, inr, ◌⊎◌, refl, sym, ap, ◌∙◌, subst, arith}
-use Rattle.std.proofs.lemmas.Bool.{cases_eq}
-use Rattle.std.specs.FinMap.{empty}
-use Rattle.xk_base.specs.Frames.{copies}
-use Rattle.xk_base.proofs.Frames.{at, at-le, at-other, copies-nil, copies-one, same-cons}
-use Rattle.phys_ram.proofs.Words.{word_at-zero}
-use Rattle.frame_list.specs.declared.Pool.{Pool}
-use Rattle.frame_list.specs.Pool.{free_in, Good}
-use Rattle.frame_list.specs.Traded.{Taken}
-use Rattle.sv39_core.specs.declared.entry.Entry.TheVariants.{Invalid}
-use Rattle.frame_list.proofs.Trades.{taken-free}
-use Rattle.sv39_core.specs.Sv39.{flag, entry_of, entry_at, table_of, below, table_at, last, page_entry}
-use Rattle.sv39_core.proofs.Words.{entry_of-zero}
-use Rattle.sv39_core.specs.Listed.{push_some, listed, gathered, insert_some}
-use Rattle.xk_base.specs.Image.{no_pages}
-use Rattle.sv39_core.specs.Tree.{page_of, page_at, pages_of, frame_of, uppers, lowers, page_frames, owned}
-use Rattle.addr_space.specs.Space.{image_of, Made, Usual}
+use Rattle.addr_space.proofs.Prelude.{[], ℕ, ◌%◌, ◌++◌, ◌+◌, ◌/◌, ◌<◌, ◌^◌, ◌∙◌, ◌∷◌, ◌≡◌, ◌≤◌, ◌⊎◌, ap, arith, at, at-le, at-other, below, cases_eq, copies, copies-nil, copies-one, empty, entry_at}
+use Rattle.addr_space.proofs.Prelude.{entry_of, entry_of-zero, flag, frame_of, free_in, gathered, Good, image_of, inl, inr, insert_some, Invalid, last, length, List, listed, lowers, Made, no_pages}
+use Rattle.addr_space.proofs.Prelude.{None, Option, owned, page_at, page_entry, page_frames, page_of, pages_of, Pool, push_some, refl, same-cons, Some, subst, suc, sym, table_at, table_of, Taken}
+use Rattle.addr_space.proofs.Prelude.{taken-free, uppers, Usual, word_at-zero, zero}
 
 pub listed-none : (f : ℕ → Option ℕ) (n : ℕ) → ((k : ℕ) → f k ≡ None) → listed f n ≡ []
 unfolding listed

@@ -1,29 +1,11 @@
 -- A page goes, and the tables that then map nothing.
-use Rattle.std.proofs.Common.{◌≡◌, ℕ, ◌+◌, ◌-◌, ◌*◌, ◌/◌, ◌%◌, ◌^◌, ◌<◌, ◌≤◌, cond, ltb, List, [], ◌∷◌, ◌++◌, length, Option, Some, None, inl, inr, refl, sym, ap, ◌∙◌, subst, arith}
-use Rattle.std.specs.Prelude.{IsSome}
-use Rattle.std.proofs.lemmas.Bool.{cases_lt, cases_eq, le-ltb, lt-ltb}
-use Rattle.std.specs.FinMap.{get, same_map, nat_cmp-IsAntisymmetric}
-use Rattle.std.specs.Cmp.{nat_cmp_total}
-use Rattle.xk_base.specs.Frames.{copies}
-use Rattle.xk_base.proofs.Frames.{at, at-same, copies-nil, copies-one, same-cons}
-use Rattle.sv39_core.proofs.Places.{page-place}
+use Rattle.addr_space.proofs.Prelude.{[], ℕ, ◌%◌, ◌*◌, ◌++◌, ◌+◌, ◌-◌, ◌/◌, ◌<◌, ◌^◌, ◌∙◌, ◌∷◌, ◌≡◌, ◌≤◌, ap, arith, at, at-same, Belongs, Beside, cases_eq, cases_lt, Changed, cond, copies}
+use Rattle.addr_space.proofs.Prelude.{copies-nil, copies-one, Entry, frame_of, frames_of, free_in, Freed, gathered, gathered-get, get, Given, given-free, Holds, inl, inr, Invalid, IsSome, IsTree}
+use Rattle.addr_space.proofs.Prelude.{le-ltb, Leaf, length, List, listed-same, lowers, lt-ltb, ltb, nat_cmp-IsAntisymmetric, nat_cmp_total, None, NoneEmpty, Option, owned, page-place, page_at}
+use Rattle.addr_space.proofs.Prelude.{page_entry, page_frames, page_of, pages_of, Pool, refl, same-cons, same_map, Some, Space, subst, sym, Table, table_at, trade-join, Traded, uppers, Usual}
 use Rattle.addr_space.proofs.Empties.{listed-none}
-use Rattle.frame_list.specs.declared.Pool.{Pool}
-use Rattle.frame_list.specs.Pool.{free_in}
-use Rattle.frame_list.specs.Traded.{Given, Traded}
-use Rattle.sv39_core.specs.declared.entry.Entry.{Entry}
-use Rattle.sv39_core.specs.declared.entry.Entry.TheVariants.{Invalid, Table, Leaf}
-use Rattle.sv39_core.specs.Sv39.{table_at, page_entry}
-use Rattle.addr_space.specs.declared.Space.{Space}
-use Rattle.sv39_core.specs.Listed.{gathered}
-use Rattle.sv39_core.specs.Tree.{page_of, page_at, pages_of, frame_of, uppers, lowers, page_frames, owned, IsTree}
-use Rattle.addr_space.specs.Space.{NoneEmpty, frames_of, Belongs, Changed, Usual}
-use Rattle.addr_space.specs.Steps.{Beside, Freed, Holds}
-use Rattle.sv39_core.proofs.Listings.{listed-same}
-use Rattle.xk_base.proofs.Gathered.{gathered-get}
 use Rattle.addr_space.proofs.Paths.{beside-join, beside-none, leaves-after}
 use Rattle.addr_space.proofs.Prices.{length-kinds, some-of-is}
-use Rattle.frame_list.proofs.Trades.{trade-join, given-free}
 use Rattle.addr_space.proofs.Mapping.{counted}
 use Rattle.addr_space.proofs.Trades.{given-others}
 

@@ -1,20 +1,6 @@
 -- The frame of a page is written.
-use Rattle.std.proofs.Common.{◌≡◌, ℕ, ◌+◌, ◌*◌, ◌^◌, ◌<◌, ◌≤◌, Bool, List, length, set, Some, None, refl, sym, ap, ◌∙◌, arith}
-use Rattle.std.specs.FinMap.{get}
-use Rattle.xk_base.specs.declared.access.Rights.{Rights}
-use Rattle.xk_base.specs.Image.{Page, with_page}
-use Rattle.xk_base.specs.Bytes.{write_image}
-use Rattle.xk_base.proofs.Bytes.{write_image-page}
-use Rattle.phys_ram.specs.Ram.{frame_at, with_bytes}
-use Rattle.frame_list.specs.declared.Pool.{Pool}
-use Rattle.sv39_core.specs.declared.entry.Entry.{Entry}
-use Rattle.sv39_core.specs.declared.entry.Entry.TheVariants.{Invalid, Table, Leaf}
-use Rattle.sv39_core.specs.Sv39.{page_entry}
-use Rattle.sv39_core.specs.Tree.{frame_of, page_of}
-use Rattle.sv39_core.proofs.Places.{page-owned}
-use Rattle.addr_space.specs.declared.Space.{Space}
-use Rattle.addr_space.specs.Space.{image_of, IsSpace, Belongs, Changed}
-use Rattle.addr_space.specs.InPlace.{WrittenInPlace}
+use Rattle.addr_space.proofs.Prelude.{ℕ, ◌*◌, ◌+◌, ◌<◌, ◌^◌, ◌∙◌, ◌≡◌, ◌≤◌, ap, arith, Belongs, Bool, Changed, Entry, frame_at, frame_of, get, image_of, Invalid, IsSpace, Leaf, length, List, None}
+use Rattle.addr_space.proofs.Prelude.{Page, page-owned, page_entry, page_of, Pool, refl, Rights, set, Some, Space, sym, Table, with_bytes, with_page, write_image, write_image-page, WrittenInPlace}
 use Rattle.addr_space.proofs.Pages.{bytes-changed, bytes-image, page-is}
 use Rattle.addr_space.proofs.Prices.{page-got}
 use Rattle.addr_space.proofs.Copies.{set-stays, set-here}

@@ -1,12 +1,6 @@
 -- What a growth costs.
-use Rattle.std.proofs.Common.{◌≡◌, ◌≢◌, ℕ, zero, suc, ◌+◌, ◌-◌, ◌*◌, ◌/◌, ◌%◌, ◌^◌, ◌<◌, ◌≤◌, Bool, true, false, cond, is_some, None, inl, inr, ◌⊎◌, refl, ap, ◌∙◌, arith}
-use Rattle.std.proofs.lemmas.Bool.{cases_lt, cases_eq}
-use Rattle.std.specs.Ordering.{nat_cmp}
-use Rattle.std.specs.FinMap.{FinMap, empty, insert, get}
-use Rattle.xk_base.specs.Image.{Page, some_below, price}
-use Rattle.xk_base.proofs.Maps.{get_other}
-use Rattle.xk_base.proofs.Options.{none_from_is_some}
-use Rattle.addr_space.specs.Changes.{add_absent, with_absent}
+use Rattle.addr_space.proofs.Prelude.{ℕ, ◌%◌, ◌*◌, ◌+◌, ◌-◌, ◌/◌, ◌<◌, ◌^◌, ◌∙◌, ◌≡◌, ◌≢◌, ◌≤◌, ◌⊎◌, add_absent, ap, arith, Bool, cases_eq, cases_lt, cond, empty, false, FinMap, get, get_other, inl}
+use Rattle.addr_space.proofs.Prelude.{inr, insert, is_some, nat_cmp, None, none_from_is_some, Page, price, refl, some_below, suc, true, with_absent, zero}
 use Rattle.addr_space.proofs.Prices.{price-more, some-yes, some-found, some_below-same, insert-here}
 
 -- a page below t, of those that go into one table of each level

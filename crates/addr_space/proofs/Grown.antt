@@ -1,21 +1,10 @@
 -- The steps of a growth.
-use Rattle.std.proofs.Common.{◌≡◌, ℕ, suc, ◌+◌, ◌-◌, ◌<◌, ◌≤◌, Bool, true, false, cond, is_some, List, length, Option, Some, None, refl, sym, ap, ◌∙◌, arith}
-use Rattle.std.specs.Prelude.{option_map}
-use Rattle.std.specs.Ordering.{nat_cmp}
-use Rattle.std.specs.FinMap.{FinMap, insert, get}
-use Rattle.xk_base.specs.declared.access.Rights.{Rights}
-use Rattle.frame_list.specs.declared.Pool.{Pool}
-use Rattle.frame_list.specs.Pool.{free_in}
-use Rattle.addr_space.specs.declared.Space.{Space}
-use Rattle.xk_base.specs.Image.{Page, Image, price, with_page}
-use Rattle.addr_space.specs.Changes.{zeroed, with_absent, perm_of_page}
-use Rattle.sv39_core.specs.Tree.{pages_of}
-use Rattle.addr_space.specs.Space.{image_of, Belongs, Changed}
+use Rattle.addr_space.proofs.Prelude.{ℕ, ◌+◌, ◌-◌, ◌<◌, ◌∙◌, ◌≡◌, ◌≤◌, ap, arith, Belongs, Bool, Changed, cond, false, FinMap, free_in, get, Image, image_of, insert, is_some, length, List, nat_cmp}
+use Rattle.addr_space.proofs.Prelude.{None, Option, option_map, Page, pages_of, perm_of_page, Pool, price, refl, Rights, Some, Space, suc, sym, TranslationsStay, true, with_absent, with_page, zeroed}
 use Rattle.addr_space.proofs.Growing.{cost, later-more}
 use Rattle.addr_space.proofs.PriceTo.{cost-size}
 use Rattle.addr_space.proofs.Trades.{free-after, belongs-after}
 use Rattle.addr_space.proofs.Freeing.{changed-none, changed-join}
-use Rattle.addr_space.specs.Translations.{TranslationsStay}
 use Rattle.addr_space.proofs.Translations.{stays-none, stays-join}
 
 pub perm-none : (o : Option Page) → option_map perm_of_page o ≡ None → o ≡ None

@@ -1,12 +1,6 @@
 -- The root's entries for the upper half of the addresses stay clear.
-use Rattle.std.proofs.Common.{◌≡◌, ℕ, ◌<◌, ◌≤◌, false, List, Some, inl, inr, refl, sym, ap, ◌∙◌, arith}
-use Rattle.std.proofs.lemmas.Bool.{cases_eq}
-use Rattle.phys_ram.specs.Ram.{frame_at, word_at, WordWritten}
-use Rattle.phys_ram.proofs.Words.{word_at-same}
-use Rattle.sv39_core.specs.Sv39.{flag, table_at}
-use Rattle.sv39_core.specs.Tree.{IsTree}
-use Rattle.sv39_core.proofs.Places.{spot-of, table-owned}
-use Rattle.sv39_core.proofs.Owned.{Kept}
+use Rattle.addr_space.proofs.Prelude.{ℕ, ◌<◌, ◌∙◌, ◌≡◌, ◌≤◌, ap, arith, cases_eq, false, flag, frame_at, inl, inr, IsTree, Kept, List, refl, Some, spot-of, sym, table-owned, table_at, word_at}
+use Rattle.addr_space.proofs.Prelude.{word_at-same, WordWritten}
 
 abbrev pub Half : List (List ℕ) → ℕ → Type 0
 Half ram root = (p : ℕ) → 256 ≤ p → p < 512 → flag (word_at ram root p) 0 ≡ false

@@ -1,19 +1,7 @@
 -- Bytes of a space's pages are written.
-use Rattle.std.proofs.Common.{◌≡◌, ℕ, ◌+◌, ◌*◌, ◌/◌, ◌%◌, ◌^◌, ◌<◌, Bool, cond, List, length, Some, None, refl, sym, ap, ◌∙◌, subst, arith}
-use Rattle.xk_base.specs.Frames.{copies, Once}
-use Rattle.xk_base.specs.declared.access.Rights.{Rights}
-use Rattle.xk_base.specs.Bytes.{HasPage}
-use Rattle.phys_ram.specs.Ram.{OthersStay}
-use Rattle.sv39_core.specs.declared.entry.Entry.TheVariants.{Leaf}
-use Rattle.sv39_core.specs.Sv39.{page_entry, is_canonical, allowed, walked}
-use Rattle.sv39_core.specs.Tree.{frame_of, owned, page_at, pages_of}
-use Rattle.xk_base.proofs.Gathered.{gathered-get}
-use Rattle.sv39_core.proofs.Places.{page-owned}
-use Rattle.std.proofs.lemmas.Bool.{cases_lt, le-ltb}
-use Rattle.std.proofs.Common.{inl, inr}
-use Rattle.addr_space.specs.declared.Space.{Space}
-use Rattle.addr_space.specs.Space.{image_of, IsSpace, Usual}
-use Rattle.addr_space.specs.InPlace.{WrittenInPlace}
+use Rattle.addr_space.proofs.Prelude.{ℕ, ◌%◌, ◌*◌, ◌+◌, ◌/◌, ◌<◌, ◌^◌, ◌∙◌, ◌≡◌, allowed, ap, arith, Bool, cases_lt, cond, copies, frame_of, gathered-get, HasPage, image_of, inl, inr, is_canonical}
+use Rattle.addr_space.proofs.Prelude.{IsSpace, le-ltb, Leaf, length, List, None, Once, OthersStay, owned, page-owned, page_at, page_entry, pages_of, refl, Rights, Some, Space, subst, sym, Usual}
+use Rattle.addr_space.proofs.Prelude.{walked, WrittenInPlace}
 use Rattle.addr_space.proofs.Half.{half-still}
 use Rattle.addr_space.proofs.Prices.{length-kinds}
 use Rattle.addr_space.proofs.Pages.{SameTables, still-tables, still-entries, same-owned, same-pages, kept-but}

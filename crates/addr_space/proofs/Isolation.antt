@@ -1,14 +1,6 @@
 -- A change of one space leaves every other as it was.
-use Rattle.std.proofs.Common.{ℕ, ◌+◌, ◌<◌, ◌≤◌, ◌⊎◌, List, [], inl, inr, ap, arith}
-use Rattle.std.proofs.lemmas.Bool.{cases_lt}
-use Rattle.xk_base.specs.Frames.{copies}
-use Rattle.xk_base.proofs.Frames.{copies-nil}
-use Rattle.frame_list.specs.declared.Pool.{Pool}
-use Rattle.frame_list.specs.Pool.{free_in, Good}
-use Rattle.frame_list.specs.Traded.{Traded}
-use Rattle.sv39_core.proofs.Owned.{Kept, kept-pages, kept-image, kept-owned}
-use Rattle.addr_space.specs.declared.Space.{Space}
-use Rattle.addr_space.specs.Space.{frames_of, IsSpace, Belongs, IsStranger, Spared, Isolation}
+use Rattle.addr_space.proofs.Prelude.{[], ℕ, ◌+◌, ◌<◌, ◌≤◌, ◌⊎◌, ap, arith, Belongs, cases_lt, copies, copies-nil, frames_of, free_in, Good, inl, inr, Isolation, IsSpace, IsStranger, Kept, kept-image}
+use Rattle.addr_space.proofs.Prelude.{kept-owned, kept-pages, List, Pool, Space, Spared, Traded}
 use Rattle.addr_space.proofs.Copies.{space-kept, same-price}
 use Rattle.addr_space.proofs.Translations.{walks-same}
 

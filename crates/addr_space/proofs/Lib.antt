@@ -1,3 +1,4 @@
+mod Prelude
 pub mod Half
 pub mod Translations
 pub mod Isolation

@@ -1,16 +1,6 @@
 -- A space with a page more.
-use Rattle.std.proofs.Common.{◌≡◌, ℕ, ◌+◌, ◌-◌, ◌<◌, ◌≤◌, max, true, List, length, None, refl, sym, ap, ◌∙◌, subst, arith}
-use Rattle.xk_base.specs.declared.access.Rights.{Rights}
-use Rattle.std.specs.FinMap.{get}
-use Rattle.frame_list.specs.declared.Pool.{Pool}
-use Rattle.sv39_core.specs.declared.entry.Entry.TheVariants.{Leaf}
-use Rattle.sv39_core.specs.Sv39.{page_entry}
-use Rattle.addr_space.specs.declared.Space.{Space}
-use Rattle.xk_base.specs.Image.{Page, price, with_page}
-use Rattle.addr_space.specs.Changes.{zeroed}
-use Rattle.sv39_core.specs.Tree.{page_at, pages_of, frame_of}
-use Rattle.addr_space.specs.Steps.{PageAdded, rise, Beside}
-use Rattle.addr_space.specs.Space.{image_of, IsSpace, Changed, Usual}
+use Rattle.addr_space.proofs.Prelude.{ℕ, ◌+◌, ◌-◌, ◌<◌, ◌∙◌, ◌≡◌, ◌≤◌, ap, arith, Beside, Changed, frame_of, get, image_of, IsSpace, Leaf, length, List, max, None, Page, page_at, page_entry}
+use Rattle.addr_space.proofs.Prelude.{PageAdded, pages_of, Pool, price, refl, Rights, rise, Space, subst, sym, true, Usual, with_page, zeroed}
 use Rattle.addr_space.proofs.Prices.{page-got, price-rise, pages-more, length-owned, length-kinds}
 use Rattle.addr_space.proofs.Paths.{full-after, leaves-after}
 use Rattle.addr_space.proofs.Trades.{trade-added, space-counts, few}

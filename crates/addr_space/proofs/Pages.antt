@@ -1,26 +1,10 @@
 -- A page's bytes or permissions are written.
-use Rattle.std.proofs.Common.{◌≡◌, ◌≢◌, ℕ, zero, suc, ◌+◌, ◌*◌, ◌/◌, ◌%◌, ◌^◌, ◌<◌, ◌≤◌, Bool, true, List, ◌∷◌, ◌++◌, length, Option, Some, None, inl, inr, refl, sym, ap, ◌∙◌, subst, arith}
-use Rattle.std.proofs.lemmas.Bool.{cases_eq}
-use Rattle.xk_base.specs.Frames.{copies, Once}
-use Rattle.xk_base.specs.declared.access.Rights.{Rights}
-use Rattle.phys_ram.specs.Ram.{frame_at, word_at, OthersStay, WordWritten}
-use Rattle.phys_ram.proofs.Words.{word_at-same}
-use Rattle.frame_list.specs.declared.Pool.{Pool}
-use Rattle.frame_list.specs.Pool.{free_in}
-use Rattle.frame_list.proofs.FreeList.{free_in-written, Good-written}
-use Rattle.sv39_core.specs.declared.entry.Entry.TheVariants.{Leaf}
-use Rattle.sv39_core.specs.Sv39.{given, entry_of, entry_at, table_of, below, table_at, last, page_entry, leaf_word}
-use Rattle.xk_base.specs.Access.{is_perm}
-use Rattle.sv39_core.proofs.Words.{entry_of-leaf_word}
-use Rattle.addr_space.specs.declared.Space.{Space}
-use Rattle.xk_base.specs.Image.{Page, with_page}
-use Rattle.sv39_core.specs.Tree.{page_of, page_at, pages_of, frame_of, uppers, lowers, page_frames, owned, IsTree}
-use Rattle.addr_space.specs.Space.{image_of, frames_of, IsSpace, Belongs, Changed, Usual}
-use Rattle.sv39_core.proofs.Listings.{listed-same}
-use Rattle.sv39_core.proofs.Places.{page-place, page-owned, page-apart, table-owned, spot-of, one-page}
-use Rattle.sv39_core.proofs.Owned.{page_of-same}
+use Rattle.addr_space.proofs.Prelude.{ℕ, ◌%◌, ◌*◌, ◌++◌, ◌+◌, ◌/◌, ◌<◌, ◌^◌, ◌∙◌, ◌∷◌, ◌≡◌, ◌≢◌, ◌≤◌, ap, arith, Belongs, below, Bool, cases_eq, Changed, copies, entry_at, entry_of}
+use Rattle.addr_space.proofs.Prelude.{entry_of-leaf_word, frame_at, frame_of, frames_of, free_in, free_in-written, given, Good-written, image_of, inl, inr, is_perm, IsSpace, IsTree, last, Leaf}
+use Rattle.addr_space.proofs.Prelude.{leaf-here, leaf-others, leaf-tables, leaf_word, length, List, listed-same, lowers, None, Once, one-page, Option, OthersStay, owned, Page, page-apart, page-owned}
+use Rattle.addr_space.proofs.Prelude.{page-place, page_at, page_entry, page_frames, page_of, page_of-same, pages_of, Pool, refl, Rights, Some, Space, spot-of, subst, suc, sym, table-owned, table_at}
+use Rattle.addr_space.proofs.Prelude.{table_of, true, uppers, Usual, with_page, word_at, word_at-same, WordWritten, zero}
 use Rattle.addr_space.proofs.Steps.{gathered-insert, table-write-image}
-use Rattle.sv39_core.proofs.Tree.{leaf-tables, leaf-here, leaf-others}
 use Rattle.addr_space.proofs.Prices.{length-kinds}
 use Rattle.addr_space.proofs.Half.{Half, half-still, half-written, not-root}
 

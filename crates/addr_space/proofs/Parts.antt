@@ -1,14 +1,10 @@
 -- Bytes across pages, part by part.
-use Rattle.std.proofs.Common.{◌≡◌, ℕ, zero, suc, ◌+◌, ◌-◌, ◌/◌, ◌%◌, ◌<◌, ◌≤◌, List, [], ◌∷◌, ◌++◌, length, map, take, drop, get_or, replicate, Some, None, refl, sym, ap, ◌∙◌, arith}
-use Rattle.std.specs.List.{range_with_len}
-use Rattle.std.specs.FinMap.{get}
+use Rattle.addr_space.proofs.Prelude.{[], ℕ, ◌%◌, ◌++◌, ◌+◌, ◌-◌, ◌/◌, ◌<◌, ◌∙◌, ◌∷◌, ◌≡◌, ◌≤◌, ap, append-nil, append_assoc, arith, byte_in, drop, get, get_or, get_or-drop, get_or-take, Image}
+use Rattle.addr_space.proofs.Prelude.{image_byte, image_bytes, length, length-drop, length-replicate, length-take-le, List, map, None, Page, range_with_len, refl, replicate, Some, suc, sym, take}
+use Rattle.addr_space.proofs.Prelude.{write_image, write_image-append, zero}
 use Rattle.std.proofs.Math.Seq.{take-add}
-use Rattle.std.proofs.lemmas.List.{length-replicate, length-take-le, length-drop, get_or-take, get_or-drop, append-nil, append_assoc}
 use Rattle.std.proofs.lemmas.List.FromFn.{fill_by_all, length-map-range_with_len, get_or-map-range_with_len, map-range_with_len_more}
 use Rattle.std.proofs.Math.Nat.{add-zero}
-use Rattle.xk_base.specs.Image.{Page, Image}
-use Rattle.xk_base.specs.Bytes.{byte_in, image_byte, image_bytes, write_image}
-use Rattle.xk_base.proofs.Bytes.{write_image-append}
 
 -- a list that agrees with a function at each place
 listed : (n v : ℕ) (f : ℕ → ℕ) (bytes : List ℕ) → length bytes ≡ n → ((k : ℕ) → k < n → f (v + k) ≡ get_or bytes k 0) → map f (range_with_len v n) ≡ bytes

@@ -1,18 +1,7 @@
 -- What stays beside the way to a page.
-use Rattle.std.proofs.Common.{◌≡◌, ℕ, ◌+◌, ◌*◌, ◌/◌, ◌%◌, ◌<◌, true, List, length, Some, None, inl, inr, refl, sym, ap, ◌∙◌, subst, arith}
-use Rattle.std.proofs.lemmas.Bool.{cases_eq}
-use Rattle.xk_base.specs.declared.access.Rights.{Rights}
-use Rattle.frame_list.specs.declared.Pool.{Pool}
-use Rattle.sv39_core.specs.declared.entry.Entry.TheVariants.{Leaf}
-use Rattle.sv39_core.specs.Sv39.{table_at, page_entry, leaf_word}
-use Rattle.sv39_core.proofs.Words.{entry_of-leaf_word}
-use Rattle.xk_base.specs.Access.{is_perm}
-use Rattle.sv39_core.specs.Tree.{frame_of}
-use Rattle.addr_space.specs.Steps.{Holds, Hanging, Placing, Beside}
-use Rattle.addr_space.specs.Space.{NoneEmpty, Usual}
-use Rattle.sv39_core.proofs.Tree.{hung-others, hung-pages, leaf-tables, leaf-here, leaf-others}
-use Rattle.sv39_core.proofs.Places.{spot-of}
-use Rattle.sv39_core.proofs.Owned.{kept-tables, kept-pages}
+use Rattle.addr_space.proofs.Prelude.{ℕ, ◌%◌, ◌*◌, ◌+◌, ◌/◌, ◌<◌, ◌∙◌, ◌≡◌, ap, arith, Beside, cases_eq, entry_of-leaf_word, frame_of, Hanging, Holds, hung-others, hung-pages, inl, inr, is_perm}
+use Rattle.addr_space.proofs.Prelude.{kept-pages, kept-tables, Leaf, leaf-here, leaf-others, leaf-tables, leaf_word, length, List, None, NoneEmpty, page_entry, Placing, Pool, refl, Rights, Some}
+use Rattle.addr_space.proofs.Prelude.{spot-of, subst, sym, table_at, true, Usual}
 use Rattle.addr_space.proofs.Steps.{after-take, hung-of}
 use Rattle.addr_space.proofs.Prices.{page-lower}
 

@@ -1,14 +1,6 @@
 -- What a page permits, read off its entry in a lower table.
-use Rattle.std.proofs.Common.{◌≡◌, ℕ, ◌+◌, ◌*◌, ◌/◌, ◌%◌, ◌^◌, ◌<◌, List, Some, None, false, refl, sym, ap, ◌∙◌, arith}
-use Rattle.std.specs.FinMap.{get}
-use Rattle.xk_base.specs.declared.access.Access.{Access}
-use Rattle.sv39_core.specs.Sv39.{entry_at, entry_permits, table_at, page_entry, last}
-use Rattle.sv39_core.specs.Tree.{page_of}
-use Rattle.sv39_core.specs.declared.entry.Entry.{Entry}
-use Rattle.sv39_core.specs.declared.entry.Entry.TheVariants.{Invalid, Table, Leaf}
-use Rattle.addr_space.specs.declared.Space.{Space}
-use Rattle.addr_space.specs.Space.{image_of, IsSpace, Usual}
-use Rattle.addr_space.specs.Permits.{page_permits}
+use Rattle.addr_space.proofs.Prelude.{ℕ, ◌%◌, ◌*◌, ◌+◌, ◌/◌, ◌<◌, ◌^◌, ◌∙◌, ◌≡◌, Access, ap, arith, Entry, entry_at, entry_permits, false, get, image_of, Invalid, IsSpace, last, Leaf, List, None}
+use Rattle.addr_space.proofs.Prelude.{page_entry, page_of, page_permits, refl, Some, Space, sym, Table, table_at, Usual}
 use Rattle.addr_space.proofs.Prices.{page-got}
 use Rattle.addr_space.proofs.Clearing.{entry-page}
 

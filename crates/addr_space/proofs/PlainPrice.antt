@@ -1,13 +1,7 @@
 -- The price that counts groups is the one that counts different numbers.
-use Rattle.std.proofs.Common.{◌≡◌, ◌≢◌, ℕ, zero, suc, ◌+◌, ◌*◌, ◌/◌, ◌%◌, ◌^◌, ◌<◌, ◌||◌, Bool, true, false, cond, eqb, is_some, List, None, [], ◌∷◌, map, inl, inr, refl, sym, ap, ◌∙◌, arith}
-use Rattle.std.proofs.lemmas.Bool.{cases_eq, cases_lt, false≢true, eq-eqb, le-ltb, ne_eqb, or_right}
-use Rattle.std.specs.List.{list_any}
-use Rattle.std.specs.Ordering.{nat_cmp, eq_by_cmp}
-use Rattle.std.specs.FinMap.{FinMap, get, keys, contains_key-keys}
-use Rattle.std.specs.Cmp.{unsigned_tied}
-use Rattle.sv39_core.specs.Tree.{page_at, pages_of, IsTree}
-use Rattle.xk_base.specs.Words.{count_below}
-use Rattle.xk_base.specs.Image.{Page, Image, some_below, groups, price}
+use Rattle.addr_space.proofs.Prelude.{[], ℕ, ◌%◌, ◌*◌, ◌+◌, ◌/◌, ◌<◌, ◌^◌, ◌||◌, ◌∙◌, ◌∷◌, ◌≡◌, ◌≢◌, ap, arith, Bool, cases_eq, cases_lt, cond, contains_key-keys, count_below, eq-eqb, eq_by_cmp, eqb}
+use Rattle.addr_space.proofs.Prelude.{false, false≢true, FinMap, get, groups, Image, inl, inr, is_some, IsTree, keys, le-ltb, List, list_any, map, nat_cmp, ne_eqb, None, or_right, Page, page_at}
+use Rattle.addr_space.proofs.Prelude.{pages_of, price, refl, some_below, suc, sym, true, unsigned_tied, zero}
 use Rattle.addr_space.specs.PlainPrice.{distinct, plain_price}
 use Rattle.addr_space.proofs.Prices.{how_many, how_many-same, how_many-more, some-yes, some-found, same_test, has}
 

@@ -1,16 +1,7 @@
 -- The steps of a price: a run of pages without a table, and one page in a table.
-use Rattle.std.proofs.Common.{◌≡◌, ◌≢◌, ℕ, zero, suc, ◌+◌, ◌-◌, ◌*◌, ◌/◌, ◌%◌, ◌<◌, ◌≤◌, true, cond, is_some, List, Option, Some, None, inl, inr, refl, sym, ap, ◌∙◌, arith}
-use Rattle.std.proofs.lemmas.Bool.{cases_eq, cases_lt}
-use Rattle.std.specs.Ordering.{nat_cmp}
-use Rattle.std.specs.FinMap.{FinMap, get}
-use Rattle.sv39_core.specs.declared.entry.Entry.{Entry}
-use Rattle.sv39_core.specs.declared.entry.Entry.TheVariants.{Invalid, Table, Leaf}
-use Rattle.sv39_core.specs.Sv39.{table_at, page_entry, last}
-use Rattle.xk_base.specs.Image.{Page, price}
-use Rattle.addr_space.specs.Changes.{with_absent}
-use Rattle.sv39_core.specs.Tree.{page_of, pages_of, frame_of, IsTree}
-use Rattle.addr_space.specs.Space.{NoneEmpty}
-use Rattle.sv39_core.proofs.Places.{below-some, no-lower}
+use Rattle.addr_space.proofs.Prelude.{ℕ, ◌%◌, ◌*◌, ◌+◌, ◌-◌, ◌/◌, ◌<◌, ◌∙◌, ◌≡◌, ◌≢◌, ◌≤◌, ap, arith, below-some, cases_eq, cases_lt, cond, Entry, FinMap, frame_of, get, inl, inr, Invalid, is_some}
+use Rattle.addr_space.proofs.Prelude.{IsTree, last, Leaf, List, nat_cmp, no-lower, None, NoneEmpty, Option, Page, page_entry, page_of, pages_of, price, refl, Some, suc, sym, Table, table_at, true}
+use Rattle.addr_space.proofs.Prelude.{with_absent, zero}
 use Rattle.addr_space.proofs.Prices.{lower-test, upper-test, page-got}
 use Rattle.addr_space.proofs.Growing.{low, high, cost, high-old, high-new, cost-run, cost-one, absent-there}
 use Rattle.addr_space.proofs.Freeing.{page-none}

@@ -1,24 +1,9 @@
 -- The owned frames are as many as the image's price.
-use Rattle.std.proofs.Common.{◌≡◌, ◌≢◌, ℕ, zero, suc, ◌+◌, ◌-◌, ◌*◌, ◌/◌, ◌%◌, ◌^◌, ◌<◌, ◌≤◌, ◌||◌, Bool, true, false}
-use Rattle.std.proofs.Common.{cond, ltb, is_some, List, ◌++◌, length, Option, Some, None, inl, inr, refl, sym, ap, ◌∙◌, arith}
-use Rattle.std.proofs.lemmas.List.{length-append}
-use Rattle.std.proofs.lemmas.Bool.{cases_lt, cases_eq, false≢true, le-ltb, lt-ltb, or_right}
-use Rattle.std.specs.Ordering.{nat_cmp}
-use Rattle.std.specs.FinMap.{FinMap, insert, get, len, len-empty, len-insert, get-insert}
-use Rattle.std.specs.Cmp.{nat_cmp_total}
-use Rattle.sv39_core.specs.declared.entry.Entry.{Entry}
-use Rattle.sv39_core.specs.declared.entry.Entry.TheVariants.{Invalid, Table, Leaf}
-use Rattle.sv39_core.specs.Sv39.{last, table_at, page_entry}
-use Rattle.sv39_core.specs.Listed.{push_some, listed, insert_some, gathered}
-use Rattle.xk_base.specs.Words.{count_below}
-use Rattle.xk_base.specs.Image.{Page, some_below, groups, price}
-use Rattle.sv39_core.specs.Tree.{page_of, page_at, pages_of, frame_of, uppers, lowers, page_frames, owned, IsTree}
-use Rattle.addr_space.specs.Steps.{missing, rise}
-use Rattle.addr_space.specs.Space.{NoneEmpty}
-use Rattle.xk_base.proofs.Gathered.{gathered-get, tie-yes}
-use Rattle.xk_base.proofs.Maps.{get_other}
-use Rattle.xk_base.proofs.Options.{none_from_is_some}
-use Rattle.sv39_core.proofs.Places.{page-place, below-some}
+use Rattle.addr_space.proofs.Prelude.{ℕ, ◌%◌, ◌*◌, ◌++◌, ◌+◌, ◌-◌, ◌/◌, ◌<◌, ◌^◌, ◌||◌, ◌∙◌, ◌≡◌, ◌≢◌, ◌≤◌, ap, arith, below-some, Bool, cases_eq, cases_lt, cond, count_below, Entry, false}
+use Rattle.addr_space.proofs.Prelude.{false≢true, FinMap, frame_of, gathered, gathered-get, get, get-insert, get_other, groups, inl, inr, insert, insert_some, Invalid, is_some, IsTree, last, le-ltb}
+use Rattle.addr_space.proofs.Prelude.{Leaf, len, len-empty, len-insert, length, length-append, List, listed, lowers, lt-ltb, ltb, missing, nat_cmp, nat_cmp_total, None, none_from_is_some, NoneEmpty}
+use Rattle.addr_space.proofs.Prelude.{Option, or_right, owned, Page, page-place, page_at, page_entry, page_frames, page_of, pages_of, price, push_some, refl, rise, Some, some_below, suc, sym, Table}
+use Rattle.addr_space.proofs.Prelude.{table_at, tie-yes, true, uppers, zero}
 
 -- the count, with the bound first
 abbrev pub how_many : ℕ → (ℕ → Bool) → ℕ

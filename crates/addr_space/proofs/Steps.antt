@@ -1,32 +1,12 @@
 -- The steps by which a page comes into a space: a frame is taken, and a word of a table is written.
-use Rattle.std.proofs.Common.{◌≡◌, ◌≢◌, ℕ, suc, ◌+◌, ◌*◌, ◌^◌, ◌<◌, ◌≤◌, true, cond, ltb, List, ◌∷◌, length, Option, Some, None, inl, inr, refl, sym, ap, ◌∙◌, arith}
-use Rattle.std.proofs.lemmas.Bool.{cases_eq, lt-ltb}
-use Rattle.xk_base.specs.Frames.{copies}
-use Rattle.xk_base.specs.declared.access.Rights.{Rights}
-use Rattle.xk_base.proofs.Frames.{length-same, at, at-same, copies-nil, same-cons, Once-more, SameFrames}
-use Rattle.phys_ram.specs.Ram.{frame_at, word_at, zero_frame, OthersStay, WordWritten}
-use Rattle.phys_ram.proofs.Words.{word_at-zero}
-use Rattle.frame_list.specs.declared.Pool.{Pool}
-use Rattle.frame_list.specs.Pool.{free_in, Good}
-use Rattle.frame_list.specs.Traded.{Taken}
-use Rattle.frame_list.proofs.FreeList.{free_in-written, Good-written}
-use Rattle.frame_list.proofs.Trades.{taken-free}
+use Rattle.addr_space.proofs.Prelude.{ℕ, ◌*◌, ◌+◌, ◌<◌, ◌^◌, ◌∙◌, ◌∷◌, ◌≡◌, ◌≢◌, ◌≤◌, ap, arith, at, at-same, cases_eq, cond, copies, copies-nil, Entry, entry_of, entry_of-leaf_word}
+use Rattle.addr_space.proofs.Prelude.{entry_of-table_word, entry_of-zero, frame_at, frame_of, free_in, free_in-written, gathered, gathered-get, get, get-insert, Good, Good-written, Hanging, Holds}
+use Rattle.addr_space.proofs.Prelude.{Hung, hung-here, hung-others, hung-owned-lower, hung-owned-upper, hung-pages, inl, inr, insert, Invalid, is_perm, IsTree, Kept, kept-image, kept-owned}
+use Rattle.addr_space.proofs.Prelude.{kept-pages, kept-tables, Leaf, leaf-here, leaf-others, leaf-owned, leaf_word, length, length-same, List, lower-place, lt-ltb, ltb, nat_cmp-IsAntisymmetric}
+use Rattle.addr_space.proofs.Prelude.{nat_cmp_total, None, Once-more, Option, OthersStay, owned, Page, page-apart, page_at, page_entry, page_of, page_of-same, PageAdded, pages_of, Placing, Pool, refl}
+use Rattle.addr_space.proofs.Prelude.{Rights, same-cons, same_map, SameFrames, SameImage, Some, spot-of, suc, sym, Table, table-owned, table_at, table_of, table_word, Taken, taken-free, tie-no}
+use Rattle.addr_space.proofs.Prelude.{tie-yes, true, word_at, word_at-zero, WordWritten, zero_frame}
 use Rattle.addr_space.proofs.Half.{Half, half-kept, half-written, not-root}
-use Rattle.xk_base.proofs.Gathered.{gathered-get, tie-yes, tie-no}
-use Rattle.sv39_core.specs.declared.entry.Entry.{Entry}
-use Rattle.sv39_core.specs.declared.entry.Entry.TheVariants.{Invalid, Table, Leaf}
-use Rattle.sv39_core.specs.Sv39.{entry_of, table_of, table_at, page_entry, leaf_word, table_word}
-use Rattle.sv39_core.proofs.Words.{entry_of-zero, entry_of-table_word, entry_of-leaf_word}
-use Rattle.xk_base.specs.Access.{is_perm}
-use Rattle.xk_base.specs.Image.{Page}
-use Rattle.sv39_core.specs.Tree.{page_of, page_at, pages_of, frame_of, owned, IsTree}
-use Rattle.addr_space.specs.Steps.{Holds, SameImage, Hanging, Placing, PageAdded}
-use Rattle.std.specs.FinMap.{insert, get, get-insert, same_map, nat_cmp-IsAntisymmetric}
-use Rattle.std.specs.Cmp.{nat_cmp_total}
-use Rattle.sv39_core.specs.Listed.{gathered}
-use Rattle.sv39_core.proofs.Tree.{Hung, hung-here, hung-others, hung-pages, leaf-here, leaf-others}
-use Rattle.sv39_core.proofs.Places.{lower-place, spot-of, table-owned, page-apart}
-use Rattle.sv39_core.proofs.Owned.{Kept, kept-tables, kept-pages, kept-image, kept-owned, page_of-same, hung-owned-upper, hung-owned-lower, leaf-owned}
 
 -- a frame that is taken changes nothing of the tree
 pub taken-kept : (pool pool' : Pool) (ram ram' : List (List ℕ)) (root g : ℕ) → Holds pool ram root → length ram' ≡ length ram → Taken pool ram pool' ram' g → Kept ram ram' root

@@ -1,25 +1,10 @@
 -- What a touch makes of an image: a run of pages, each added where there was none, is what was to be touched and absent.
-use Rattle.std.proofs.Common.{◌≡◌, ◌≢◌, ℕ, zero, suc, ◌+◌, ◌-◌, ◌*◌, ◌/◌, ◌%◌, ◌^◌, ◌<◌, ◌≤◌, Bool, true, false, not}
-use Rattle.std.proofs.Common.{◌&&◌, ◌||◌, cond, ltb, is_some, List, Option, Some, None, inl, inr, ◌⊎◌, refl, sym, ap, ◌∙◌, arith}
-use Rattle.std.proofs.lemmas.Bool.{cases_lt, cases_eq, false≢true, eq-eqb, ne_eqb, le-ltb, lt-ltb, and_right}
+use Rattle.addr_space.proofs.Prelude.{[], ℕ, ◌%◌, ◌&&◌, ◌*◌, ◌+◌, ◌-◌, ◌/◌, ◌<◌, ◌^◌, ◌||◌, ◌∙◌, ◌∷◌, ◌≡◌, ◌≢◌, ◌≤◌, ◌⊎◌, all_pages, and_right, ap, arith, Bool, bring, brought, byte_in, cases_eq}
+use Rattle.addr_space.proofs.Prelude.{cases_lt, cond, data_rights, eq-eqb, false, false≢true, filled, FinMap, gathered-get, get, get-insert, get_other, get_same, Image, image_byte, image_bytes}
+use Rattle.addr_space.proofs.Prelude.{image_of, inl, inr, insert, is_absent, is_among, is_some, le-ltb, List, lt-ltb, ltb, nat_cmp, nat_cmp-IsAntisymmetric, nat_cmp_total, ne_eqb, None, not, Option}
+use Rattle.addr_space.proofs.Prelude.{option_map, Page, page_at, pages_at, pages_of, perm_of_page, range_with_len, refl, replicate, Rights, same_map, slice_index, Some, Space, suc, sym, tie-yes, true}
+use Rattle.addr_space.proofs.Prelude.{whole, with_absent, with_page, zero, zero_frame, zeroed}
 use Prim.Native.Nat.{min}
-use Rattle.std.specs.Ordering.{nat_cmp}
-use Rattle.std.specs.FinMap.{FinMap, insert, get, get-insert, same_map, nat_cmp-IsAntisymmetric}
-use Rattle.std.specs.Cmp.{nat_cmp_total}
-use Rattle.std.specs.List.{range_with_len}
-use Rattle.std.specs.Prelude.{option_map, slice_index, replicate, [], ◌∷◌}
-use Rattle.xk_base.specs.Access.{data_rights}
-use Rattle.xk_base.specs.Bytes.{byte_in, image_byte, image_bytes}
-use Rattle.phys_ram.specs.Ram.{zero_frame}
-use Rattle.xk_base.specs.declared.access.Rights.{Rights}
-use Rattle.xk_base.specs.Image.{Page, Image, with_page}
-use Rattle.sv39_core.specs.Tree.{pages_of, page_at}
-use Rattle.xk_base.proofs.Gathered.{gathered-get, tie-yes}
-use Rattle.xk_base.proofs.Maps.{get_other, get_same}
-use Rattle.addr_space.specs.declared.Space.{Space}
-use Rattle.addr_space.specs.Changes.{zeroed, with_absent, filled, perm_of_page}
-use Rattle.addr_space.specs.Absent.{is_absent, is_among, pages_at, bring, brought, all_pages, whole}
-use Rattle.addr_space.specs.Space.{image_of}
 use Rattle.addr_space.proofs.Growing.{absent-out}
 
 -- a page that comes

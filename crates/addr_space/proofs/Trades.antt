@@ -1,22 +1,8 @@
 -- Frames that go between the pool and a holder.
-use Rattle.std.proofs.Common.{◌≡◌, ◌≢◌, ℕ, zero, suc, ◌+◌, ◌^◌, ◌<◌, ◌≤◌, min, List, length, Option, Some, None, inl, inr, sym, ◌∙◌, arith}
-use Rattle.std.proofs.lemmas.Bool.{cases_lt}
+use Rattle.addr_space.proofs.Prelude.{ℕ, ◌+◌, ◌<◌, ◌^◌, ◌∙◌, ◌≡◌, ◌≢◌, ◌≤◌, arith, at-other, Belongs, cases_lt, Changed, copies, copies-nil, copies-one, frame_at, frame_of, frames_of, free_in, Given}
+use Rattle.addr_space.proofs.Prelude.{Good, image_of, inl, inr, IsSpace, IsTree, length, length-once, List, listed, lowers, Made, min, None, Option, owned, page_entry, page_frames, PageAdded, Pool}
+use Rattle.addr_space.proofs.Prelude.{price, push_some, Rights, Some, Space, suc, sym, table_at, trade-lengths, Traded, uppers, zero}
 use Rattle.xk_base.specs.declared.limits.TheConstants.{SIZE_LIMIT}
-use Rattle.xk_base.specs.Frames.{copies}
-use Rattle.xk_base.proofs.Frames.{at-other, copies-nil, copies-one, length-once}
-use Rattle.xk_base.specs.declared.access.Rights.{Rights}
-use Rattle.phys_ram.specs.Ram.{frame_at}
-use Rattle.frame_list.specs.declared.Pool.{Pool}
-use Rattle.frame_list.specs.Pool.{free_in, Good}
-use Rattle.addr_space.specs.declared.Space.{Space}
-use Rattle.sv39_core.specs.Listed.{push_some, listed}
-use Rattle.sv39_core.specs.Sv39.{table_at, page_entry}
-use Rattle.sv39_core.specs.Tree.{frame_of, uppers, lowers, page_frames, owned, IsTree}
-use Rattle.addr_space.specs.Steps.{PageAdded}
-use Rattle.xk_base.specs.Image.{price}
-use Rattle.addr_space.specs.Space.{image_of, frames_of, IsSpace, Belongs, Changed, Made}
-use Rattle.frame_list.specs.Traded.{Traded, Given}
-use Rattle.frame_list.proofs.Trades.{trade-lengths}
 use Rattle.addr_space.proofs.Prices.{length-owned, length-kinds}
 
 pub trade-added : (pool pool' : Pool) (ram ram' : List (List ℕ)) (root v : ℕ) (perm : Rights) → PageAdded pool ram pool' ram' root v perm

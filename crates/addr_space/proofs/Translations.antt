@@ -1,19 +1,9 @@
 -- Where accesses lead after a change of the tables: only the last entry on the way to a page tells.
-use Rattle.std.proofs.Common.{◌≡◌, ℕ, ◌-◌, ◌*◌, ◌/◌, ◌%◌, ◌^◌, ◌<◌, ◌≤◌, min, ◌⊎◌, eqb, false, cond, List, Some, None, inl, inr, refl, sym, ap, ◌∙◌, subst, arith}
-use Rattle.std.proofs.lemmas.Bool.{cases_eq, cases_lt, ne_eqb}
-use Rattle.xk_base.specs.declared.access.Access.{Access}
-use Rattle.xk_base.proofs.Options.{none_either_way}
-use Rattle.sv39_core.specs.declared.entry.Entry.{Entry}
-use Rattle.sv39_core.specs.declared.entry.Entry.TheVariants.{Invalid, Table, Leaf}
-use Rattle.sv39_core.specs.Sv39.{is_canonical, allowed, page_entry, walked}
-use Rattle.sv39_core.specs.Tree.{page_of, page_at, frame_of}
+use Rattle.addr_space.proofs.Prelude.{ℕ, ◌%◌, ◌*◌, ◌-◌, ◌/◌, ◌<◌, ◌^◌, ◌∙◌, ◌≡◌, ◌≤◌, ◌⊎◌, Access, allowed, ap, arith, Beside, cases_eq, cases_lt, cond, Entry, eqb, false, frame_of, inl, inr, Invalid}
+use Rattle.addr_space.proofs.Prelude.{is_canonical, IsSpace, Leaf, List, min, ne_eqb, None, none_either_way, page-place, page_at, page_entry, page_of, refl, Some, Space, subst, sym, Table}
+use Rattle.addr_space.proofs.Prelude.{TranslationsStay, walked, WalksStay, WalksStayBelow, WalksStayBeside}
 use Rattle.sv39_core.proofs.Walks.{walked-not_canonical}
-use Rattle.sv39_core.proofs.Places.{page-place}
 use Rattle.std.specs.Int.{bit_at}
-use Rattle.addr_space.specs.Translations.{TranslationsStay, WalksStay, WalksStayBelow, WalksStayBeside}
-use Rattle.addr_space.specs.Steps.{Beside}
-use Rattle.addr_space.specs.Space.{IsSpace}
-use Rattle.addr_space.specs.declared.Space.{Space}
 use Rattle.addr_space.proofs.Freeing.{none-of, page-none}
 
 pub walk-same : (ram ram' : List (List ℕ)) (root va : ℕ) (access : Access)

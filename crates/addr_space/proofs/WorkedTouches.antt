@@ -1,13 +1,6 @@
 -- Worked cases of absent pages. An image of size 12289 ends with one byte in its fourth page, page 3.
-use Rattle.std.proofs.Common.{◌≡◌, ℕ, true, false, not, cond, is_some, List, Some, None, refl, ap, ◌∙◌, arith}
-use Rattle.std.specs.Prelude.{[], ◌∷◌}
-use Rattle.std.specs.Ordering.{nat_cmp}
-use Rattle.std.specs.Cmp.{nat_cmp_total}
-use Rattle.std.specs.FinMap.{FinMap, empty, insert, get, get-empty, get-insert}
-use Rattle.xk_base.specs.Image.{Page, Image, with_page}
-use Rattle.phys_ram.specs.Ram.{zero_frame}
-use Rattle.xk_base.proofs.Gathered.{tie-yes}
-use Rattle.addr_space.specs.Absent.{is_absent, grown_lazily, pages_at, brought, whole}
+use Rattle.addr_space.proofs.Prelude.{[], ℕ, ◌∙◌, ◌∷◌, ◌≡◌, ap, arith, brought, cond, empty, false, FinMap, get, get-empty, get-insert, grown_lazily, Image, insert, is_absent, is_some, List, nat_cmp}
+use Rattle.addr_space.proofs.Prelude.{nat_cmp_total, None, not, Page, pages_at, refl, Some, tie-yes, true, whole, with_page, zero_frame}
 use Rattle.addr_space.proofs.Touching.{brought-size, brought-get, whole-get}
 
 abbrev pub bare : Image

@@ -1,3 +1,4 @@
+mod Prelude
 pub mod worked
 pub mod turns
 pub mod runs

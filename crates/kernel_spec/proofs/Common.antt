@@ -1,22 +1,9 @@
 -- Small facts that several files need: of options, truth values, lists and counts, and of what is read off a process or a view.
-use Rattle.std.proofs.Common.{◌≡◌, ◌≢◌, ℕ, zero, suc, ◌+◌, ◌<◌, Bool, true, false, cond, ◌||◌, ◌&&◌, List, ◌∷◌, refl, ap, sym, ◌∙◌, arith, inl, inr, [], length, ◌≤◌}
-use Rattle.std.specs.Prelude.{Option, None, Some, IsSome, is_some, option_map, Result, Ok, nat_lt}
-use Rattle.std.specs.FinMap.{keys}
-use Rattle.std.proofs.lemmas.Bool.{eqb-true, ltb-true, false≢true, ltb-false}
-use Rattle.std.proofs.lemmas.Bool.Decides.{eqb_tells}
-use Rattle.std.proofs.lemmas.Option.{same_Some, none-some}
-use Rattle.xk_base.specs.declared.limits.TheConstants.{NOFILE}
+use Rattle.kernel_spec.proofs.Prelude.{[], ℕ, ◌&&◌, ◌+◌, ◌<◌, ◌>>=◌, ◌>>◌, ◌or◌, ◌when◌, ◌||◌, ◌∙◌, ◌∷◌, ◌≡◌, ◌≢◌, ◌≤◌, Alive, ap, arith, Bool, child_of, cond, count_below, Descriptors, eqb-true}
+use Rattle.kernel_spec.proofs.Prelude.{eqb_tells, false, false≢true, inl, inr, is_same, is_some, is_this, IsSome, keys, length, List, Live, live_part, ltb-false, ltb-true, marked, named, nat_lt}
+use Rattle.kernel_spec.proofs.Prelude.{NOFILE, None, none-some, numbered, Ok, Option, option_map, Own, Process, refl, rename, Result, same_Some, Some, State, suc, sum_below, sym, true, View, view_of}
+use Rattle.kernel_spec.proofs.Prelude.{zero, Zombie}
 pub use Rattle.xk_base.proofs.Options.{none_from_is_some, none_from_is_none, none_either_way}
-use Rattle.xk_base.specs.Words.{count_below}
-use Rattle.kernel_spec.specs.views.Words.{is_this}
-use Rattle.kernel_spec.specs.views.Processes.{Process, Alive, Zombie, Live}
-use Rattle.kernel_spec.specs.views.State.{State, live_part}
-use Rattle.kernel_spec.specs.views.View.{View, Descriptors, view_of, child_of, named, numbered, rename}
-use Rattle.kernel_spec.specs.views.WellFormed.{sum_below}
-use Rattle.kernel_spec.specs.others.Quiet.{is_same}
-use Rattle.kernel_spec.specs.steps.Own.{Own}
-use Rattle.kernel_spec.specs.rows.Lines.{◌>>=◌, ◌>>◌, ◌when◌, ◌or◌}
-use Rattle.kernel_spec.specs.steps.Updates.{marked}
 
 -- ---- options
 

@@ -1,3 +1,4 @@
+mod Prelude
 pub mod Common
 pub mod worked
 pub mod rows

@@ -1,9 +1,5 @@
-use Rattle.std.proofs.Common.{◌≡◌, ℕ, ◌+◌, ◌*◌, ◌/◌, ◌%◌, ◌≤◌, List, None, true, sym, ap, ◌∙◌, subst, arith}
-use Rattle.sv39_core.specs.declared.entry.Entry.TheVariants.{Leaf}
-use Rattle.sv39_core.specs.Sv39.{table_at, page_entry}
-use Rattle.sv39_core.specs.Tree.{page_at}
-use Rattle.addr_space.specs.Steps.{PageAdded, Placing, missing, rise, Beside}
-use Rattle.sv39_core.proofs.Places.{table-owned}
+use Rattle.addr_space.proofs.Prelude.{ℕ, ◌%◌, ◌*◌, ◌+◌, ◌/◌, ◌∙◌, ◌≡◌, ◌≤◌, ap, arith, Beside, Leaf, List, missing, None, page_at, page_entry, PageAdded, Placing, rise, subst, sym, table-owned}
+use Rattle.addr_space.proofs.Prelude.{table_at, true}
 use Rattle.addr_space.proofs.Steps.{place-page, same-then-added, absent-after}
 use Rattle.addr_space.proofs.Paths.{beside-join, place-beside}
 use Rattle.addr_space.proofs.add_page.Goals.{After-place}

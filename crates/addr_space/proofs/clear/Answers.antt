@@ -1,6 +1,4 @@
-use Rattle.std.proofs.Common.{ap, ◌∙◌, arith}
-use Rattle.xk_base.specs.Frames.{copies}
-use Rattle.frame_list.proofs.FreeList.{free_in-written, Good-written}
+use Rattle.addr_space.proofs.Prelude.{◌∙◌, ap, arith, copies, free_in-written, Good-written}
 use Rattle.addr_space.proofs.clear.Goals as goal
 
 pub give-requires : goal.give-requires

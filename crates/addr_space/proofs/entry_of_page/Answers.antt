@@ -1,6 +1,4 @@
-use Rattle.std.proofs.Common.{◌/◌, ◌%◌, sym, ap, ◌∙◌, arith}
-use Rattle.sv39_core.specs.Sv39.{last}
-use Rattle.sv39_core.proofs.Places.{upper-entry, lower-entry, no-lower}
+use Rattle.addr_space.proofs.Prelude.{◌%◌, ◌/◌, ◌∙◌, ap, arith, last, lower-entry, no-lower, sym, upper-entry}
 use Rattle.addr_space.proofs.entry_of_page.Goals as goal
 
 pub returns-in_default : goal.returns-in_default

@@ -1,6 +1,4 @@
-use Rattle.std.proofs.Common.{◌/◌, sym, ap, ◌∙◌, arith}
-use Rattle.addr_space.specs.Steps.{missing, rise}
-use Rattle.sv39_core.proofs.Places.{upper-entry, lower-entry, no-lower}
+use Rattle.addr_space.proofs.Prelude.{◌/◌, ◌∙◌, ap, arith, lower-entry, missing, no-lower, rise, sym, upper-entry}
 use Rattle.addr_space.proofs.frames_for.Goals as goal
 
 pub returns-in_default : goal.returns-in_default

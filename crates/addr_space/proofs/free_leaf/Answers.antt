@@ -1,9 +1,4 @@
-use Rattle.std.proofs.Common.{◌≡◌, ◌+◌, ◌*◌, ◌/◌, ◌%◌, Some, sym, ap, ◌∙◌, subst, arith}
-use Rattle.sv39_core.specs.Sv39.{table_at, last, page_entry}
-use Rattle.std.specs.Prelude.{is_some}
-use Rattle.addr_space.specs.Steps.{Cleared}
-use Rattle.sv39_core.specs.Tree.{frame_of}
-use Rattle.sv39_core.proofs.Places.{root-inside, page-owned}
+use Rattle.addr_space.proofs.Prelude.{◌%◌, ◌*◌, ◌+◌, ◌/◌, ◌∙◌, ◌≡◌, ap, arith, Cleared, frame_of, is_some, last, page-owned, page_entry, root-inside, Some, subst, sym, table_at}
 use Rattle.addr_space.proofs.Clearing.{PageGone, page-gone, inside-of, taken-of}
 use Rattle.addr_space.proofs.free_leaf.Goals.{After-clear}
 use Rattle.addr_space.proofs.free_leaf.Goals as goal

@@ -1,14 +1,8 @@
-use Rattle.std.proofs.Common.{◌≡◌, ◌+◌, ◌*◌, ◌/◌, ◌%◌, Some, None, sym, ap, ◌∙◌, subst, arith}
-use Rattle.sv39_core.specs.Sv39.{entry_at, table_at}
-use Rattle.sv39_core.specs.Tree.{frame_of}
-use Rattle.addr_space.specs.Space.{Usual}
-use Rattle.addr_space.specs.Steps.{Cleared}
-use Rattle.sv39_core.proofs.Places.{root-inside, lower-entry, no-lower}
+use Rattle.addr_space.proofs.Prelude.{◌%◌, ◌*◌, ◌+◌, ◌/◌, ◌∙◌, ◌≡◌, ap, arith, Cleared, entry_at, frame_of, is_some, lower-entry, no-lower, None, root-inside, Some, subst, sym, table_at, Usual}
 use Rattle.addr_space.proofs.Clearing.{TableGone, lower-gone, inside-of, taken-of, entry-page, table-is, usual-blank, freed-lower}
-use Rattle.std.specs.Prelude.{is_some}
 use Rattle.addr_space.proofs.free_lower.Goals.{After-clear}
-use Rattle.addr_space.proofs.free_lower.Goals as goal
 use Rattle.addr_space.proofs.Prices.{some-of-is}
+use Rattle.addr_space.proofs.free_lower.Goals as goal
 
 pub upper_table-requires-clause-root_in : goal.upper_table-requires-clause-root_in
 upper_table-requires-clause-root_in c = root-inside c.args.ram.now c.args.root c.requires.holds.tree

@@ -1,11 +1,8 @@
-use Rattle.std.proofs.Common.{◌≡◌, ◌/◌, Some, None, refl, sym, ◌∙◌, subst, arith}
-use Rattle.sv39_core.specs.Sv39.{entry_at, table_at}
-use Rattle.addr_space.specs.Steps.{Cleared}
-use Rattle.sv39_core.proofs.Places.{root-inside, upper-entry}
+use Rattle.addr_space.proofs.Prelude.{◌/◌, ◌∙◌, ◌≡◌, arith, Cleared, entry_at, None, refl, root-inside, Some, subst, sym, table_at, upper-entry}
 use Rattle.addr_space.proofs.Clearing.{TableGone, upper-gone, inside-of, taken-of, entry-lower, table-is, freed-upper}
 use Rattle.addr_space.proofs.free_upper.Goals.{After-clear}
-use Rattle.addr_space.proofs.free_upper.Goals as goal
 use Rattle.addr_space.proofs.Prices.{some-of-is}
+use Rattle.addr_space.proofs.free_upper.Goals as goal
 
 pub upper_table-requires-clause-root_in : goal.upper_table-requires-clause-root_in
 upper_table-requires-clause-root_in c = root-inside c.args.ram.now c.args.root c.requires.holds.tree

@@ -1,6 +1,4 @@
-use Rattle.std.proofs.Common.{◌≡◌, ◌∙◌, subst, arith}
-use Rattle.phys_ram.specs.Ram.{WordWritten}
-use Rattle.sv39_core.specs.Sv39.{table_word}
+use Rattle.addr_space.proofs.Prelude.{◌∙◌, ◌≡◌, arith, subst, table_word, WordWritten}
 use Rattle.addr_space.proofs.hang.Goals as goal
 
 pub returns : goal.returns

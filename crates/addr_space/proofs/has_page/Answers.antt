@@ -1,6 +1,4 @@
-use Rattle.std.proofs.Common.{◌≡◌, ◌+◌, ◌-◌, ◌%◌, sym, ap, ◌∙◌, arith}
-use Rattle.sv39_core.specs.Sv39.{entry_at}
-use Rattle.sv39_core.specs.Tree.{frame_of}
+use Rattle.addr_space.proofs.Prelude.{◌%◌, ◌+◌, ◌-◌, ◌∙◌, ◌≡◌, ap, arith, entry_at, frame_of, sym}
 use Rattle.addr_space.proofs.has_page.Goals as goal
 
 pub returns-clause-none : goal.returns-clause-none

@@ -1,6 +1,4 @@
-use Rattle.std.proofs.Common.{◌≡◌, ℕ, ◌+◌, ◌-◌, ◌%◌, ◌<◌, None}
-use Rattle.sv39_core.specs.Sv39.{entry_at}
-use Rattle.sv39_core.specs.Tree.{frame_of}
+use Rattle.addr_space.proofs.Prelude.{ℕ, ◌%◌, ◌+◌, ◌-◌, ◌<◌, ◌≡◌, entry_at, frame_of, None}
 use Rattle.addr_space.proofs.has_page.Given as goal
 
 abbrev pub invariant-loop-back : goal.invariant-loop-back

@@ -1,6 +1,4 @@
-use Rattle.std.proofs.Common.{◌≡◌, ◌+◌, ◌-◌, ◌%◌, sym, ap, ◌∙◌, arith}
-use Rattle.sv39_core.specs.Sv39.{entry_at}
-use Rattle.sv39_core.specs.Sv39.{table_of}
+use Rattle.addr_space.proofs.Prelude.{◌%◌, ◌+◌, ◌-◌, ◌∙◌, ◌≡◌, ap, arith, entry_at, sym, table_of}
 use Rattle.addr_space.proofs.has_table.Goals as goal
 
 pub returns-clause-none : goal.returns-clause-none

@@ -1,7 +1,4 @@
-use Rattle.std.proofs.Common.{◌≡◌, ◌+◌, ◌*◌, ◌/◌, ◌%◌, refl, sym, ap, ◌∙◌, subst, arith}
-use Rattle.sv39_core.specs.Sv39.{table_at}
-use Rattle.addr_space.specs.Steps.{missing, Hanging}
-use Rattle.sv39_core.proofs.Places.{lower-entry, table-owned}
+use Rattle.addr_space.proofs.Prelude.{◌%◌, ◌*◌, ◌+◌, ◌/◌, ◌∙◌, ◌≡◌, ap, arith, Hanging, lower-entry, missing, refl, subst, sym, table-owned, table_at}
 use Rattle.addr_space.proofs.Steps.{hang-lower}
 use Rattle.addr_space.proofs.Paths.{beside-none, hang-lower-beside}
 use Rattle.addr_space.proofs.lower_for.Goals as goal

@@ -1,5 +1,4 @@
-use Rattle.std.proofs.Common.{◌/◌, sym, ◌∙◌, arith}
-use Rattle.sv39_core.proofs.Places.{upper-entry, lower-entry, no-lower}
+use Rattle.addr_space.proofs.Prelude.{◌/◌, ◌∙◌, arith, lower-entry, no-lower, sym, upper-entry}
 use Rattle.addr_space.proofs.lower_table.Goals as goal
 
 pub returns-in_default : goal.returns-in_default

@@ -1,9 +1,4 @@
-use Rattle.std.proofs.Common.{◌≡◌, ℕ, ◌/◌, ◌%◌, ◌<◌, List, length, Some, sym, ap, ◌∙◌}
-use Rattle.sv39_core.specs.declared.entry.Entry.{Entry}
-use Rattle.sv39_core.specs.declared.entry.Entry.TheVariants.{Invalid, Table, Leaf}
-use Rattle.sv39_core.specs.Sv39.{entry_at, table_of, below, table_at}
-use Rattle.sv39_core.proofs.Words.{entry_of-table}
-use Rattle.sv39_core.proofs.Places.{below-some}
+use Rattle.addr_space.proofs.Prelude.{ℕ, ◌%◌, ◌/◌, ◌<◌, ◌∙◌, ◌≡◌, ap, below, below-some, Entry, entry_at, entry_of-table, Invalid, Leaf, length, List, Some, sym, Table, table_at, table_of}
 use Rattle.addr_space.proofs.next_page.Goals as goal
 
 -- a table that an entry leads to lies in RAM

@@ -1,6 +1,4 @@
-use Rattle.std.proofs.Common.{◌≡◌, ℕ, ◌<◌, ◌≤◌, ◌-◌, None}
-use Rattle.sv39_core.specs.Sv39.{page_entry}
-use Rattle.sv39_core.specs.Tree.{frame_of}
+use Rattle.addr_space.proofs.Prelude.{ℕ, ◌-◌, ◌<◌, ◌≡◌, ◌≤◌, frame_of, None, page_entry}
 use Rattle.addr_space.proofs.next_page.Given as goal
 
 abbrev pub invariant-pages : goal.invariant-pages

@@ -1,6 +1,4 @@
-use Rattle.std.proofs.Common.{◌≡◌, ◌∙◌, subst, arith}
-use Rattle.phys_ram.specs.Ram.{WordWritten}
-use Rattle.sv39_core.specs.Sv39.{leaf_word}
+use Rattle.addr_space.proofs.Prelude.{◌∙◌, ◌≡◌, arith, leaf_word, subst, WordWritten}
 use Rattle.addr_space.proofs.place.Goals as goal
 
 pub returns-clause-placed : goal.returns-clause-placed

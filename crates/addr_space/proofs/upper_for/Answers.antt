@@ -1,7 +1,4 @@
-use Rattle.std.proofs.Common.{◌≡◌, ◌+◌, ◌*◌, ◌/◌, refl, sym, ap, ◌∙◌, subst, arith}
-use Rattle.sv39_core.specs.Sv39.{table_at}
-use Rattle.addr_space.specs.Steps.{missing, Hanging}
-use Rattle.sv39_core.proofs.Places.{upper-entry, root-inside}
+use Rattle.addr_space.proofs.Prelude.{◌*◌, ◌+◌, ◌/◌, ◌∙◌, ◌≡◌, ap, arith, Hanging, missing, refl, root-inside, subst, sym, table_at, upper-entry}
 use Rattle.addr_space.proofs.Steps.{hang-upper}
 use Rattle.addr_space.proofs.Paths.{beside-none, hang-upper-beside}
 use Rattle.addr_space.proofs.upper_for.Goals as goal

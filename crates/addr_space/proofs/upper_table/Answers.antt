@@ -1,5 +1,4 @@
-use Rattle.std.proofs.Common.{◌/◌, sym, ◌∙◌, arith}
-use Rattle.sv39_core.proofs.Places.{upper-entry}
+use Rattle.addr_space.proofs.Prelude.{◌/◌, ◌∙◌, arith, sym, upper-entry}
 use Rattle.addr_space.proofs.upper_table.Goals as goal
 
 pub returns : goal.returns

@@ -1,31 +1,10 @@
 -- The descriptors of the process that runs are closed, one after another.
-use Rattle.std.proofs.Common.{◌≡◌, ◌≢◌, ℕ, suc, ◌+◌, Bool, true, false, cond, ltb, List, Option, Some, None, IsSome, inl, inr, refl, sym, ap, ◌∙◌, subst, arith}
-use Rattle.std.specs.Prelude.{nat_eq, nat_lt, option_map}
-use Rattle.std.specs.Ordering.{nat_cmp}
-use Rattle.std.specs.FinMap.{FinMap, get, insert, remove}
-use Rattle.std.proofs.lemmas.Bool.{cases_lt, le-ltb, lt-ltb}
-use Rattle.std.proofs.lemmas.Bool.Decides.{eqb_tells}
-use Rattle.xk_base.specs.declared.limits.TheConstants.{NOFILE}
-use Rattle.xk_base.proofs.Gathered.{same_pages}
-use Rattle.hart_core.specs.declared.hart.Hart.{Hart}
-use Rattle.pipe_core.specs.Pipe.{Pipe}
-use Rattle.file_table.specs.Named.{named_by}
-use Rattle.file_table.specs.declared.open_file.OpenFile.{OpenFile}
-use Rattle.proc_table.specs.Slots.{place_at, descriptors_at}
-use Rattle.proc_table.specs.declared.process.Process.{Process}
-use Rattle.kernel_spec.specs.views.Words.{or_zero}
-use Rattle.kernel_spec.specs.views.Processes.{Live, Alive}
-use Rattle.kernel_spec.specs.views.State.{State, live_part}
-use Rattle.kernel_spec.proofs.steps.SeenByParts.{file_of}
-use Rattle.kernel_spec.specs.steps.Updates.{fewer_on, freed_on, fewer_on_all, freed_on_all, changed_state, with_closed, end_of, target_of_open}
-use Rattle.kernel_spec.specs.steps.Cases.{IsLive}
-use Rattle.kcall_core.specs.Kernel.{state_of, or_nobody, slot_now, pid_now, live_now}
-use Rattle.kcall_core.specs.Closings.{woken_by, IsClosing, Remains, target_now, Closes, ClosesFrom}
-use Rattle.kernel_spec.specs.waking.SleepsOn.{closes_wake}
-use Rattle.kcall_core.specs.declared.kernel.Kernel.{Kernel}
+use Rattle.kcall_core.proofs.Prelude.{ℕ, ◌+◌, ◌∙◌, ◌≡◌, ◌≢◌, Alive, ap, arith, Bool, cases_lt, changed_state, Closes, closes_wake, ClosesFrom, cond, descriptors_at, end_of, eqb_tells, false, fewer_on}
+use Rattle.kcall_core.proofs.Prelude.{fewer_on_all, file_of, FinMap, freed_on, freed_on_all, get, get_same, get_without, Hart, inl, inr, insert, insert-twice, insert_again, IsClosing, IsLive, IsSome}
+use Rattle.kcall_core.proofs.Prelude.{Kernel, le-ltb, List, Live, live_now, live_part, lt-ltb, ltb, named_by, nat_cmp, nat_eq, nat_lt, NOFILE, None, OpenFile, Option, option_map, or_nobody, or_zero}
+use Rattle.kcall_core.proofs.Prelude.{pid_now, Pipe, place_at, Process, refl, Remains, remove, same_live, same_pages, slot_now, Some, State, state_of, subst, suc, sym, target_now, target_of_open}
+use Rattle.kcall_core.proofs.Prelude.{true, with_closed, woken_by}
 use Rattle.kcall_core.proofs.turns.Turned.{live-is}
-use Rattle.kernel_spec.proofs.steps.MapsAfterChange.{get_same, get_without, insert-twice, insert_again}
-use Rattle.kernel_spec.proofs.Common.{same_live}
 use Rattle.kcall_core.proofs.files.Namings.{named-seen, files-kept}
 use Rattle.kcall_core.proofs.table.Woken.{woken-none, woken-twice, option-twice}
 use Rattle.kcall_core.proofs.files.PipeLeft.{same-wakes, wakes-twice}

@@ -1,59 +1,24 @@
 -- The call close, where a descriptor is in use: what it leaves makes the step that its row tells.
-use Rattle.std.proofs.Common.{◌≡◌, ℕ, ◌+◌, ◌<◌, Bool, true, cond, length, subst, Option, Some, None, inr, refl, sym, ap, ◌∙◌}
-use Rattle.std.specs.Prelude.{ℤ, pos, negsuc, IsSome, is_some, option_map}
-use Rattle.std.specs.Ordering.{nat_cmp}
-use Rattle.std.specs.FinMap.{FinMap, get}
-use Rattle.std.proofs.lemmas.Option.{none-some}
-use Rattle.xk_base.specs.declared.limits.TheConstants.{NOFILE}
-use Rattle.hart_core.specs.declared.hart.Hart.{Hart}
-use Rattle.pipe_core.specs.Pipe.{Pipe}
-use Rattle.file_table.specs.OpenFiles as files
-use Rattle.file_table.specs.declared.open_file.OpenFile.{OpenFile}
-use Rattle.file_table.specs.declared.open_file.Target.{Target}
-use Rattle.file_table.specs.declared.open_file.Target.TheVariants.{Console as Terminal, Program as File, Pipe as Pipe_end}
-use Rattle.proc_table.specs.Processes.{status_of, channel_of, in_call}
-use Rattle.proc_table.specs.Slots.{place_at, changed_at}
-use Rattle.proc_table.specs.declared.channel.Channel.{Channel}
-use Rattle.proc_table.specs.declared.process.Call.{Call}
-use Rattle.proc_table.specs.declared.process.Process.{Process}
-use Rattle.kernel_spec.specs.views.Words.{c_int, word, or_zero}
-use Rattle.kernel_spec.specs.views.PipeEnds.{parted, is_given_up}
-use Rattle.kernel_spec.specs.views.Processes.{Live, Alive}
-use Rattle.kernel_spec.specs.views.State.{State}
-use Rattle.kernel_spec.specs.views.View.{View, Descriptor, view_of, show, numbered, rename, least_on_pipe, pipe_name}
-use Rattle.kernel_spec.proofs.steps.SeenByParts.{descriptor_at, descriptor_on}
-use Rattle.kernel_spec.specs.steps.Own.{Own, Called, Blocked}
-use Rattle.kernel_spec.specs.rows.Calls.{close, refused, with_a0}
-use Rattle.kernel_spec.specs.runs.Run.{IsBlocked}
-use Rattle.kernel_spec.specs.others.Quiet.{pipe_of_target}
-use Rattle.kernel_spec.specs.steps.Updates.{changed_state, own_state, with_answer, with_closed, fewer_on, fewer_at, freed_on, freed_at, settled, end_of, target_of_open}
-use Rattle.kernel_spec.specs.views.WellFormed.{WellFormed}
-use Rattle.kernel_spec.specs.steps.Cases.{IsLive, After, FilesLeft}
-use Rattle.kcall_core.specs.Closings.{unless_woken, woken_by, Closes}
-use Rattle.kernel_spec.specs.waking.SleepsOn.{closes_wake}
-use Rattle.kcall_core.specs.Kernel.{frame_count, state_of, IsRunning, slot_now, place_now, pid_now, live_now}
-use Rattle.kcall_core.specs.Whole.{IsWhole, AreCounted}
-use Rattle.kcall_core.specs.Makes.{Makes, view_now}
-use Rattle.kcall_core.specs.declared.kernel.Kernel.{Kernel}
-use Rattle.kernel_spec.proofs.steps.MapsAfterChange.{get_same, insert-twice}
+use Rattle.kcall_core.proofs.Prelude.{ℕ, ℤ, ◌+◌, ◌<◌, ◌∙◌, ◌≡◌, After, Alive, ap, AreCounted, Blocked, Bool, c_int, Call, Called, changed_at, changed_state, Channel, channel_of, close, close_at}
+use Rattle.kcall_core.proofs.Prelude.{close_case, close_law, close_number, close_on, close_pipe_law, close_same, Closes, closes_wake, cond, Descriptor, descriptor_at, descriptor_on, end_of, fewer_at}
+use Rattle.kcall_core.proofs.Prelude.{fewer_on, File, FilesLeft, FinMap, frame_count, freed_at, freed_on, get, get_same, Hart, in_call, inr, insert-twice, is_given_up, is_some, IsBlocked, IsLive}
+use Rattle.kcall_core.proofs.Prelude.{IsRunning, IsSome, IsWhole, Kernel, least_on_pipe, least_there, length, Live, live_now, Makes, named_at, nat_cmp, negsuc, NOFILE, None, none-some, numbered}
+use Rattle.kcall_core.proofs.Prelude.{OpenFile, Option, option_map, or_zero, Own, own_state, parted, pid_now, Pipe, Pipe_end, pipe_name, pipe_of_target, place_at, place_now, pos, Process, refl}
+use Rattle.kcall_core.proofs.Prelude.{refused, rename, settled, show, slot_now, Some, State, state_of, status_of, subst, sym, Target, target_of_open, Terminal, true, unless_woken, View, view_now}
+use Rattle.kcall_core.proofs.Prelude.{view_of, WellFormed, with_a0, with_answer, with_closed, woken_by, word}
 use Rattle.kcall_core.proofs.table.States.{running}
-use Rattle.kernel_spec.proofs.steps.NamesAreChosenAgain.{named_at}
 use Rattle.kcall_core.proofs.turns.Turned.{live-is}
 use Rattle.kcall_core.proofs.table.OnePlace.{ItsPlace, changed-place, place-counted, in-call-lives, in-call-channel}
 use Rattle.kcall_core.proofs.turns.WhoRuns.{place-is, place-lives, now-is}
 use Rattle.kcall_core.proofs.table.Woken.{woken_by-status, woken-channel}
 use Rattle.kcall_core.proofs.making.CallAnswers.{IsDone}
 use Rattle.kcall_core.proofs.files.Namings.{files-left}
-use Rattle.kernel_spec.proofs.steps.OnePipeChanges.{least_there}
-use Rattle.kernel_spec.proofs.well.WellLaws as well
-use Rattle.kernel_spec.proofs.steps.DupCloseLawsHold.{close_law, close_pipe_law}
-use Rattle.kernel_spec.proofs.rows.Decoding.{close_case}
 use Rattle.kcall_core.proofs.files.AllClosed.{same-pid}
 use Rattle.kcall_core.proofs.files.PipeOpens.{opens-on-pipes, fewer-wake}
 use Rattle.kcall_core.proofs.making.Buffers.{no-call-keeps}
 use Rattle.kcall_core.proofs.making.Filing.{Filed, filed-makes}
-use Rattle.kernel_spec.proofs.rows.RowParts.{close_at, close_number, close_on}
-use Rattle.kernel_spec.proofs.rows.RowsByParts.{close_same}
+use Rattle.file_table.specs.OpenFiles as files
+use Rattle.kernel_spec.proofs.well.WellLaws as well
 
 -- ---- what its row tells, whatever the descriptor is on
 

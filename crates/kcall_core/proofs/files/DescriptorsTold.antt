@@ -1,21 +1,6 @@
 -- What is told of a descriptor, by what the tables keep.
-use Rattle.std.proofs.Common.{◌≡◌, ℕ, ◌<◌, ◌≤◌, cond, ltb, Some, None, refl, sym, ap, ◌∙◌, subst, arith}
-use Rattle.std.specs.Prelude.{is_some, IsSome, option_map}
-use Rattle.std.proofs.lemmas.Bool.{lt-ltb}
-use Rattle.xk_base.specs.declared.limits.TheConstants.{NOFILE}
-use Rattle.hart_core.specs.declared.hart.Hart.{Hart}
-use Rattle.file_table.specs.Named.{named_by}
-use Rattle.file_table.specs.OpenFiles.{IsOpen, open_file_at, count_at}
-use Rattle.file_table.specs.declared.open_file.OpenFile.{OpenFile}
-use Rattle.proc_table.specs.Slots.{descriptors_at}
-use Rattle.kernel_spec.specs.views.Words.{or_zero}
-use Rattle.kernel_spec.specs.views.State.{live}
-use Rattle.kernel_spec.proofs.steps.SeenByParts.{file_of}
-use Rattle.kernel_spec.proofs.Common.{none_either_way}
-use Rattle.kcall_core.specs.Observers.{IsLiveIn, opened, descriptor_of}
-use Rattle.kcall_core.specs.Kernel.{state_of}
-use Rattle.kcall_core.specs.Whole.{IsWhole}
-use Rattle.kcall_core.specs.declared.kernel.Kernel.{Kernel}
+use Rattle.kcall_core.proofs.Prelude.{ℕ, ◌<◌, ◌∙◌, ◌≡◌, ◌≤◌, ap, arith, cond, count_at, descriptor_of, descriptors_at, file_of, Hart, is_some, IsLiveIn, IsOpen, IsSome, IsWhole, Kernel, live, lt-ltb}
+use Rattle.kcall_core.proofs.Prelude.{ltb, named_by, NOFILE, None, none_either_way, open_file_at, opened, OpenFile, option_map, or_zero, refl, Some, state_of, subst, sym}
 use Rattle.kcall_core.specs.declared.kernel.observers.Descriptor.{Descriptor}
 use Rattle.kcall_core.proofs.memory.Changes.{some-inside}
 use Rattle.kcall_core.proofs.table.Observed.{live-held}

@@ -1,72 +1,28 @@
 -- The call dup, where its descriptor is in use and another is free: what it leaves makes the step that its row tells.
-use Rattle.std.proofs.Common.{◌≡◌, ℕ, ◌+◌, ◌<◌, ◌||◌, true, false, cond, length, set, subst, Option, Some, None, inl, inr, refl, sym, ap, ◌∙◌, arith}
-use Rattle.std.specs.Prelude.{ℤ, pos, negsuc, IsSome, is_some, option_map, nat_eq, nat_lt}
-use Rattle.std.specs.Ordering.{nat_cmp}
-use Rattle.std.specs.FinMap.{FinMap, get, insert}
-use Rattle.std.proofs.Math.Path.{fun_ext}
-use Rattle.std.proofs.lemmas.Bool.{or_parts, lt-ltb}
-use Rattle.std.proofs.lemmas.Bool.Decides.{eqb_tells}
-use Rattle.std.proofs.lemmas.Option.{none-some}
-use Rattle.xk_base.specs.Gathered.{gathered}
-use Rattle.xk_base.specs.declared.limits.TheConstants.{NOFILE, OPEN_FILES, PIPE_BYTES}
-use Rattle.hart_core.specs.declared.hart.Hart.{Hart}
-use Rattle.pipe_core.specs.Pipe.{Pipe}
-use Rattle.file_table.specs.Named.{named_by, with_named}
-use Rattle.file_table.specs.OpenFiles as files
-use Rattle.file_table.specs.OpenFiles.{entry_at, open_file_at, with_sharer}
-use Rattle.file_table.specs.declared.open_file.CountedFile.{CountedFile}
-use Rattle.file_table.specs.declared.open_file.End.{End}
-use Rattle.file_table.specs.declared.open_file.End.TheVariants.{Reading, Writing}
-use Rattle.file_table.specs.declared.open_file.OpenFile.{OpenFile}
-use Rattle.file_table.specs.declared.open_file.Target.{Target}
-use Rattle.file_table.specs.declared.open_file.Target.TheVariants.{Console as Terminal, Program as File, Pipe as Pipe_end}
-use Rattle.proc_table.specs.Slots.{Slots, place_at, place_is_live, descriptors_at}
-use Rattle.proc_table.specs.declared.process.Call.{Call}
-use Rattle.kernel_spec.specs.views.Words.{c_int}
-use Rattle.kernel_spec.specs.views.PipeEnds.{joined, has_bytes, has_room}
-use Rattle.kernel_spec.specs.views.Processes.{Live}
-use Rattle.kernel_spec.specs.views.State.{State}
-use Rattle.kernel_spec.specs.views.View.{View, Descriptor, view_of, show, numbered, rename, least_on_pipe, pipe_name, or_gone}
-use Rattle.kernel_spec.proofs.steps.SeenByParts.{descriptor_at, descriptor_on}
-use Rattle.kernel_spec.specs.steps.Own.{Own, Called}
-use Rattle.kernel_spec.specs.rows.Tables.{lowest_free}
-use Rattle.kernel_spec.specs.rows.Calls.{dup, refused}
-use Rattle.kernel_spec.specs.others.Quiet.{pipe_of_target}
-use Rattle.kernel_spec.specs.steps.Updates as update
-use Rattle.kernel_spec.specs.steps.Updates.{changed_state, with_answer, more_on, more_at}
-use Rattle.kernel_spec.specs.views.WellFormed.{WellFormed}
-use Rattle.kernel_spec.specs.steps.Cases.{IsLive, After, OnPipe}
-use Rattle.kcall_core.specs.Closings.{woken_by}
-use Rattle.kcall_core.specs.Holdings.{pipe_cost, or_new, pipe_named}
-use Rattle.kcall_core.specs.Memories.{pipes_of, free_of}
-use Rattle.kcall_core.specs.Sharings.{Joins}
-use Rattle.kcall_core.specs.Kernel.{frame_count, state_of, IsSound, IsRunning, slot_now, pid_now, live_now}
-use Rattle.kcall_core.specs.Whole.{IsWhole, AreCounted}
-use Rattle.kcall_core.specs.Makes.{Makes, view_now}
-use Rattle.kcall_core.specs.declared.kernel.Kernel.{Kernel}
-use Rattle.kcall_core.specs.declared.memories.Memories.{Memories}
-use Rattle.kernel_spec.proofs.steps.MapsAfterChange.{get_at}
+use Rattle.kcall_core.proofs.Prelude.{ℕ, ℤ, ◌+◌, ◌<◌, ◌||◌, ◌∙◌, ◌≡◌, After, ap, AreCounted, arith, c_int, Call, Called, changed_state, cond, CountedFile, Descriptor, descriptor_at, descriptor_on}
+use Rattle.kcall_core.proofs.Prelude.{descriptors_at, dup, dup_at, dup_case, dup_law, dup_number, dup_on, dup_pipe_law, dup_same, End, eqb_tells, false, File, FinMap, frame_count, free_of, fun_ext}
+use Rattle.kcall_core.proofs.Prelude.{gathered, get, get_at, Hart, has_bytes, has_room, inl, inr, insert, InUse, is_some, IsLive, IsRunning, IsSome, IsSound, IsWhole, joined, Joins, Kernel}
+use Rattle.kcall_core.proofs.Prelude.{least_on_pipe, least_there, length, Live, live_now, lowest_free, lt-ltb, Makes, Memories, more_at, more_on, named_at, named_by, nat_cmp, nat_eq, nat_lt, negsuc}
+use Rattle.kcall_core.proofs.Prelude.{NOFILE, None, none-some, numbered, OnPipe, open_file_at, OPEN_FILES, OpenFile, Option, option_map, or_gone, or_new, or_parts, Own, pid_now, Pipe, PIPE_BYTES}
+use Rattle.kcall_core.proofs.Prelude.{pipe_cost, Pipe_end, pipe_name, pipe_named, pipe_of_target, pipes_of, place_at, place_is_live, pos, Reading, refl, refused, rename, set, show, slot_now, Slots}
+use Rattle.kcall_core.proofs.Prelude.{Some, State, state_of, subst, sym, Target, Terminal, true, View, view_now, view_of, well_dup, well_dup_pipe, WellFormed, with_answer, with_named, with_sharer}
+use Rattle.kcall_core.proofs.Prelude.{woken_by, Writing}
+use Rattle.file_table.specs.OpenFiles.{entry_at}
 use Rattle.kcall_core.proofs.table.States.{slot-inside}
 use Rattle.kcall_core.proofs.table.Stops.{live-place, now-slot}
 use Rattle.kcall_core.proofs.turns.Turned.{live-is}
-use Rattle.kernel_spec.proofs.steps.NamesAreChosenAgain.{named_at}
-use Rattle.kernel_spec.proofs.steps.OnePipeChanges.{least_there}
 use Rattle.kcall_core.proofs.table.Woken.{place-each, each-none}
 use Rattle.kcall_core.proofs.files.Namings.{named-seen}
-use Rattle.kernel_spec.proofs.well.WellOpens.{well_dup, well_dup_pipe}
-use Rattle.kernel_spec.proofs.steps.DupCloseLawsHold.{dup_law, dup_pipe_law}
-use Rattle.kernel_spec.proofs.rows.Decoding.{dup_case}
 use Rattle.kcall_core.proofs.turns.StepSlots.{KeepsAll}
 use Rattle.kcall_core.proofs.making.CallAnswers.{IsDone}
 use Rattle.kcall_core.proofs.files.Taking.{Shares}
 use Rattle.kcall_core.proofs.files.Putting.{put-sound, put-state}
 use Rattle.kcall_core.proofs.files.Sharing.{more-file, more-table, shared-counted}
 use Rattle.kcall_core.proofs.files.OpenRoom.{whole_has_room}
-use Rattle.kcall_core.specs.Moves.{InUse}
 use Rattle.kcall_core.proofs.making.Midway.{WakeOn, Midway, midway-done}
 use Rattle.kcall_core.proofs.making.Moved.{nobody}
-use Rattle.kernel_spec.proofs.rows.RowParts.{dup_at, dup_on, dup_number}
-use Rattle.kernel_spec.proofs.rows.RowsByParts.{dup_same}
+use Rattle.file_table.specs.OpenFiles as files
+use Rattle.kernel_spec.specs.steps.Updates as update
 
 -- with one descriptor more, what was shut stays so
 module _ (x : Pipe) (end : End) where

@@ -1,61 +1,23 @@
 -- A read from a program's file, as the code goes through it.
-use Rattle.std.proofs.Common.{◌≡◌, ◌≢◌, ℕ, ◌+◌, ◌≤◌, ◌<◌, true, cond, ltb, List, length, take, drop, subst, Option, Some, None, IsSome, inl, inr, refl, sym, ap, ◌∙◌, arith}
-use Rattle.std.specs.Prelude.{ℤ, pos, option_map, slice_get}
-use Rattle.std.specs.FinMap.{get, insert}
-use Rattle.std.proofs.lemmas.Bool.{cases_eq, ltb-true}
-use Rattle.std.proofs.lemmas.Bool.Decides.{eqb_tells}
-use Rattle.std.proofs.lemmas.List.{length-take, length-set, get_or-set_same, get_or-set_other}
-use Rattle.std.proofs.lemmas.Option.{same_Some}
-use Rattle.xk_base.specs.declared.limits.TheConstants.{OPEN_FILES}
-use Rattle.xk_base.specs.Image.{Image}
-use Rattle.xk_base.specs.Bytes.{write_image}
-use Rattle.xk_base.proofs.Gathered.{same_pages}
-use Rattle.hart_core.specs.declared.hart.Hart.{Hart}
-use Rattle.file_table.specs.OpenFiles as files
-use Rattle.file_table.specs.declared.open_file.TheConstants.{SHARERS_MAX}
-use Rattle.file_table.specs.OpenFiles.{entry_at, entry_file, entry_count, open_file_at, count_at, moved_to, entry_moved, target_moved, with_offset}
-use Rattle.file_table.specs.declared.open_file.CountedFile.{CountedFile}
-use Rattle.file_table.specs.declared.open_file.OpenFile.{OpenFile}
-use Rattle.file_table.specs.declared.open_file.Target.{Target}
-use Rattle.file_table.specs.declared.open_file.Target.TheVariants.{Program as File}
-use Rattle.proc_table.specs.Slots.{descriptors_at}
-use Rattle.proc_table.specs.declared.process.Call.{Call}
-use Rattle.kernel_spec.specs.views.Words.{or_zero}
-use Rattle.kernel_spec.specs.rows.Buffers.{writable_now}
-use Rattle.kernel_spec.specs.views.Processes.{Live}
-use Rattle.kernel_spec.specs.views.Programs.{program_bytes}
-use Rattle.kernel_spec.specs.views.State.{State}
-use Rattle.kernel_spec.specs.views.View.{View, view_of, numbered, rename_shown, show}
-use Rattle.kernel_spec.specs.steps.Own.{Own, Called}
-use Rattle.kernel_spec.specs.rows.Calls.{read}
-use Rattle.kernel_spec.specs.steps.Updates.{changed_state, filed_state, set_file, with_answer, with_bytes, target_of_open}
-use Rattle.kernel_spec.specs.waking.Conditions.{at_start}
-use Rattle.kernel_spec.specs.steps.Cases.{After}
-use Rattle.kernel_spec.proofs.steps.NamesAreChosenAgain.{name_of_file}
-use Rattle.kernel_spec.specs.views.WellFormed.{WellFormed}
-use Rattle.kcall_core.specs.Holdings.{held_at, or_nothing, with_image, HasMemory}
-use Rattle.kcall_core.specs.Memories.{each_of, free_of, RunsIn, SlotChanges}
-use Rattle.kcall_core.specs.Kernel.{frame_count, live_of, state_of, IsSound, IsRunning, slot_now, place_now, pid_now, live_now}
-use Rattle.kcall_core.specs.Whole.{IsWhole, AreCounted}
-use Rattle.kcall_core.specs.Makes.{Makes, view_now}
-use Rattle.kcall_core.specs.Moves.{OnFile}
-use Rattle.kcall_core.specs.declared.kernel.Kernel.{Kernel}
-use Rattle.kcall_core.specs.declared.memories.Memories.{Memories}
-use Rattle.kernel_spec.proofs.steps.MapsAfterChange.{get_at, get_same, get_other}
+use Rattle.kcall_core.proofs.Prelude.{ℕ, ℤ, ◌+◌, ◌<◌, ◌∙◌, ◌≡◌, ◌≢◌, ◌≤◌, After, ap, AreCounted, arith, at_start, Call, Called, cases_eq, changed_state, cond, count_at, CountedFile, descriptors_at}
+use Rattle.kcall_core.proofs.Prelude.{drop, each_of, entry_count, entry_file, entry_moved, eqb_tells, File, file_read, filed_state, frame_count, free_of, get, get_at, get_or-set_other}
+use Rattle.kcall_core.proofs.Prelude.{get_or-set_same, get_other, get_same, Hart, HasMemory, held_at, Image, inl, inr, insert, IsRunning, IsSome, IsSound, IsWhole, Kernel, length, length-set}
+use Rattle.kcall_core.proofs.Prelude.{length-take, List, Live, live_now, live_of, ltb, ltb-true, Makes, Memories, moved_to, name_of_file, None, numbered, OnFile, open_file_at, OPEN_FILES, OpenFile}
+use Rattle.kcall_core.proofs.Prelude.{Option, option_map, or_nothing, or_zero, Own, pid_now, place_now, pos, program_bytes, read, read_case, read_file, read_from, refl, rename_shown, RunsIn}
+use Rattle.kcall_core.proofs.Prelude.{same_pages, same_Some, set_file, SHARERS_MAX, show, slice_get, slot_now, SlotChanges, Some, State, state_of, subst, sym, take, Target, target_moved}
+use Rattle.kcall_core.proofs.Prelude.{target_of_open, there_if_so, true, View, view_now, view_of, WellFormed, with_answer, with_bytes, with_image, with_offset, writable_now, write_image}
+use Rattle.file_table.specs.OpenFiles.{entry_at}
 use Rattle.kcall_core.proofs.files.Namings.{files-seen}
 use Rattle.kcall_core.proofs.table.States.{running, goes-processes, goes-sound, changed-here, changed-has, changed-goes}
 use Rattle.kcall_core.proofs.turns.Turned.{live-is}
-use Rattle.kernel_spec.proofs.rows.Decoding.{read_case}
-use Rattle.kernel_spec.proofs.steps.FileLawsHold.{file_read}
-use Rattle.kernel_spec.proofs.well.WellLaws as well
-use Rattle.kernel_spec.proofs.well.WellSteps as steps
 use Rattle.kcall_core.proofs.turns.StepSlots.{KeepsAll}
 use Rattle.kcall_core.proofs.making.CallAnswers.{IsDone}
 use Rattle.kcall_core.proofs.making.Midway.{Midway, midway-done}
 use Rattle.kcall_core.proofs.making.Moved.{nobody, still}
 use Rattle.kcall_core.proofs.files.MovingRows.{shown-at, shown-there}
-use Rattle.kernel_spec.proofs.rows.RowParts.{read_from, read_file}
-use Rattle.kernel_spec.proofs.Common.{there_if_so}
+use Rattle.file_table.specs.OpenFiles as files
+use Rattle.kernel_spec.proofs.well.WellLaws as well
+use Rattle.kernel_spec.proofs.well.WellSteps as steps
 
 -- ---- the table of open files, with another offset
 

@@ -1,18 +1,6 @@
 -- What is known of the buffer of a read or a write that goes on: once it has moved bytes, the buffer is there.
-use Rattle.std.proofs.Common.{◌≡◌, ℕ, ◌<◌, true, Some, ap, ◌∙◌}
-use Rattle.std.specs.Prelude.{pos, is_some}
-use Rattle.hart_core.specs.declared.hart.Hart.{Hart}
-use Rattle.proc_table.specs.Processes.{call_of}
-use Rattle.proc_table.specs.declared.process.Call.{Call}
-use Rattle.kernel_spec.specs.views.Words.{c_int}
-use Rattle.kernel_spec.specs.views.State.{live_part}
-use Rattle.kernel_spec.specs.rows.Buffers.{readable, writable_now}
-use Rattle.kcall_core.specs.Holdings.{held_at}
-use Rattle.kcall_core.specs.Memories.{each_of}
-use Rattle.kcall_core.specs.Buffers.{KeepsBuffer}
-use Rattle.kcall_core.specs.Kernel.{place_now, pid_now, live_now}
-use Rattle.kcall_core.specs.Whole.{IsWhole}
-use Rattle.kcall_core.specs.declared.kernel.Kernel.{Kernel}
+use Rattle.kcall_core.proofs.Prelude.{ℕ, ◌<◌, ◌∙◌, ◌≡◌, ap, c_int, Call, call_of, each_of, Hart, held_at, is_some, IsWhole, KeepsBuffer, Kernel, live_now, live_part, pid_now, place_now, pos, readable}
+use Rattle.kcall_core.proofs.Prelude.{Some, true, writable_now}
 use Rattle.kcall_core.proofs.table.Stops.{now-slot}
 use Rattle.kcall_core.proofs.turns.Turned.{live-is}
 

@@ -1,10 +1,6 @@
 -- A read of a line into a buffer: room for more bytes than the console has makes no difference.
-use Rattle.std.proofs.Common.{◌≡◌, ℕ, ◌<◌, ◌≤◌, ◌++◌, Bool, true, List, length, take, replicate, cond, inl, inr, sym, ap, ◌∙◌, arith}
-use Rattle.std.specs.Prelude.{min, slice_get}
-use Rattle.std.proofs.lemmas.Bool.{cases_lt, lt-leb}
-use Rattle.std.proofs.lemmas.List.{length-take-le, take-append-le, take_all}
-use Rattle.std.proofs.lemmas.List.Sums.{prefix_len-le-length}
-use Rattle.console_core.specs.Reads.{pulled, first_bytes, up_to, line_length}
+use Rattle.kcall_core.proofs.Prelude.{ℕ, ◌++◌, ◌<◌, ◌∙◌, ◌≡◌, ◌≤◌, ap, arith, Bool, cases_lt, cond, first_bytes, inl, inr, length, length-take-le, line_length, List, lt-leb, min, prefix_len-le-length}
+use Rattle.kcall_core.proofs.Prelude.{pulled, replicate, slice_get, sym, take, take-append-le, take_all, true, up_to}
 
 -- there is room for more than the line
 spare-room : (first : Bool) (n : ℕ) (bytes : List ℕ) → line_length bytes < n → pulled first n bytes ≡ up_to first bytes (line_length bytes) (slice_get bytes (line_length bytes))

@@ -1,27 +1,11 @@
 -- The lowest free descriptor, as the table finds it and as the process sees it.
-use Rattle.std.proofs.Common.{◌≡◌, ℕ, ◌<◌, ◌&&◌, cond, List, length, get_or, Option, Some, None, refl, sym, ap, ◌∙◌, arith}
-use Rattle.std.specs.Prelude.{is_none, nat_lt, position}
-use Rattle.std.specs.List.{position_or_len}
-use Rattle.std.proofs.lemmas.Bool.{lt-ltb, le-ltb, ltb-true, and_parts}
-use Rattle.std.proofs.lemmas.List.Sums.{position_or_len_is}
-use Rattle.std.specs.FinMap.{get}
-use Rattle.xk_base.specs.Words.{least_below}
-use Rattle.xk_base.specs.declared.limits.TheConstants.{NOFILE}
-use Rattle.xk_base.proofs.Least.{none_below}
-use Rattle.hart_core.specs.declared.hart.Hart.{Hart}
-use Rattle.file_table.specs.Named.{named_by}
-use Rattle.proc_table.specs.Slots.{Slots, descriptors_at}
-use Rattle.kernel_spec.specs.rows.Tables.{lowest_free, lowest_free_above}
-use Rattle.kcall_core.specs.Kernel.{frame_count, state_of, IsRunning, slot_now, pid_now, live_now}
-use Rattle.kcall_core.specs.Whole.{IsWhole}
-use Rattle.kcall_core.specs.Makes.{view_now}
-use Rattle.kcall_core.specs.declared.kernel.Kernel.{Kernel}
-use Rattle.kernel_spec.proofs.steps.LeastPasses.{least_passes, least_congr, least_least}
+use Rattle.kcall_core.proofs.Prelude.{ℕ, ◌&&◌, ◌<◌, ◌∙◌, ◌≡◌, and_parts, ap, arith, cond, descriptors_at, frame_count, get, get_or, Hart, is_none, IsRunning, IsWhole, Kernel, le-ltb, least_below}
+use Rattle.kcall_core.proofs.Prelude.{least_congr, least_least, least_passes, length, List, live_now, lowest_free, lowest_free_above, lowest_free_above_is, lowest_free_is, lt-ltb, ltb-true, named_by}
+use Rattle.kcall_core.proofs.Prelude.{nat_lt, NOFILE, None, none_below, none_from_is_none, Option, pid_now, position, position_or_len, position_or_len_is, refl, slot_now, Slots, Some, state_of, sym}
+use Rattle.kcall_core.proofs.Prelude.{view_now}
 use Rattle.kcall_core.proofs.table.Stops.{now-slot}
 use Rattle.kcall_core.proofs.turns.Turned.{live-is}
 use Rattle.kcall_core.proofs.files.Namings.{named-seen}
-use Rattle.kernel_spec.proofs.rows.Decoding.{lowest_free_is, lowest_free_above_is}
-use Rattle.kernel_spec.proofs.Common.{none_from_is_none}
 
 pub least-position : {X : Type 0} (ds : List (Option X)) (n : ℕ) → length ds ≡ n → least_below (λ d. is_none (get_or ds d None)) n ≡ position is_none ds
 least-position ds n long = by (least_below (λ d. is_none (get_or ds d None)) n) refl

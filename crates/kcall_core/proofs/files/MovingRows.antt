@@ -1,41 +1,12 @@
 -- The tests of read and write, in their order, and what an open file is on.
-use Rattle.std.proofs.Common.{◌≡◌, ◌≢◌, ℕ, ◌<◌, Bool, true, false, not, Option, Some, None, inl, inr, refl, sym, ap, ◌∙◌, subst, arith}
-use Rattle.std.specs.Prelude.{ℤ, pos, negsuc, IsSome, is_some, option_map, nat_eq}
-use Rattle.std.specs.FinMap.{get}
-use Rattle.std.proofs.lemmas.Option.{same_Some}
-use Rattle.xk_base.specs.declared.limits.TheConstants.{NOFILE}
-use Rattle.hart_core.specs.declared.hart.Hart.{Hart}
-use Rattle.pipe_core.specs.Pipe.{Pipe}
-use Rattle.file_table.specs.OpenFiles.{open_file_at}
-use Rattle.file_table.specs.declared.open_file.OpenFile.{OpenFile}
-use Rattle.file_table.specs.declared.open_file.End.{End}
-use Rattle.file_table.specs.declared.open_file.End.TheVariants.{Reading, Writing}
-use Rattle.file_table.specs.declared.open_file.Target.{Target}
-use Rattle.file_table.specs.declared.open_file.Target.TheVariants.{Program as File, Pipe as Pipe_end}
-use Rattle.proc_table.specs.declared.process.Call.{Call}
-use Rattle.kernel_spec.specs.views.Words.{c_int}
-use Rattle.kernel_spec.specs.rows.Buffers.{readable, writable_now}
-use Rattle.kernel_spec.specs.views.Processes.{Live}
-use Rattle.kernel_spec.specs.views.State.{State}
-use Rattle.kernel_spec.specs.views.View.{View, Descriptor, view_of, numbered, rename, rename_shown, show, least_on_pipe, pipe_name, in_use}
-use Rattle.kernel_spec.proofs.steps.SeenByParts.{descriptor_at, descriptor_on}
-use Rattle.kernel_spec.specs.steps.Own.{Own}
-use Rattle.kernel_spec.specs.rows.Calls.{read, write, done, refused}
-use Rattle.kernel_spec.specs.steps.Cases.{OnPipe}
-use Rattle.kcall_core.specs.Kernel.{state_of, IsRunning, pid_now, live_now}
-use Rattle.kcall_core.specs.Whole.{IsWhole}
-use Rattle.kcall_core.specs.Makes.{view_now}
-use Rattle.kcall_core.specs.Moves.{OnFile, ReadsPipe, WritesPipe, allows, row_on, InUse}
-use Rattle.kcall_core.specs.declared.kernel.Kernel.{Kernel}
+use Rattle.kcall_core.proofs.Prelude.{ℕ, ℤ, ◌<◌, ◌∙◌, ◌≡◌, ◌≢◌, ap, arith, Bool, c_int, Call, Descriptor, descriptor_at, descriptor_on, done, End, false, File, get, Hart, in_use, inl, inr, InUse}
+use Rattle.kcall_core.proofs.Prelude.{is_some, IsReady, IsRunning, IsSome, IsUnready, IsWhole, Kernel, least_on_pipe, least_there, length_of_int, Live, live_now, moving, named_at, nat_eq, negsuc}
+use Rattle.kcall_core.proofs.Prelude.{NOFILE, None, not, numbered, OnFile, OnPipe, open_file_at, OpenFile, Option, option_map, Own, pages_at, pid_now, Pipe, Pipe_end, pipe_name, pos, read, read_below}
+use Rattle.kcall_core.proofs.Prelude.{read_dear, read_nothing, read_ready, read_shut, read_unused, read_unwritable, readable, Reading, ReadsPipe, refl, refused, rename, rename_shown, row_on}
+use Rattle.kcall_core.proofs.Prelude.{same_Some, show, Some, State, state_of, subst, sym, Target, touch-dear, true, unless, unless_nothing, View, view_now, view_of, writable_now, write, write_case}
+use Rattle.kcall_core.proofs.Prelude.{write_on, write_same, write_to, WritesPipe, Writing}
+use Rattle.kcall_core.specs.Moves.{allows}
 use Rattle.kcall_core.proofs.turns.Turned.{live-is}
-use Rattle.kernel_spec.proofs.steps.NamesAreChosenAgain.{named_at}
-use Rattle.kernel_spec.proofs.steps.OnePipeChanges.{least_there}
-use Rattle.kernel_spec.proofs.rows.Decoding.{write_case}
-use Rattle.kernel_spec.proofs.rows.RowParts.{write_on, write_to, moving, unless, unless_nothing, length_of_int}
-use Rattle.kernel_spec.proofs.rows.RowsByParts.{write_same, read_unused, read_shut, read_below, read_nothing, read_unwritable, read_dear, read_ready}
-use Rattle.kernel_spec.proofs.rows.Settled.{touch-dear}
-use Rattle.addr_space.specs.Absent.{pages_at}
-use Rattle.kcall_core.specs.Touched.{IsReady, IsUnready}
 
 -- ---- the tests
 

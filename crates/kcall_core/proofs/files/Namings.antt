@@ -1,41 +1,14 @@
 -- Open files count the descriptors that name them: in the slots, and in the state.
-use Rattle.std.proofs.Common.{◌≡◌, ◌≢◌, ℕ, zero, suc, ◌+◌, ◌-◌, ◌<◌, ◌≤◌, Bool, true, false, cond, ltb, List}
-use Rattle.std.proofs.Common.{length, get_or, set, Option, Some, None, IsSome, inl, inr, refl, sym, ap, ◌∙◌, subst, arith}
-use Rattle.std.specs.Prelude.{ℤ, option_map, is_some, is_none, nat_eq}
-use Rattle.std.specs.FinMap.{get}
-use Rattle.std.specs.Option.{option_and_then}
-use Rattle.std.proofs.lemmas.Bool.{cases_eq, cases_lt, eq-eqb, eqb-true, false≢true, le-ltb, lt-ltb}
-use Rattle.std.proofs.lemmas.Bool.Decides.{eqb_tells}
-use Rattle.std.proofs.lemmas.List.{get_or_past, get_or-set_same, get_or-set_other, get_or-replicate, length-set}
-use Rattle.std.proofs.lemmas.Option.{none-some}
-use Rattle.xk_base.specs.declared.limits.TheConstants.{NOFILE, OPEN_FILES}
-use Rattle.xk_base.specs.Words.{count_below}
-use Rattle.xk_base.proofs.Gathered.{gathered-get}
-use Rattle.hart_core.specs.declared.hart.Hart.{Hart}
-use Rattle.file_table.specs.Named.{named_by, none_named, with_named}
-use Rattle.file_table.specs.OpenFiles.{IsTable, open_file_at, count_at, entry_at, entry_file, entry_count, once_less, without_sharer}
-use Rattle.file_table.specs.declared.open_file.CountedFile.{CountedFile}
-use Rattle.file_table.specs.declared.open_file.OpenFile.{OpenFile}
-use Rattle.proc_table.specs.Processes.{status_of}
-use Rattle.proc_table.specs.Slots.{Slots, place_at, place_is_live, descriptors_at, slot_of}
-use Rattle.proc_table.specs.declared.process.Process.{Process}
-use Rattle.kernel_spec.specs.views.Words.{or_zero}
-use Rattle.kernel_spec.specs.views.Words.{is_this}
-use Rattle.kernel_spec.specs.views.State.{live}
-use Rattle.kernel_spec.specs.others.Quiet as quiet
-use Rattle.kernel_spec.proofs.steps.SeenByParts.{file_of}
-use Rattle.kernel_spec.specs.steps.Cases.{FilesLeft}
-use Rattle.kernel_spec.specs.views.WellFormed.{sum_below}
-use Rattle.kcall_core.specs.Kernel.{descriptor_map, state_of, IsSound}
-use Rattle.kcall_core.specs.Whole.{named_in, namings, AreCounted}
-use Rattle.kcall_core.specs.declared.kernel.Kernel.{Kernel}
-use Rattle.kernel_spec.proofs.steps.EndsAreCounted.{one}
-use Rattle.kernel_spec.proofs.steps.ClosingCountsDown.{count_some}
-use Rattle.kernel_spec.proofs.well.WellTable.{count_change}
-use Rattle.kernel_spec.proofs.well.Sums.{sum_change, sum_term}
-use Rattle.kernel_spec.proofs.Common.{there_if_so, this_is}
+use Rattle.kcall_core.proofs.Prelude.{ℕ, ℤ, ◌+◌, ◌-◌, ◌<◌, ◌∙◌, ◌≡◌, ◌≢◌, ◌≤◌, ap, AreCounted, arith, Bool, cases_eq, cases_lt, cond, count_at, count_below, count_change, count_some, CountedFile}
+use Rattle.kcall_core.proofs.Prelude.{descriptor_map, descriptors_at, entry_count, entry_file, eq-eqb, eqb-true, eqb_tells, false, false≢true, file_of, FilesLeft, gathered-get, get, get_or}
+use Rattle.kcall_core.proofs.Prelude.{get_or-replicate, get_or-set_other, get_or-set_same, get_or_past, Hart, inl, inr, is_none, is_some, is_this, IsSome, IsSound, Kernel, le-ltb, length, length-set}
+use Rattle.kcall_core.proofs.Prelude.{List, live, lt-ltb, ltb, named_by, named_in, namings, nat_eq, NOFILE, None, none-some, none_named, once_less, one, open_file_at, OPEN_FILES, OpenFile, Option}
+use Rattle.kcall_core.proofs.Prelude.{option_and_then, option_map, or_zero, place_at, place_is_live, Process, refl, set, slot_of, Slots, Some, state_of, status_of, subst, suc, sum_below, sum_change}
+use Rattle.kcall_core.proofs.Prelude.{sum_term, sym, there_if_so, this_is, true, with_named, without_sharer, zero}
+use Rattle.file_table.specs.OpenFiles.{IsTable, entry_at}
 use Rattle.kcall_core.proofs.table.Observed.{slot-found, missing-live, live-held, ended-held}
 use Rattle.kcall_core.proofs.table.States.{slot-inside}
+use Rattle.kernel_spec.specs.others.Quiet as quiet
 
 -- ---- sums and counts that aren't 0
 

@@ -1,46 +1,14 @@
 -- One descriptor of the process that runs is closed.
-use Rattle.std.proofs.Common.{◌≡◌, ℕ, ◌+◌, ◌<◌, ◌≤◌, ◌&&◌, Bool, true, false, cond, length, set, Option, Some, None, IsSome, refl, sym, ap, ◌∙◌, subst, arith}
-use Rattle.std.specs.Prelude.{nat_eq, is_some, option_map}
-use Rattle.std.specs.Ordering.{nat_cmp}
-use Rattle.std.specs.FinMap.{FinMap, get}
-use Rattle.std.proofs.lemmas.Bool.{eq-eqb, lt-ltb}
-use Rattle.std.proofs.lemmas.Option.{none-some}
-use Rattle.xk_base.specs.declared.limits.TheConstants.{NOFILE}
-use Rattle.xk_base.specs.Words.{count_below}
-use Rattle.hart_core.specs.declared.hart.Hart.{Hart}
-use Rattle.pipe_core.specs.Pipe.{Pipe}
-use Rattle.file_table.specs.Named.{named_by, with_named}
-use Rattle.file_table.specs.OpenFiles.{IsTable, IsOpen, open_file_at, entry_at, without_sharer}
-use Rattle.file_table.specs.declared.open_file.CountedFile.{CountedFile}
-use Rattle.file_table.specs.declared.open_file.End.{End}
-use Rattle.file_table.specs.declared.open_file.End.TheVariants.{Reading, Writing}
-use Rattle.file_table.specs.declared.open_file.OpenFile.{OpenFile}
-use Rattle.file_table.specs.declared.open_file.Target.{Target}
-use Rattle.file_table.specs.declared.open_file.Target.TheVariants.{Console as Terminal, Program as File, Pipe as Pipe_end}
-use Rattle.proc_table.specs.Slots.{Slots, place_at, place_is_live, descriptors_at, each_changed}
-use Rattle.kernel_spec.specs.views.Words.{or_zero}
-use Rattle.kernel_spec.specs.views.PipeEnds.{count_on, parted, is_given_up}
-use Rattle.kernel_spec.specs.views.View.{numbered, or_gone, least_on_pipe, pipe_name}
-use Rattle.kernel_spec.proofs.steps.SeenByParts.{descriptor_at, descriptor_on}
-use Rattle.kernel_spec.specs.rows.Tables.{on_end, is_end}
-use Rattle.kernel_spec.specs.others.Quiet.{pipe_of_target}
-use Rattle.kernel_spec.specs.steps.Updates.{fewer_on, fewer_at, freed_on, freed_at, settled, changed_state, with_closed, end_of, target_of_open}
-use Rattle.kernel_spec.specs.views.WellFormed.{WellFormed, on, over_all}
-use Rattle.kernel_spec.specs.steps.Cases.{IsLive, FilesLeft, OnPipe}
-use Rattle.kcall_core.specs.Holdings.{pipe_cost}
-use Rattle.kcall_core.specs.Memories.{pipes_of, free_of, PipeChanges}
-use Rattle.kcall_core.specs.Kernel.{state_of, IsSound, slot_now, pid_now, live_now}
-use Rattle.kcall_core.specs.Whole.{AreCounted}
-use Rattle.kcall_core.specs.Closings.{woken_by, IsClosing, target_now, Closes}
-use Rattle.kernel_spec.specs.waking.SleepsOn.{closes_wake}
-use Rattle.kcall_core.specs.declared.kernel.Kernel.{Kernel}
+use Rattle.kcall_core.proofs.Prelude.{ℕ, ◌&&◌, ◌+◌, ◌<◌, ◌∙◌, ◌≡◌, ◌≤◌, ap, AreCounted, arith, Bool, changed_state, Closes, closes_wake, cond, count_below, count_on, count_some, CountedFile}
+use Rattle.kcall_core.proofs.Prelude.{descriptor_at, descriptor_on, descriptors_at, each_changed, End, end_of, eq-eqb, false, fewer_at, fewer_on, File, FilesLeft, FinMap, free_of, freed_at, freed_on}
+use Rattle.kcall_core.proofs.Prelude.{get, Hart, hits, hits_at, is_end, is_given_up, is_some, IsClosing, IsLive, IsOpen, IsSome, IsSound, Kernel, least_on_pipe, least_there, length, live_now, lt-ltb}
+use Rattle.kcall_core.proofs.Prelude.{named_by, nat_cmp, nat_eq, NOFILE, None, none-some, numbered, on, on_end, OnPipe, open_file_at, OpenFile, Option, option_map, or_gone, or_zero, over_all, parted}
+use Rattle.kcall_core.proofs.Prelude.{pid_now, Pipe, pipe_cost, Pipe_end, pipe_name, pipe_of_target, PipeChanges, pipes_of, place_at, place_is_live, Reading, refl, set, settled, slot_now, Slots, Some}
+use Rattle.kcall_core.proofs.Prelude.{state_of, subst, sum_term, sym, Target, target_now, target_of_open, Terminal, true, well_closed, well_closed_pipe, WellFormed, with_closed, with_named}
+use Rattle.kcall_core.proofs.Prelude.{without_sharer, woken_by, Writing}
+use Rattle.file_table.specs.OpenFiles.{IsTable, entry_at}
 use Rattle.kcall_core.proofs.memory.Changes.{some-inside}
 use Rattle.kcall_core.proofs.turns.Turned.{live-is}
-use Rattle.kernel_spec.proofs.steps.EndsAreCounted.{hits, hits_at}
-use Rattle.kernel_spec.proofs.steps.ClosingCountsDown.{count_some}
-use Rattle.kernel_spec.proofs.well.Sums.{sum_term}
-use Rattle.kernel_spec.proofs.steps.OnePipeChanges.{least_there}
-use Rattle.kernel_spec.proofs.well.WellCloses.{well_closed, well_closed_pipe}
 use Rattle.kcall_core.proofs.table.States.{slot-inside}
 use Rattle.kcall_core.proofs.table.Stops.{live-place}
 use Rattle.kcall_core.proofs.files.Namings.{named-seen, file-seen, file-inside, named-counts, counted-entry, files-left, fewer-kept, fewer-table, closed-counted}

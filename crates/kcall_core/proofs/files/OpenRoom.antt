@@ -1,23 +1,9 @@
 -- There is room for open files: no more are open than descriptors are in use, and where one is free, fewer than can be are open.
-use Rattle.std.proofs.Common.{◌≡◌, ◌≢◌, ℕ, zero, suc, ◌+◌, ◌*◌, ◌<◌, ◌≤◌, Bool, true, false, cond, List, [], ◌∷◌, length, get_or, Option, Some, None, inl, inr, refl, sym, ap, ◌∙◌, arith}
-use Rattle.std.specs.Prelude.{if◌then◌else◌, nat_eq, is_some, count_by, option_map}
-use Rattle.std.proofs.lemmas.Bool.Decides.{eqb_tells}
-use Rattle.std.proofs.lemmas.List.Sums.{sum_by-cons}
-use Rattle.xk_base.specs.declared.limits.TheConstants.{NPROC, NOFILE, OPEN_FILES}
-use Rattle.xk_base.specs.Words.{count_below}
-use Rattle.file_table.specs.Named.{named_by}
-use Rattle.file_table.specs.OpenFiles.{IsTable, entry_count, open_count}
-use Rattle.file_table.specs.declared.open_file.CountedFile.{CountedFile}
-use Rattle.proc_table.specs.Slots.{Slots, descriptors_at}
-use Rattle.kernel_spec.specs.views.Words.{is_this, or_zero}
-use Rattle.hart_core.specs.declared.hart.Hart.{Hart}
-use Rattle.kernel_spec.specs.views.WellFormed.{WellFormed, sum_below}
-use Rattle.kcall_core.specs.Kernel.{frame_count, state_of}
-use Rattle.kcall_core.specs.Room.{HasRoom, WholeHasRoom}
-use Rattle.kcall_core.specs.declared.kernel.Kernel.{Kernel}
-use Rattle.kcall_core.specs.Whole.{AreCounted, namings, named_in}
-use Rattle.kernel_spec.proofs.well.Sums.{sum_same}
-use Rattle.kernel_spec.proofs.Common.{sum_below-zero}
+use Rattle.kcall_core.proofs.Prelude.{[], ℕ, ◌*◌, ◌+◌, ◌<◌, ◌∙◌, ◌∷◌, ◌≡◌, ◌≢◌, ◌≤◌, ap, AreCounted, arith, Bool, cond, count_below, count_by, CountedFile, descriptors_at, entry_count, eqb_tells}
+use Rattle.kcall_core.proofs.Prelude.{false, frame_count, get_or, Hart, HasRoom, if◌then◌else◌, inl, inr, is_some, is_this, Kernel, length, List, named_by, named_in, namings, nat_eq, NOFILE, None}
+use Rattle.kcall_core.proofs.Prelude.{NPROC, open_count, OPEN_FILES, Option, option_map, or_zero, refl, Slots, Some, state_of, suc, sum_below, sum_below-zero, sum_by-cons, sum_same, sym, true}
+use Rattle.kcall_core.proofs.Prelude.{WellFormed, WholeHasRoom, zero}
+use Rattle.file_table.specs.OpenFiles.{IsTable}
 use Rattle.kcall_core.proofs.files.Room.{count-few, sum-few, file-room, ends-few}
 
 -- ---- sums

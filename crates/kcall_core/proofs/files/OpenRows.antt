@@ -1,26 +1,11 @@
 -- The row open, as the code goes through it.
-use Rattle.std.proofs.Common.{◌≡◌, ℕ, ◌+◌, Bool, true, false, cond, List, [], ◌∷◌, Option, Some, None, inl, inr, refl, sym, ap, ◌∙◌}
-use Rattle.std.specs.Prelude.{ℤ, pos, negsuc, nat_eq, nat_lt, nat_le, not, map, bytes_eq, option_map}
-use Rattle.std.proofs.lemmas.Bool.{cases_lt, lt-ltb, le-ltb, le-leb, lt-leb}
-use Rattle.std.specs.List.{position_from}
-use Rattle.std.specs.Option.{option_and_then}
-use Rattle.xk_base.specs.declared.limits.TheConstants.{MAXPATH}
-use Rattle.xk_base.specs.declared.program.Program as file
-use Rattle.proc_table.specs.declared.process.Call.{Call}
-use Rattle.kernel_spec.specs.views.Words.{c_int}
-use Rattle.kernel_spec.specs.rows.Buffers.{text_at, no_slashes}
-use Rattle.kernel_spec.specs.views.Programs.{console_name, place_of}
-use Rattle.kernel_spec.specs.views.State.{ProgramFile, State, named_file}
-use Rattle.kernel_spec.specs.views.View.{View, Shown, Shown_terminal, Shown_file, show}
-use Rattle.kernel_spec.specs.steps.Own.{Own}
-use Rattle.kernel_spec.specs.others.Quiet.{pipe_of_target}
-use Rattle.kernel_spec.specs.rows.Tables.{lowest_free}
-use Rattle.kernel_spec.specs.rows.Calls.{open_file, refused}
-use Rattle.kcall_core.specs.Opens.{asked_in, name_asked, asked, file_asked}
+use Rattle.kcall_core.proofs.Prelude.{[], ℕ, ℤ, ◌+◌, ◌∙◌, ◌∷◌, ◌≡◌, A_program, ap, asked, asked_in, Bool, bytes_eq, c_int, Call, cases_lt, cond, console_name, false, file_asked, inl, inr, kind_named}
+use Rattle.kcall_core.proofs.Prelude.{le-leb, le-ltb, List, lowest_free, lt-leb, lt-ltb, map, MAXPATH, name_asked, Named, named_file, nat_eq, nat_le, nat_lt, negsuc, no_slashes, None, none_opened}
+use Rattle.kcall_core.proofs.Prelude.{not, Nothing, open_at, open_file, open_path, open_same, opened_as, Option, option_and_then, option_map, Own, pipe_of_target, place_of, pos, position_from}
+use Rattle.kcall_core.proofs.Prelude.{program_place, ProgramFile, refl, refused, show, Shown, Shown_file, Shown_terminal, Some, State, sym, text_at, The_console, true, View}
 use Rattle.kcall_core.specs.declared.kernel.opening.Asked.{Asked}
 use Rattle.kcall_core.specs.declared.kernel.opening.Asked.TheVariants.{Terminal, Program}
-use Rattle.kernel_spec.proofs.rows.RowParts.{Named, The_console, A_program, Nothing, program_place, kind_named, opened_as, open_at, open_path}
-use Rattle.kernel_spec.proofs.rows.RowsByParts.{open_same, none_opened}
+use Rattle.xk_base.specs.declared.program.Program as file
 
 -- ---- which program
 

@@ -1,57 +1,25 @@
 -- A free descriptor of the process that runs names a new open file, which is no pipe.
-use Rattle.std.proofs.Common.{◌≡◌, ◌≢◌, ℕ, ◌+◌, ◌<◌, Bool, true, false, cond, ltb, List, length, get_or, set, subst, Option, Some, None, IsSome, inl, inr, refl, sym, ap, ◌∙◌, arith}
-use Rattle.std.specs.Prelude.{option_map, is_none, pos}
-use Rattle.std.specs.FinMap.{get, insert}
-use Rattle.std.proofs.lemmas.Bool.{cases_eq, eq-eqb, false≢true, lt-ltb}
-use Rattle.std.proofs.lemmas.Bool.Decides.{eqb_tells}
-use Rattle.std.proofs.lemmas.List.{length-set, get_or-set_same, get_or-set_other}
-use Rattle.std.proofs.lemmas.Option.{same_Some}
-use Rattle.xk_base.specs.Gathered.{gathered}
-use Rattle.xk_base.specs.declared.limits.TheConstants.{NOFILE, OPEN_FILES}
-use Rattle.xk_base.proofs.Gathered.{gathered-get, same_pages}
-use Rattle.hart_core.specs.declared.hart.Hart.{Hart}
-use Rattle.file_table.specs.Named.{named_by, with_named}
-use Rattle.file_table.specs.OpenFiles as files
-use Rattle.file_table.specs.OpenFiles.{entry_at, entry_file, entry_count, open_file_at, count_at, with_opened}
-use Rattle.file_table.specs.declared.open_file.CountedFile.{CountedFile}
-use Rattle.file_table.specs.declared.open_file.OpenFile.{OpenFile}
-use Rattle.proc_table.specs.Slots.{Slots, place_at, place_is_live, descriptors_at}
-use Rattle.kernel_spec.specs.views.Words.{is_this, or_zero}
-use Rattle.kernel_spec.specs.views.Processes.{Live}
-use Rattle.kernel_spec.specs.views.State.{State}
-use Rattle.kernel_spec.specs.others.Quiet.{pipe_of_target}
-use Rattle.kernel_spec.specs.steps.Updates.{changed_state, filed_state, with_answer, target_of_open}
-use Rattle.kernel_spec.specs.steps.Updates as update
-use Rattle.kernel_spec.specs.waking.Conditions.{at_start}
-use Rattle.proc_table.specs.declared.process.Call.{Call}
-use Rattle.kernel_spec.specs.views.View.{view_of, show}
-use Rattle.kernel_spec.specs.steps.Own.{Own}
-use Rattle.kcall_core.specs.Makes.{Makes, view_now}
-use Rattle.kernel_spec.specs.steps.Cases.{After, NobodyNames}
-use Rattle.kernel_spec.specs.views.WellFormed.{WellFormed}
-use Rattle.kcall_core.specs.Kernel.{frame_count, state_of, IsSound, IsRunning, slot_now, pid_now, live_now}
-use Rattle.kcall_core.specs.Whole.{IsWhole, AreCounted}
-use Rattle.kcall_core.specs.declared.kernel.Kernel.{Kernel}
-use Rattle.kernel_spec.proofs.steps.EndsAreCounted.{one}
-use Rattle.kernel_spec.proofs.steps.MapsAfterChange.{get_at, get_other}
+use Rattle.kcall_core.proofs.Prelude.{ℕ, ◌+◌, ◌<◌, ◌∙◌, ◌≡◌, ◌≢◌, After, ap, AreCounted, arith, at_start, Bool, Call, cases_eq, changed_state, cond, count_at, CountedFile, descriptors_at, entry_count}
+use Rattle.kcall_core.proofs.Prelude.{entry_file, eq-eqb, eqb_tells, false, false≢true, filed_state, frame_count, gathered, gathered-get, get, get_at, get_or, get_or-set_other, get_or-set_same}
+use Rattle.kcall_core.proofs.Prelude.{get_other, Hart, inl, inr, insert, is_none, is_this, IsRunning, IsSome, IsSound, IsWhole, Kernel, least_passes, length, length-set, List, Live, live_now, lt-ltb}
+use Rattle.kcall_core.proofs.Prelude.{ltb, Makes, named_by, NobodyNames, NOFILE, None, none_from_is_none, one, open_at, open_file_at, OPEN_FILES, open_law, OpenFile, Option, option_map, or_zero, Own}
+use Rattle.kcall_core.proofs.Prelude.{pid_now, pipe_of_target, place_at, place_is_live, pos, refl, same_pages, same_Some, set, show, slot_now, Slots, Some, State, state_of, subst, sym, target_of_open}
+use Rattle.kcall_core.proofs.Prelude.{true, view_now, view_of, well_opened, WellFormed, with_answer, with_named, with_opened}
+use Rattle.file_table.specs.OpenFiles.{entry_at}
 use Rattle.kcall_core.proofs.files.Namings.{named-seen, files-seen}
 use Rattle.kcall_core.proofs.table.States.{slot-inside}
-use Rattle.kcall_core.proofs.table.Stops.{live-place}
-use Rattle.kcall_core.proofs.table.Stops.{now-slot}
+use Rattle.kcall_core.proofs.table.Stops.{live-place, now-slot}
 use Rattle.kcall_core.proofs.files.Taking.{Shares}
 use Rattle.kcall_core.proofs.turns.Turned.{live-is}
-use Rattle.kernel_spec.proofs.well.WellOpens.{well_opened}
 use Rattle.kcall_core.proofs.files.Putting.{put-sound, put-state}
 use Rattle.kcall_core.proofs.files.Sharing.{put-here, put-other, one-more}
 use Rattle.kcall_core.proofs.making.Midway.{Midway, midway-done}
 use Rattle.kcall_core.proofs.turns.StepSlots.{KeepsAll}
 use Rattle.kcall_core.proofs.making.CallAnswers.{IsDone}
-use Rattle.kernel_spec.proofs.steps.LeastPasses.{least_passes}
 use Rattle.kcall_core.proofs.files.Lowest.{least-position}
-use Rattle.kernel_spec.proofs.steps.FileLawsHold.{open_law}
 use Rattle.kcall_core.proofs.making.Moved.{nobody, still}
-use Rattle.kernel_spec.proofs.rows.RowParts.{open_at}
-use Rattle.kernel_spec.proofs.Common.{none_from_is_none}
+use Rattle.file_table.specs.OpenFiles as files
+use Rattle.kernel_spec.specs.steps.Updates as update
 
 abbrev no-file : Option OpenFile
 no-file = None

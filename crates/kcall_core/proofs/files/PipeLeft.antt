@@ -1,25 +1,8 @@
 -- One descriptor fewer on an end of a pipe: the pipes after it, and who wakes.
-use Rattle.std.proofs.Common.{◌≡◌, ℕ, ◌-◌, ◌≤◌, ◌&&◌, ◌||◌, not, Bool, true, false, cond, Option, Some, None, inl, inr, refl, sym, ap, ◌∙◌, arith}
-use Rattle.std.specs.Prelude.{nat_eq}
-use Rattle.std.specs.Ordering.{nat_cmp}
-use Rattle.std.specs.FinMap.{FinMap, get, insert, remove}
-use Rattle.std.proofs.lemmas.Bool.{eq-eqb, eqb-true, and_parts, and_right, true≢false}
-use Rattle.std.proofs.lemmas.Bool.Decides.{eqb_tells}
-use Rattle.xk_base.proofs.Gathered.{same_pages}
-use Rattle.pipe_core.specs.Pipe.{Pipe}
-use Rattle.file_table.specs.declared.open_file.End.{End}
-use Rattle.file_table.specs.declared.open_file.End.TheVariants.{Reading, Writing}
-use Rattle.proc_table.specs.Channels.{same_channel}
-use Rattle.proc_table.specs.declared.channel.Channel.{Channel}
+use Rattle.kcall_core.proofs.Prelude.{ℕ, ◌&&◌, ◌-◌, ◌||◌, ◌∙◌, ◌≡◌, ◌≤◌, across, and_parts, and_right, and_true, ap, arith, Bool, Channel, closes_wake, cond, count_on, End, eq-eqb, eqb-true}
+use Rattle.kcall_core.proofs.Prelude.{eqb_tells, false, FinMap, get, get_at, get_without, inl, inr, insert, is_given_up, last_closes, nat_cmp, nat_eq, None, not, Option, or_gone, parted, Pipe}
+use Rattle.kcall_core.proofs.Prelude.{Reading, refl, remove, same_channel, same_pages, settled, Some, sym, true, true≢false, with_pipe, Writing}
 use Rattle.proc_table.specs.declared.channel.Channel.TheVariants as on
-use Rattle.kernel_spec.specs.views.PipeEnds.{count_on, parted, is_given_up}
-use Rattle.kcall_core.specs.Holdings.{with_pipe}
-use Rattle.kernel_spec.specs.views.View.{or_gone}
-use Rattle.kernel_spec.specs.steps.Updates.{settled}
-use Rattle.kcall_core.specs.Closings.{across}
-use Rattle.kernel_spec.specs.waking.SleepsOn.{last_closes, closes_wake}
-use Rattle.kernel_spec.proofs.steps.MapsAfterChange.{get_at, get_without}
-use Rattle.kernel_spec.proofs.Common.{and_true}
 
 never-both : (b : Bool) → (not b && b) ≡ false
 never-both true = refl

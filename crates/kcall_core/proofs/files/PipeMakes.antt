@@ -1,76 +1,32 @@
 -- The call pipe: what it leaves makes the step that its row tells.
-use Rattle.std.proofs.Common.{◌≡◌, ◌≢◌, ℕ, ◌-◌, ◌+◌, ◌<◌, ◌++◌, Bool, true, false, cond, List, length, get_or, set, subst, Option, Some, None, IsSome, inl, inr, refl, sym, ap, ◌∙◌, arith}
-use Rattle.std.specs.Prelude.{pos, nat_eq}
-use Rattle.std.specs.Ordering.{nat_cmp}
-use Rattle.std.specs.FinMap.{FinMap, get, insert}
-use Rattle.std.proofs.lemmas.Bool.{cases_lt, true≢false}
-use Rattle.std.proofs.lemmas.Bool.Decides.{eqb_tells}
-use Rattle.std.proofs.lemmas.List.{get_or-set_same, get_or-set_other}
-use Rattle.std.proofs.lemmas.Option.{none-some, same_Some}
-use Rattle.xk_base.specs.Gathered.{gathered}
-use Rattle.xk_base.specs.Words.{le_bytes}
-use Rattle.xk_base.specs.Image.{price}
-use Rattle.xk_base.specs.Bytes.{write_image}
-use Rattle.xk_base.specs.declared.limits.TheConstants.{NOFILE, OPEN_FILES}
-use Rattle.hart_core.specs.declared.hart.Hart.{Hart}
-use Rattle.pipe_core.specs.Pipe.{Pipe, new_pipe}
-use Rattle.console_core.specs.Lists.{Console}
-use Rattle.file_table.specs.Named.{named_by, with_named}
-use Rattle.file_table.specs.OpenFiles as files
-use Rattle.file_table.specs.OpenFiles.{entry_at, open_file_at, lowest_place, pipe_file, with_opened}
-use Rattle.file_table.specs.declared.open_file.End.TheVariants.{Reading, Writing}
-use Rattle.file_table.specs.declared.open_file.OpenFile.{OpenFile}
-use Rattle.file_table.specs.declared.open_file.Target.{Target}
-use Rattle.file_table.specs.declared.open_file.Target.TheVariants.{Console as Terminal, Program as File, Pipe as Pipe_end}
-use Rattle.proc_table.specs.Slots.{Slots, place_at, place_is_live, descriptors_at}
-use Rattle.proc_table.specs.declared.process.Call.{Call}
-use Rattle.kernel_spec.specs.rows.Buffers.{writable_now}
-use Rattle.addr_space.specs.Absent.{pages_at, brought}
-use Rattle.kcall_core.specs.Touched.{IsReady, IsUnready}
-use Rattle.kernel_spec.proofs.rows.Settled.{touch-dear, touch-view}
-use Rattle.kernel_spec.specs.views.Processes.{Live, Alive}
-use Rattle.kernel_spec.specs.views.State.{State}
-use Rattle.kernel_spec.specs.views.View.{view_of, or_gone}
-use Rattle.kernel_spec.specs.steps.Own.{Own, Called}
-use Rattle.kernel_spec.specs.rows.Tables.{lowest_free, lowest_free_above}
-use Rattle.kernel_spec.specs.rows.Calls.{make_pipe, refused}
-use Rattle.kernel_spec.specs.others.Quiet as quiet
-use Rattle.kernel_spec.specs.others.Quiet.{pipe_of_target}
-use Rattle.kernel_spec.proofs.steps.SeenByParts.{pipe_of_open, pipe_of_file}
-use Rattle.kernel_spec.specs.steps.Updates as update
-use Rattle.kernel_spec.specs.steps.Updates.{changed_state, with_answer, with_bytes, target_of_open}
-use Rattle.kernel_spec.specs.waking.Conditions.{at_start}
-use Rattle.kernel_spec.specs.views.PipeEnds.{has_bytes, has_room}
-use Rattle.kernel_spec.specs.steps.Cases.{IsLive, After, NobodyNames, NobodyHas}
-use Rattle.kernel_spec.specs.views.WellFormed.{WellFormed}
-use Rattle.kcall_core.specs.Holdings.{held_at, or_nothing, pipe_cost, with_image}
-use Rattle.kcall_core.specs.Memories as memories
-use Rattle.kcall_core.specs.Memories.{each_of, pipes_of, free_of, RunsIn, SlotChanges, PipeChanges}
-use Rattle.kcall_core.specs.Kernel.{frame_count, live_of, state_of, IsSound, IsRunning, slot_now, place_now, pid_now, live_now}
-use Rattle.kcall_core.specs.Whole.{IsWhole, AreCounted}
-use Rattle.kcall_core.specs.Makes.{Makes, view_now}
-use Rattle.kcall_core.specs.declared.kernel.Kernel.{Kernel}
-use Rattle.kcall_core.specs.declared.memories.Memories.{Memories}
-use Rattle.kernel_spec.proofs.steps.MapsAfterChange.{get_at, get_other, insert-twice}
+use Rattle.kcall_core.proofs.Prelude.{ℕ, ◌++◌, ◌+◌, ◌-◌, ◌<◌, ◌∙◌, ◌≡◌, ◌≢◌, After, Alive, ap, AreCounted, arith, at_start, Bool, brought, Call, Called, cases_lt, changed_state, cond, Console}
+use Rattle.kcall_core.proofs.Prelude.{descriptors_at, each_of, eqb_tells, false, File, FinMap, frame_count, free_of, gathered, get, get_at, get_or, get_or-set_other, get_or-set_same, get_other, Hart}
+use Rattle.kcall_core.proofs.Prelude.{has_bytes, has_room, held_at, inl, inr, insert, insert-twice, IsLive, IsReady, IsRunning, IsSome, IsSound, IsUnready, IsWhole, Kernel, le_bytes, length, List}
+use Rattle.kcall_core.proofs.Prelude.{Live, live_now, live_of, lowest_free, lowest_free_above, lowest_place, make_pipe, Makes, Memories, named_by, nat_cmp, nat_eq, new_pipe, NobodyHas, NobodyNames}
+use Rattle.kcall_core.proofs.Prelude.{NOFILE, None, none-some, open_file_at, OPEN_FILES, OpenFile, Option, or_gone, or_nothing, Own, pages_at, pid_now, Pipe, pipe_case, pipe_cost, Pipe_end, pipe_file}
+use Rattle.kcall_core.proofs.Prelude.{pipe_full, pipe_law, pipe_none, pipe_of_file, pipe_of_open, pipe_of_target, pipe_ready, pipe_unwritable, PipeChanges, piped, pipes_of, place_at, place_is_live}
+use Rattle.kcall_core.proofs.Prelude.{place_now, pos, price, Reading, refl, refused, RunsIn, same_Some, set, slot_now, SlotChanges, Slots, Some, State, state_of, subst, sym, Target, target_of_open}
+use Rattle.kcall_core.proofs.Prelude.{Terminal, touch-dear, touch-view, true, true≢false, view_now, view_of, well_made_pipe, WellFormed, with_answer, with_bytes, with_image, with_named, with_opened}
+use Rattle.kcall_core.proofs.Prelude.{writable_now, write_image, Writing}
+use Rattle.file_table.specs.OpenFiles.{entry_at}
 use Rattle.kcall_core.proofs.table.States.{running, slot-inside, Goes, goes-processes, goes-sound}
 use Rattle.kcall_core.proofs.table.Stops.{live-place, now-slot}
 use Rattle.kcall_core.proofs.memory.Changes.{some-inside}
 use Rattle.kcall_core.proofs.turns.Turned.{live-is}
 use Rattle.kcall_core.proofs.files.Taking.{Shares}
-use Rattle.kcall_core.proofs.files.Sharing as sharing
 use Rattle.kcall_core.proofs.files.Putting.{put-sound, put-state, put-pid, put-now}
 use Rattle.kcall_core.proofs.files.Opened.{lowest-place-free, new-here, new-other, new-table, opened-counted, opened-files, unnamed, free-seen}
-use Rattle.kernel_spec.proofs.well.WellLaws as well
-use Rattle.kernel_spec.proofs.well.WellCloses.{well_made_pipe}
-use Rattle.kernel_spec.proofs.steps.FileLawsHold.{pipe_law}
-use Rattle.kernel_spec.proofs.rows.Decoding.{pipe_case}
 use Rattle.kcall_core.proofs.turns.StepSlots.{KeepsAll}
 use Rattle.kcall_core.proofs.making.CallAnswers.{IsDone}
 use Rattle.kcall_core.proofs.making.Prepared.{over}
 use Rattle.kcall_core.proofs.making.Midway.{WakeOn, Midway, midway-done}
 use Rattle.kcall_core.proofs.making.Moved.{nobody, still}
-use Rattle.kernel_spec.proofs.rows.RowParts.{piped}
-use Rattle.kernel_spec.proofs.rows.RowsByParts.{pipe_unwritable, pipe_none, pipe_full, pipe_ready}
+use Rattle.file_table.specs.OpenFiles as files
+use Rattle.kernel_spec.specs.others.Quiet as quiet
+use Rattle.kernel_spec.specs.steps.Updates as update
+use Rattle.kcall_core.specs.Memories as memories
+use Rattle.kcall_core.proofs.files.Sharing as sharing
+use Rattle.kernel_spec.proofs.well.WellLaws as well
 
 -- ---- the tests
 

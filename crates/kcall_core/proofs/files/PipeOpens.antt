@@ -1,29 +1,10 @@
 -- Who has to wake where a call changes pipes: readers of a pipe that can be read now, writers of one that can be written now, and nobody else.
-use Rattle.std.proofs.Common.{◌≡◌, ℕ, Bool, true, false, cond, not, ◌||◌, ◌&&◌, Option, Some, None, inl, inr, refl, sym, ap, ◌∙◌, length}
-use Rattle.std.specs.Prelude.{nat_eq, nat_lt}
-use Rattle.std.specs.Ordering.{nat_cmp}
-use Rattle.std.specs.FinMap.{FinMap, get}
-use Rattle.std.proofs.lemmas.Bool.{eqb-true, or_parts}
-use Rattle.std.proofs.lemmas.Bool.Decides.{eqb_tells}
-use Rattle.xk_base.specs.declared.limits.TheConstants.{PIPE_BYTES}
-use Rattle.pipe_core.specs.Pipe.{Pipe}
-use Rattle.file_table.specs.declared.open_file.End.{End}
-use Rattle.file_table.specs.declared.open_file.End.TheVariants.{Reading, Writing}
-use Rattle.file_table.specs.declared.open_file.OpenFile.{OpenFile}
-use Rattle.file_table.specs.declared.open_file.Target.{Target}
-use Rattle.file_table.specs.declared.open_file.Target.TheVariants.{Console as Terminal, Program as File, Pipe as Pipe_end}
-use Rattle.proc_table.specs.declared.channel.Channel.{Channel}
-use Rattle.proc_table.specs.declared.channel.Channel.TheVariants as on
-use Rattle.kernel_spec.specs.views.PipeEnds.{parted, is_given_up, has_bytes, has_room}
-use Rattle.kernel_spec.specs.views.Processes.{Live, Alive}
-use Rattle.kernel_spec.specs.views.State.{State}
-use Rattle.kernel_spec.specs.views.View.{or_gone}
-use Rattle.kernel_spec.specs.steps.Updates.{changed_state, fewer_on, fewer_at, settled}
-use Rattle.kernel_spec.specs.waking.Conditions.{Condition, Child_of, Bytes, Room, Time, Keys, Sending, is_open}
-use Rattle.kernel_spec.specs.waking.SleepsOn.{last_closes, closes_wake}
-use Rattle.kernel_spec.specs.waking.SleepsOn.{is_for}
-use Rattle.kernel_spec.proofs.waking.Openings.{family}
+use Rattle.kcall_core.proofs.Prelude.{ℕ, ◌&&◌, ◌||◌, ◌∙◌, ◌≡◌, Alive, ap, Bool, Bytes, changed_state, Channel, Child_of, closes_wake, cond, Condition, End, eqb-true, eqb_tells, false, family}
+use Rattle.kcall_core.proofs.Prelude.{fewer_at, fewer_on, File, FinMap, get, has_bytes, has_room, inl, inr, is_for, is_given_up, is_open, Keys, last_closes, length, Live, nat_cmp, nat_eq, nat_lt}
+use Rattle.kcall_core.proofs.Prelude.{None, not, OpenFile, Option, or_gone, or_parts, parted, Pipe, PIPE_BYTES, Pipe_end, Reading, refl, Room, Sending, settled, Some, State, sym, Target, Terminal}
+use Rattle.kcall_core.proofs.Prelude.{Time, true, Writing}
 use Rattle.kcall_core.proofs.files.PipeLeft.{remainder, with-settled, get-with}
+use Rattle.proc_table.specs.declared.channel.Channel.TheVariants as on
 
 -- Those channels wake that readers and writers of pipes sleep on, where the pipe has what they wait for now; no other does
 pub record WakeOnPipes (wakes : Channel → Bool) (before after : FinMap nat_cmp Pipe) : Type 0 where

@@ -1,52 +1,21 @@
 -- A read from a pipe, as the code goes through it.
-use Rattle.std.proofs.Common.{◌≡◌, ℕ, ◌≤◌, ◌<◌, ◌||◌, Bool, true, false, cond, length, take, drop, subst, Some, None, inl, inr, refl, sym, ap, ◌∙◌, arith}
-use Rattle.std.specs.Prelude.{ℤ, pos, IsSome, nat_eq, nat_lt, not}
-use Rattle.std.specs.FinMap.{get, insert}
-use Rattle.std.proofs.lemmas.Bool.{eq-eqb, lt-ltb, le-ltb, or_parts, ltb-false, not-false, not-true, both_ways}
-use Rattle.std.proofs.lemmas.Bool.Decides.{eqb_tells}
-use Rattle.std.proofs.lemmas.List.{length-drop}
-use Rattle.xk_base.specs.declared.limits.TheConstants.{PIPE_BYTES, NOFILE}
-use Rattle.xk_base.specs.Bytes.{write_image}
-use Rattle.hart_core.specs.declared.hart.Hart.{Hart}
-use Rattle.pipe_core.specs.Pipe.{Pipe, without_first}
-use Rattle.proc_table.specs.Channels.{same_channel}
-use Rattle.proc_table.specs.Processes.{woken}
-use Rattle.proc_table.specs.Slots.{each_changed}
-use Rattle.proc_table.specs.declared.channel.Channel.{Channel}
-use Rattle.proc_table.specs.declared.channel.Channel.TheVariants as on
-use Rattle.proc_table.specs.declared.process.Call.{Call}
-use Rattle.kernel_spec.specs.views.PipeEnds.{there, has_bytes, has_room}
-use Rattle.kernel_spec.specs.views.Processes.{Live, Alive}
-use Rattle.kernel_spec.specs.views.State.{State, live_part}
-use Rattle.kernel_spec.specs.views.View.{View, view_of, or_gone}
-use Rattle.kernel_spec.specs.steps.Own.{Own, Called, Blocked}
-use Rattle.kernel_spec.specs.waking.Ready.{ready}
-use Rattle.kernel_spec.specs.rows.Calls.{row_of, read, waits}
-use Rattle.kernel_spec.specs.steps.Updates.{changed_state, target_of_open, end_of}
-use Rattle.kernel_spec.specs.steps.Updates as update
-use Rattle.kernel_spec.specs.waking.Conditions.{read_waits_for, row_waits_for, target_at, waits_for}
-use Rattle.kernel_spec.specs.steps.Cases.{After}
-use Rattle.kcall_core.specs.Holdings.{held_at, or_new, pipe_named}
-use Rattle.kcall_core.specs.Memories.{each_of, pipes_of}
-use Rattle.kcall_core.specs.Moves.{Moves, ReadsPipe}
-use Rattle.kcall_core.specs.Kernel.{state_of, IsSound, IsRunning, slot_now, pid_now, live_now}
-use Rattle.kcall_core.specs.Whole.{IsWhole}
-use Rattle.kernel_spec.specs.waking.SleepsOn.{is_for}
-use Rattle.kcall_core.specs.Makes.{Makes, view_now}
-use Rattle.kcall_core.specs.declared.kernel.Kernel.{Kernel}
-use Rattle.kcall_core.specs.declared.memories.Memories.{Memories}
-use Rattle.kernel_spec.proofs.steps.MapsAfterChange.{get_same, get_other}
+use Rattle.kcall_core.proofs.Prelude.{ℕ, ℤ, ◌<◌, ◌||◌, ◌∙◌, ◌≡◌, ◌≤◌, After, Alive, ap, arith, Blocked, Bool, both_ways, Call, Called, changed_state, Channel, cond, drop, each_changed, each_of}
+use Rattle.kcall_core.proofs.Prelude.{end_of, eq-eqb, eqb_tells, false, get, get_other, get_same, Hart, has_bytes, has_room, held_at, inl, inr, insert, is_for, is_read, IsRunning, IsSome, IsSound}
+use Rattle.kcall_core.proofs.Prelude.{IsWhole, Kernel, le-ltb, length, length-drop, Live, live_now, live_part, lt-ltb, ltb-false, Makes, Memories, Moves, nat_eq, nat_lt, NOFILE, None, not, not-false}
+use Rattle.kcall_core.proofs.Prelude.{not-true, or_gone, or_new, or_parts, Own, pid_now, Pipe, PIPE_BYTES, pipe_named, pipes_of, pos, read, read_is, read_takes, read_waits, read_waits_for, ReadsPipe}
+use Rattle.kcall_core.proofs.Prelude.{ready, refl, row_of, row_waits_for, same_channel, slot_now, Some, State, state_of, subst, sym, take, target_at, target_of_open, there, true, View, view_now}
+use Rattle.kcall_core.proofs.Prelude.{view_of, waits, waits_for, without_first, woken, write_image}
 use Rattle.kcall_core.proofs.table.Woken.{each-woken}
-use Rattle.kernel_spec.proofs.steps.AloneLawsHold as law
-use Rattle.kernel_spec.proofs.rows.Decoding.{is_read}
-use Rattle.kernel_spec.proofs.well.WellLaws as well
-use Rattle.kernel_spec.proofs.steps.FileLawsHold.{read_is, read_takes, read_waits}
 use Rattle.kcall_core.proofs.turns.StepSlots.{KeepsAll}
 use Rattle.kcall_core.proofs.making.CallAnswers.{IsDone}
 use Rattle.kcall_core.proofs.making.Prepared.{over}
 use Rattle.kcall_core.proofs.making.Buffers.{unmoved-keeps}
 use Rattle.kcall_core.proofs.making.Midway.{WakeOn, IsAsleep, midway-done, midway-sleeps}
 use Rattle.kcall_core.proofs.making.Moved.{still, moved-sound, moved-midway, sleeps-unready}
+use Rattle.proc_table.specs.declared.channel.Channel.TheVariants as on
+use Rattle.kernel_spec.specs.steps.Updates as update
+use Rattle.kernel_spec.proofs.steps.AloneLawsHold as law
+use Rattle.kernel_spec.proofs.well.WellLaws as well
 
 cond-at : {A : Type 0} (b c : Bool) (x y : A) → b ≡ c → cond b x y ≡ cond c x y
 cond-at b c x y e = ap (λ z. cond z x y) e

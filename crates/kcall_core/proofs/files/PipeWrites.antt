@@ -1,48 +1,13 @@
 -- A write to a pipe, as the code goes through it.
-use Rattle.std.proofs.Common.{◌≡◌, ℕ, ◌+◌, ◌-◌, ◌%◌, ◌^◌, ◌≤◌, ◌<◌, ◌||◌, ◌&&◌, Bool, true, false, cond, length, get_or, set, subst, Some, None, inl, inr, refl, sym, ap, ◌∙◌, arith}
-use Rattle.std.specs.Prelude.{ℤ, pos, IsSome, nat_eq, nat_lt, nat_le}
-use Rattle.std.specs.FinMap.{get, insert}
-use Rattle.std.proofs.lemmas.Bool.{cases_lt, eq-eqb, lt-ltb, le-ltb, le-leb, lt-leb, or_parts, ltb-false}
-use Rattle.std.proofs.lemmas.Bool.Decides.{eqb_tells}
-use Rattle.std.proofs.lemmas.List.{length-append, set-get_or}
+use Rattle.kcall_core.proofs.Prelude.{ℕ, ℤ, ◌%◌, ◌&&◌, ◌+◌, ◌-◌, ◌<◌, ◌^◌, ◌||◌, ◌∙◌, ◌≡◌, ◌≤◌, After, Alive, ap, arith, Blocked, Bool, Call, Called, cases_lt, changed_state, Channel, cond, done}
+use Rattle.kcall_core.proofs.Prelude.{each_changed, each_of, end_of, eq-eqb, eqb_tells, false, fit, get, get_or, get_other, get_same, Hart, has_bytes, has_room, HasMemory, held_at, image_byte}
+use Rattle.kcall_core.proofs.Prelude.{image_bytes, inl, inr, insert, is_for, is_write, IsRunning, IsSome, IsSound, IsWhole, Kernel, le-leb, le-ltb, length, length-append, Live, live_now, live_part}
+use Rattle.kcall_core.proofs.Prelude.{lt-leb, lt-ltb, ltb-false, Makes, Memories, Moves, nat_eq, nat_le, nat_lt, NOFILE, None, now_moved, or_false, or_gone, or_new, or_nothing, or_parts, Own, pid_now}
+use Rattle.kcall_core.proofs.Prelude.{Pipe, PIPE_BYTES, pipe_cost, pipe_named, pipe_write, PipeChanges, pipes_of, pos, readable, ready, refl, refused, row_of, row_waits_for, set, set-get_or, slot_now}
+use Rattle.kcall_core.proofs.Prelude.{Some, State, state_of, subst, sym, target_at, target_of_open, the_value, true, View, view_now, view_of, waits, waits_for, wakes_readers, with_more, woken_by}
+use Rattle.kcall_core.proofs.Prelude.{write, write_waits_for, WritesPipe, written}
 use Rattle.std.proofs.lemmas.List.FromFn.{length-map-range_with_len}
-use Rattle.xk_base.specs.declared.limits.TheConstants.{PIPE_BYTES, NOFILE}
-use Rattle.xk_base.specs.Bytes.{image_bytes, image_byte}
-use Rattle.hart_core.specs.declared.hart.Hart.{Hart}
-use Rattle.pipe_core.specs.Pipe.{Pipe, with_more}
-use Rattle.proc_table.specs.Slots.{each_changed}
-use Rattle.proc_table.specs.declared.channel.Channel.{Channel}
-use Rattle.proc_table.specs.declared.channel.Channel.TheVariants as on
-use Rattle.proc_table.specs.declared.process.Call.{Call}
-use Rattle.kernel_spec.specs.rows.Buffers.{readable}
-use Rattle.kernel_spec.specs.views.PipeEnds.{fit, has_bytes, has_room}
-use Rattle.kernel_spec.specs.views.Processes.{Live, Alive}
-use Rattle.kernel_spec.specs.views.State.{State, live_part}
-use Rattle.kernel_spec.specs.views.View.{View, view_of, or_gone}
-use Rattle.kernel_spec.specs.steps.Own.{Own, Called, Blocked}
-use Rattle.kernel_spec.specs.waking.Ready.{ready}
-use Rattle.kernel_spec.specs.rows.Calls.{row_of, write, done, waits, refused}
-use Rattle.kernel_spec.specs.steps.Updates.{changed_state, target_of_open, end_of}
-use Rattle.kernel_spec.specs.steps.Updates as update
-use Rattle.kernel_spec.specs.waking.Conditions.{write_waits_for, row_waits_for, target_at, waits_for}
-use Rattle.kernel_spec.specs.steps.Cases.{After, now_moved, written}
-use Rattle.kcall_core.specs.Closings.{woken_by}
-use Rattle.kcall_core.specs.Holdings.{held_at, or_nothing, or_new, pipe_named, pipe_cost, HasMemory}
-use Rattle.kcall_core.specs.Memories.{each_of, pipes_of, PipeChanges}
-use Rattle.kcall_core.specs.Moves.{Moves, WritesPipe, wakes_readers}
-use Rattle.kcall_core.specs.Kernel.{state_of, IsSound, IsRunning, slot_now, pid_now, live_now}
-use Rattle.kcall_core.specs.Whole.{IsWhole}
-use Rattle.kernel_spec.specs.waking.SleepsOn.{is_for}
-use Rattle.kcall_core.specs.Makes.{Makes, view_now}
-use Rattle.kcall_core.specs.declared.kernel.Kernel.{Kernel}
-use Rattle.kcall_core.specs.declared.memories.Memories.{Memories}
-use Rattle.kernel_spec.proofs.steps.MapsAfterChange.{get_same, get_other}
 use Rattle.kcall_core.proofs.table.States.{running}
-use Rattle.kernel_spec.proofs.steps.AloneLawsHold as law
-use Rattle.kernel_spec.proofs.rows.Decoding.{is_write}
-use Rattle.kernel_spec.proofs.steps.PipeWriteIsItsRow as pipes
-use Rattle.kernel_spec.proofs.steps.FileLawsHold.{pipe_write}
-use Rattle.kernel_spec.proofs.Common.{or_false, the_value}
 use Rattle.kcall_core.proofs.memory.PipeRest.{next-read, rest-read}
 use Rattle.kcall_core.proofs.turns.StepSlots.{KeepsAll}
 use Rattle.kcall_core.proofs.making.CallAnswers.{IsDone}
@@ -50,6 +15,10 @@ use Rattle.kcall_core.proofs.making.Prepared.{over}
 use Rattle.kcall_core.proofs.making.Buffers.{write-keeps}
 use Rattle.kcall_core.proofs.making.Midway.{WakeOn, Midway, IsAsleep, midway-done, midway-sleeps}
 use Rattle.kcall_core.proofs.making.Moved.{moved-sound, moved-midway, sleeps-unready}
+use Rattle.proc_table.specs.declared.channel.Channel.TheVariants as on
+use Rattle.kernel_spec.specs.steps.Updates as update
+use Rattle.kernel_spec.proofs.steps.AloneLawsHold as law
+use Rattle.kernel_spec.proofs.steps.PipeWriteIsItsRow as pipes
 
 module _ {k : Kernel} {h : Hart} {c : Call} {f n : ℕ} (whole : IsWhole k h) (runs : IsRunning k) (x : WritesPipe k h c f n) where
   abbrev s : State

@@ -1,33 +1,13 @@
 -- A free descriptor of the process that runs names an open file, and the memories and the open files change with it.
-use Rattle.std.proofs.Common.{◌≡◌, ◌≢◌, ℕ, ◌<◌, cond, ltb, List, length, get_or, set, Option, Some, None, IsSome, inl, inr, refl, sym, ap, ◌∙◌, subst, arith}
-use Rattle.std.specs.Prelude.{map}
-use Rattle.std.specs.FinMap.{get, insert}
-use Rattle.std.proofs.lemmas.Bool.{eq-eqb, lt-ltb}
-use Rattle.std.proofs.lemmas.Bool.Decides.{eqb_tells}
-use Rattle.std.proofs.lemmas.List.{get_or-set_same, get_or-set_other, length-set}
-use Rattle.std.proofs.lemmas.Option.{none-some}
-use Rattle.xk_base.specs.declared.limits.TheConstants.{NPROC, NOFILE, OPEN_FILES}
-use Rattle.xk_base.specs.Gathered.{gathered}
-use Rattle.xk_base.proofs.Gathered.{same_pages}
-use Rattle.hart_core.specs.declared.hart.Hart.{Hart}
-use Rattle.file_table.specs.Named.{named_by, with_named, none_named}
-use Rattle.file_table.specs.OpenFiles.{open_file_at}
-use Rattle.proc_table.specs.Slots.{Slots, place_at, descriptors_at, IsTable}
-use Rattle.proc_table.specs.declared.process.Process.{Process}
-use Rattle.kernel_spec.specs.views.State.{named_file}
-use Rattle.kernel_spec.specs.views.Words.{is_this, or_zero}
-use Rattle.kernel_spec.specs.views.Processes.{Alive}
-use Rattle.kernel_spec.specs.views.ByPid.{by_pid}
-use Rattle.kernel_spec.specs.steps.Updates.{changed_state}
-use Rattle.kernel_spec.specs.steps.Updates as update
-use Rattle.kcall_core.specs.Holdings.{or_nothing, held_at}
-use Rattle.kcall_core.specs.Memories.{each_of, pipes_of, free_of}
-use Rattle.kcall_core.specs.Kernel.{descriptor_map, live_of, by_status, process_of, entry_of, entry_at, state_of, or_nobody, slot_now, place_now, pid_now, live_now, IsCurrent, IsSound}
-use Rattle.kcall_core.specs.declared.kernel.Kernel.{Kernel}
-use Rattle.kernel_spec.proofs.steps.MapsAfterChange.{get_at}
+use Rattle.kcall_core.proofs.Prelude.{ℕ, ◌<◌, ◌∙◌, ◌≡◌, ◌≢◌, Alive, ap, arith, by_pid, by_status, changed_state, cond, descriptor_map, descriptors_at, each_of, entry_at, entry_of, eq-eqb, eqb_tells}
+use Rattle.kcall_core.proofs.Prelude.{free_of, gathered, get, get_at, get_or, get_or-set_other, get_or-set_same, Hart, held_at, inl, inr, insert, is_this, IsCurrent, IsSome, IsSound, IsTable, Kernel}
+use Rattle.kcall_core.proofs.Prelude.{length, length-set, List, live_now, live_of, lt-ltb, ltb, map, named_by, named_file, NOFILE, None, none-some, none_named, NPROC, open_file_at, OPEN_FILES, Option}
+use Rattle.kcall_core.proofs.Prelude.{or_nobody, or_nothing, or_zero, pid_now, pipes_of, place_at, place_now, Process, process_of, refl, same_pages, set, slot_now, Slots, Some, state_of, subst, sym}
+use Rattle.kcall_core.proofs.Prelude.{with_named}
 use Rattle.kcall_core.proofs.files.Namings.{named-seen}
 use Rattle.kcall_core.proofs.files.Taking.{Shares}
 use Rattle.kcall_core.proofs.table.States.{Alone, slot-state, slot-inside, not-this}
+use Rattle.kernel_spec.specs.steps.Updates as update
 
 -- a descriptor of a list that names an open file now
 pub map-named : (ds : List (Option ℕ)) (d g : ℕ) → d < length ds → d < NOFILE → descriptor_map (with_named d (Some g) ds) ≡ insert (descriptor_map ds) d g

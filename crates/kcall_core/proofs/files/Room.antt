@@ -1,33 +1,9 @@
 -- There is room to count: no open file is named by more descriptors than there are, no end of a pipe has more on it, and a kernel with a free slot has fewer processes than slots.
-use Rattle.std.proofs.Common.{◌≡◌, ℕ, zero, suc, ◌+◌, ◌*◌, ◌<◌, ◌≤◌, Bool, true, false, List, Option, Some, None, inl, inr, refl, ap, ◌∙◌, arith}
-use Rattle.std.specs.Prelude.{if◌then◌else◌}
-use Rattle.std.specs.Ordering.{nat_cmp}
-use Rattle.std.specs.FinMap.{FinMap, get, get-empty, insert}
-use Rattle.std.proofs.lemmas.Bool.{cases_lt}
-use Rattle.xk_base.specs.declared.limits.TheConstants.{NPROC, NOFILE, OPEN_FILES}
-use Rattle.xk_base.specs.Words.{count_below}
-use Rattle.hart_core.specs.declared.hart.Hart.{Hart}
-use Rattle.pipe_core.specs.Pipe.{Pipe}
-use Rattle.file_table.specs.OpenFiles.{count_at}
-use Rattle.file_table.specs.declared.open_file.CountedFile.{CountedFile}
-use Rattle.file_table.specs.declared.open_file.End.{End}
-use Rattle.file_table.specs.declared.open_file.End.TheVariants.{Reading, Writing}
-use Rattle.file_table.specs.declared.open_file.TheConstants.{SHARERS_MAX}
-use Rattle.proc_table.specs.Slots.{Slots, descriptors_at}
-use Rattle.kernel_spec.specs.views.Words.{or_zero}
-use Rattle.kernel_spec.specs.views.Processes.{Process, Alive, Zombie}
-use Rattle.kernel_spec.specs.views.State.{State}
-use Rattle.kernel_spec.specs.views.View.{numbered}
-use Rattle.kernel_spec.specs.rows.Tables.{on_end}
-use Rattle.kernel_spec.specs.views.PipeEnds.{count_on}
-use Rattle.kernel_spec.specs.views.ByPid.{by_pid, put}
-use Rattle.kernel_spec.specs.views.WellFormed.{WellFormed, sum_below, on, over_all}
-use Rattle.kcall_core.specs.Kernel.{state_of, entry_at}
-use Rattle.kcall_core.specs.Whole.{AreCounted, namings, named_in}
-use Rattle.kcall_core.specs.declared.kernel.Kernel.{Kernel}
-use Rattle.kernel_spec.proofs.steps.MapsAfterChange.{get_other}
-use Rattle.kernel_spec.proofs.well.Sums.{sum_change, sum_same}
-use Rattle.kernel_spec.proofs.Common.{sum_below-zero}
+use Rattle.kcall_core.proofs.Prelude.{ℕ, ◌*◌, ◌+◌, ◌<◌, ◌∙◌, ◌≡◌, ◌≤◌, Alive, ap, AreCounted, arith, Bool, by_pid, cases_lt, count_at, count_below, count_on, CountedFile, descriptors_at, End}
+use Rattle.kcall_core.proofs.Prelude.{entry_at, false, FinMap, get, get-empty, get_other, Hart, if◌then◌else◌, inl, inr, insert, Kernel, List, named_in, namings, nat_cmp, NOFILE, None, NPROC}
+use Rattle.kcall_core.proofs.Prelude.{numbered, on, on_end, OPEN_FILES, Option, or_zero, over_all, Pipe, put, Reading, refl, SHARERS_MAX, Slots, Some, State, state_of, suc, sum_below, sum_below-zero}
+use Rattle.kcall_core.proofs.Prelude.{sum_change, sum_same, true, WellFormed, Writing, zero, Zombie}
+use Rattle.kernel_spec.specs.views.Processes.{Process}
 
 -- ---- counts and sums
 

@@ -1,22 +1,10 @@
 -- One descriptor more names an open file: the counts are right again.
-use Rattle.std.proofs.Common.{◌≡◌, ◌≢◌, ℕ, ◌+◌, ◌<◌, Bool, true, false, List, length, get_or, set, Option, Some, None, inl, inr, refl, sym, ap, ◌∙◌, arith}
-use Rattle.std.specs.Prelude.{option_map}
-use Rattle.std.proofs.lemmas.Bool.{cases_eq, eq-eqb, false≢true}
-use Rattle.std.proofs.lemmas.Bool.Decides.{eqb_tells}
-use Rattle.std.proofs.lemmas.List.{get_or-set_same, get_or-set_other, length-set}
-use Rattle.xk_base.specs.declared.limits.TheConstants.{NOFILE}
-use Rattle.xk_base.specs.Words.{count_below}
-use Rattle.file_table.specs.Named.{named_by, none_named, with_named}
-use Rattle.file_table.specs.OpenFiles.{IsTable, entry_at, entry_file, entry_count, open_file_at, count_at, once_more, with_sharer}
-use Rattle.file_table.specs.declared.open_file.CountedFile.{CountedFile}
-use Rattle.file_table.specs.declared.open_file.TheConstants.{SHARERS_MAX}
-use Rattle.proc_table.specs.Slots.{Slots, place_at, place_is_live, descriptors_at}
-use Rattle.kernel_spec.specs.views.Words.{is_this, or_zero}
-use Rattle.kcall_core.specs.Whole.{AreCounted, namings, named_in}
+use Rattle.kcall_core.proofs.Prelude.{ℕ, ◌+◌, ◌<◌, ◌∙◌, ◌≡◌, ◌≢◌, ap, AreCounted, arith, Bool, cases_eq, count_at, count_below, count_change, CountedFile, descriptors_at, entry_count, entry_file}
+use Rattle.kcall_core.proofs.Prelude.{eq-eqb, eqb_tells, false, false≢true, get_or, get_or-set_other, get_or-set_same, inl, inr, is_this, length, length-set, List, named_by, named_in, namings, NOFILE}
+use Rattle.kcall_core.proofs.Prelude.{None, none_named, once_more, one, open_file_at, Option, option_map, or_zero, place_at, place_is_live, refl, set, SHARERS_MAX, Slots, Some, sum_change, sym, true}
+use Rattle.kcall_core.proofs.Prelude.{with_named, with_sharer}
+use Rattle.file_table.specs.OpenFiles.{IsTable, entry_at}
 use Rattle.kcall_core.proofs.files.Namings.{inside-files}
-use Rattle.kernel_spec.proofs.steps.EndsAreCounted.{one}
-use Rattle.kernel_spec.proofs.well.Sums.{sum_change}
-use Rattle.kernel_spec.proofs.well.WellTable.{count_change}
 
 module _ (t t' : Slots) (slot d g : ℕ) (inside : slot < 64) (below : d < NOFILE) (room : length t.descriptors ≡ 64)
     (long : length (descriptors_at t slot) ≡ NOFILE) (free : named_by (descriptors_at t slot) d ≡ None)

@@ -1,33 +1,12 @@
 -- A descriptor of the process that runs is taken out of the table, and the memories and the open files change with it.
-use Rattle.std.proofs.Common.{◌≡◌, ◌≢◌, ℕ, ◌<◌, Bool, true, false, cond, ltb, List, length, get_or, set, Option, Some, None, IsSome, inl, inr, refl, sym, ap, ◌∙◌, subst, arith}
-use Rattle.std.specs.Prelude.{map}
-use Rattle.std.specs.FinMap.{get, insert, remove}
-use Rattle.std.proofs.lemmas.Bool.{eq-eqb}
-use Rattle.std.proofs.lemmas.Bool.Decides.{eqb_tells}
-use Rattle.std.proofs.lemmas.List.{get_or-set_same, get_or-set_other, length-set}
-use Rattle.std.proofs.lemmas.Option.{none-some}
-use Rattle.xk_base.specs.declared.limits.TheConstants.{NPROC, NOFILE, OPEN_FILES}
-use Rattle.xk_base.specs.Gathered.{gathered}
-use Rattle.xk_base.proofs.Gathered.{same_pages}
-use Rattle.hart_core.specs.declared.hart.Hart.{Hart}
-use Rattle.file_table.specs.Named.{named_by, with_named, none_named}
-use Rattle.file_table.specs.OpenFiles.{open_file_at}
-use Rattle.proc_table.specs.Slots.{Slots, place_at, descriptors_at, IsTable}
-use Rattle.proc_table.specs.declared.process.Process.{Process}
-use Rattle.kernel_spec.specs.views.State.{named_file}
-use Rattle.kernel_spec.specs.views.Words.{is_this, or_zero}
-use Rattle.kernel_spec.specs.views.Processes.{Alive}
-use Rattle.kernel_spec.specs.views.ByPid.{by_pid}
-use Rattle.kernel_spec.specs.steps.Updates.{changed_state, with_closed}
-use Rattle.kcall_core.specs.Holdings.{or_nothing, held_at}
-use Rattle.kcall_core.specs.Memories as memories
-use Rattle.kcall_core.specs.Memories.{each_of, pipes_of, free_of, RunsIn}
-use Rattle.kcall_core.specs.Kernel.{descriptor_map, live_of, by_status, process_of, entry_of, entry_at, state_of, or_nobody, slot_now, place_now, pid_now, live_now, IsCurrent, IsSound}
-use Rattle.kcall_core.specs.declared.kernel.Kernel.{Kernel}
-use Rattle.kcall_core.specs.declared.memories.Memories.{Memories}
-use Rattle.kernel_spec.proofs.steps.MapsAfterChange.{get_without}
+use Rattle.kcall_core.proofs.Prelude.{ℕ, ◌<◌, ◌∙◌, ◌≡◌, ◌≢◌, Alive, ap, arith, Bool, by_pid, by_status, changed_state, cond, descriptor_map, descriptors_at, each_of, entry_at, entry_of, eq-eqb}
+use Rattle.kcall_core.proofs.Prelude.{eqb_tells, false, free_of, gathered, get, get_or, get_or-set_other, get_or-set_same, get_without, Hart, held_at, inl, inr, insert, is_this, IsCurrent, IsSome}
+use Rattle.kcall_core.proofs.Prelude.{IsSound, IsTable, Kernel, length, length-set, List, live_now, live_of, ltb, map, Memories, named_by, named_file, NOFILE, None, none-some, none_named, NPROC}
+use Rattle.kcall_core.proofs.Prelude.{open_file_at, OPEN_FILES, Option, or_nobody, or_nothing, or_zero, pid_now, pipes_of, place_at, place_now, Process, process_of, refl, remove, RunsIn, same_pages}
+use Rattle.kcall_core.proofs.Prelude.{set, slot_now, Slots, Some, state_of, subst, sym, true, with_closed, with_named}
 use Rattle.kcall_core.proofs.files.Namings.{named-seen}
 use Rattle.kcall_core.proofs.table.States.{Alone, slot-state, slot-inside, not-this}
+use Rattle.kcall_core.specs.Memories as memories
 
 -- the memories of the processes are the same, and whoever ran runs on
 pub record Shares (old new : Memories) : Type 0 where

@@ -1,24 +1,12 @@
 -- A step of a call on the terminal: bytes go to its process's memory, and the console's lists are others.
-use Rattle.std.proofs.Common.{◌≡◌, ℕ, ◌+◌, subst, Some, inr, refl, sym, ap, ◌∙◌}
-use Rattle.xk_base.specs.Image.{Image, price}
-use Rattle.hart_core.specs.declared.hart.Hart.{Hart}
-use Rattle.console_core.specs.Lists.{Console, IsWithinLimits}
-use Rattle.proc_table.specs.Slots.{descriptors_at}
-use Rattle.kernel_spec.specs.views.Processes.{Live}
-use Rattle.kernel_spec.specs.views.State.{State}
-use Rattle.kernel_spec.specs.steps.Updates.{changed_state}
-use Rattle.kernel_spec.specs.views.WellFormed.{WellFormed}
-use Rattle.kcall_core.specs.Holdings.{held_at, or_nothing, with_image}
-use Rattle.kcall_core.specs.Memories.{each_of, free_of, RunsIn, SlotChanges}
-use Rattle.kcall_core.specs.Kernel.{frame_count, live_of, state_of, IsSound, IsRunning, slot_now, place_now, pid_now, live_now}
-use Rattle.kcall_core.specs.Whole.{IsWhole}
-use Rattle.kcall_core.specs.declared.kernel.Kernel.{Kernel}
-use Rattle.kcall_core.specs.declared.memories.Memories.{Memories}
+use Rattle.kcall_core.proofs.Prelude.{ℕ, ◌+◌, ◌∙◌, ◌≡◌, ap, changed_state, Console, descriptors_at, each_of, frame_count, free_of, Hart, held_at, Image, inr, IsRunning, IsSound, IsWhole}
+use Rattle.kcall_core.proofs.Prelude.{IsWithinLimits, Kernel, Live, live_now, live_of, Memories, or_nothing, pid_now, place_now, price, refl, RunsIn, slot_now, SlotChanges, Some, State, state_of}
+use Rattle.kcall_core.proofs.Prelude.{subst, sym, WellFormed, with_image}
 use Rattle.kcall_core.proofs.table.States.{goes-processes, goes-sound, changed-here, changed-has, changed-goes}
 use Rattle.kcall_core.proofs.turns.Turned.{live-is}
-use Rattle.kernel_spec.proofs.well.WellLaws as well
 use Rattle.kcall_core.proofs.making.Midway.{WakeOn, Midway}
 use Rattle.kcall_core.proofs.making.Moved.{nobody, still}
+use Rattle.kernel_spec.proofs.well.WellLaws as well
 
 -- what the process's memory and the console are before its answer
 pub record Moving (k : Kernel) (h : Hart) (m : Memories) (image : Image) (now : Console) : Type 0 where

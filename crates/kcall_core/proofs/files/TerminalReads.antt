@@ -1,49 +1,14 @@
 -- A read from the terminal, as the code goes through it.
-use Rattle.std.proofs.Common.{◌≡◌, ℕ, ◌+◌, ◌-◌, ◌%◌, ◌^◌, ◌≤◌, Bool, true, false, cond, List, [], length, subst, Some, None, inl, inr, refl, sym, ap, ◌∙◌, arith}
-use Rattle.std.specs.Prelude.{ℤ, pos, nat_eq, nat_le, nat_lt, slice_get}
-use Rattle.std.specs.FinMap.{get}
-use Rattle.std.proofs.lemmas.Bool.{cases_lt, le-leb, lt-ltb}
+use Rattle.kcall_core.proofs.Prelude.{[], ℕ, ℤ, ◌%◌, ◌+◌, ◌-◌, ◌^◌, ◌∙◌, ◌≡◌, ◌≤◌, After, Alive, ap, arith, Blocked, Bool, Call, Called, cases_lt, changed_state, cond, Console, done, each_of, end_of}
+use Rattle.kcall_core.proofs.Prelude.{false, first_bytes, free_of, get, get_same, Hart, HasMemory, held_at, Image, inl, inr, is_for, is_read, IsRunning, IsSound, IsWhole, IsWithinLimits, Kernel}
+use Rattle.kcall_core.proofs.Prelude.{le-leb, length, line_length, List, Live, live_now, live_part, lt-ltb, Makes, Memories, name_of_file, nat_eq, nat_le, nat_lt, next_line, no_bytes, NOFILE, None}
+use Rattle.kcall_core.proofs.Prelude.{numbered, Own, pid_now, pos, Pulled, pulled, read, read_case, read_from, read_waits_for, ReadsTerminal, ready, refl, rename_shown, row_of, row_waits_for, RunsIn}
+use Rattle.kcall_core.proofs.Prelude.{show, slice_get, slot_now, SlotChanges, Some, State, state_of, Store, subst, sym, target_at, target_of_open, true, up_to, View, view_now, view_of, waits}
+use Rattle.kcall_core.proofs.Prelude.{waits_for, with_image, without_line, writable_now, write_image}
 use Rattle.std.proofs.Math.Seq.{drop-nil}
-use Rattle.xk_base.specs.declared.limits.TheConstants.{NOFILE}
-use Rattle.xk_base.specs.declared.access.Access.TheVariants.{Store}
-use Rattle.xk_base.specs.Image.{Image}
-use Rattle.xk_base.specs.Bytes.{write_image}
 use Rattle.xk_base.proofs.Bytes.{write_image-nil}
-use Rattle.hart_core.specs.declared.hart.Hart.{Hart}
-use Rattle.console_core.specs.Lists.{Console, IsWithinLimits}
-use Rattle.console_core.specs.Reads.{Pulled, pulled, line_length, first_bytes, up_to}
-use Rattle.proc_table.specs.declared.channel.Channel.TheVariants as on
-use Rattle.proc_table.specs.declared.process.Call.{Call}
-use Rattle.kernel_spec.specs.rows.Buffers.{writable_now}
-use Rattle.kernel_spec.specs.views.Processes.{Live, Alive}
-use Rattle.kernel_spec.specs.views.State.{State, live_part}
-use Rattle.kernel_spec.specs.views.View.{View, view_of, numbered, rename_shown, show}
-use Rattle.kernel_spec.specs.steps.Own.{Own, Called, Blocked}
-use Rattle.kernel_spec.specs.waking.Ready.{ready}
-use Rattle.kernel_spec.specs.rows.Calls.{row_of, read, done, waits}
-use Rattle.kernel_spec.specs.steps.Updates.{changed_state, target_of_open, end_of}
-use Rattle.kernel_spec.specs.steps.Updates as update
-use Rattle.kernel_spec.specs.waking.Conditions.{read_waits_for, row_waits_for, target_at, waits_for}
-use Rattle.kernel_spec.specs.steps.Cases.{After}
-use Rattle.kernel_spec.proofs.steps.NamesAreChosenAgain.{name_of_file}
-use Rattle.kcall_core.specs.Holdings.{held_at, with_image, HasMemory}
-use Rattle.kcall_core.specs.Memories.{each_of, free_of, RunsIn, SlotChanges}
-use Rattle.kcall_core.specs.Kernel.{state_of, IsSound, IsRunning, slot_now, pid_now, live_now}
-use Rattle.kcall_core.specs.Whole.{IsWhole}
-use Rattle.kernel_spec.specs.waking.SleepsOn.{is_for}
-use Rattle.kcall_core.specs.Makes.{Makes, view_now}
-use Rattle.kernel_spec.specs.rows.Terminal.{next_line, without_line}
-use Rattle.kcall_core.specs.Moves.{ReadsTerminal}
-use Rattle.kcall_core.specs.declared.kernel.Kernel.{Kernel}
-use Rattle.kcall_core.specs.declared.memories.Memories.{Memories}
-use Rattle.kernel_spec.proofs.steps.MapsAfterChange.{get_same}
 use Rattle.kcall_core.proofs.table.States.{running}
 use Rattle.kcall_core.proofs.turns.Turned.{live-is}
-use Rattle.kernel_spec.proofs.steps.AloneLawsHold as law
-use Rattle.kernel_spec.proofs.rows.Decoding.{is_read, read_case}
-use Rattle.kernel_spec.proofs.rows.RowParts.{read_from}
-use Rattle.kernel_spec.proofs.well.WellLaws as well
-use Rattle.kernel_spec.proofs.Common.{no_bytes}
 use Rattle.kcall_core.proofs.memory.PipeRest.{next-at, rest-reached}
 use Rattle.kcall_core.proofs.turns.StepSlots.{KeepsAll}
 use Rattle.kcall_core.proofs.making.CallAnswers.{IsDone}
@@ -52,6 +17,10 @@ use Rattle.kcall_core.proofs.making.Midway.{WakeOn, IsAsleep, midway-done, midwa
 use Rattle.kcall_core.proofs.making.Moved.{nobody, sleeps-unready}
 use Rattle.kcall_core.proofs.files.MovingRows.{shown-at, shown-there}
 use Rattle.kcall_core.proofs.files.TerminalMoves.{Moving, moving-sound, moving-midway}
+use Rattle.proc_table.specs.declared.channel.Channel.TheVariants as on
+use Rattle.kernel_spec.specs.steps.Updates as update
+use Rattle.kernel_spec.proofs.steps.AloneLawsHold as law
+use Rattle.kernel_spec.proofs.well.WellLaws as well
 
 -- ---- what a read takes and leaves
 

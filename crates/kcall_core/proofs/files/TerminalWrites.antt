@@ -1,42 +1,12 @@
 -- A write to the terminal, as the code goes through it.
-use Rattle.std.proofs.Common.{◌≡◌, ℕ, ◌+◌, ◌-◌, ◌%◌, ◌^◌, ◌≤◌, ◌<◌, true, false, cond, List, length, get_or, set, subst, Some, None, inl, inr, refl, sym, ap, ◌∙◌, arith}
-use Rattle.std.specs.Prelude.{ℤ, pos, nat_le}
-use Rattle.std.specs.FinMap.{get}
-use Rattle.std.proofs.lemmas.Bool.{cases_lt, lt-ltb, le-ltb, le-leb, lt-leb, ltb-false}
-use Rattle.std.proofs.lemmas.List.{length-append, set-get_or}
-use Rattle.xk_base.specs.declared.limits.TheConstants.{NOFILE, SEND_BYTES}
-use Rattle.xk_base.specs.Bytes.{image_bytes}
-use Rattle.hart_core.specs.declared.hart.Hart.{Hart}
-use Rattle.console_core.specs.Lists.{Console, IsWithinLimits}
-use Rattle.proc_table.specs.declared.channel.Channel.TheVariants as on
-use Rattle.proc_table.specs.declared.process.Call.{Call}
-use Rattle.kernel_spec.specs.rows.Buffers.{readable}
-use Rattle.kernel_spec.specs.views.Processes.{Live, Alive}
-use Rattle.kernel_spec.specs.views.State.{State, live_part}
-use Rattle.kernel_spec.specs.views.View.{View, view_of, numbered, rename_shown, show}
-use Rattle.kernel_spec.specs.steps.Own.{Own, Called, Blocked}
-use Rattle.kernel_spec.specs.waking.Ready.{ready}
-use Rattle.kernel_spec.specs.rows.Calls.{row_of, write, done, waits}
-use Rattle.kernel_spec.specs.steps.Updates.{changed_state, target_of_open, end_of}
-use Rattle.kernel_spec.specs.steps.Updates as update
-use Rattle.kernel_spec.specs.waking.Conditions.{write_waits_for, row_waits_for, target_at, waits_for}
-use Rattle.kernel_spec.specs.steps.Cases.{After}
-use Rattle.kcall_core.specs.Holdings.{held_at, or_nothing, held_cost, with_image, HasMemory}
-use Rattle.kcall_core.specs.Memories.{each_of, free_of, SlotChanges}
-use Rattle.kcall_core.specs.Kernel.{state_of, IsRunning, slot_now, pid_now, live_now}
-use Rattle.kcall_core.specs.Whole.{IsWhole}
-use Rattle.kernel_spec.specs.waking.SleepsOn.{is_for}
-use Rattle.kcall_core.specs.Makes.{Makes, view_now}
-use Rattle.kernel_spec.specs.rows.Terminal.{room_for, with_sent}
-use Rattle.kcall_core.specs.Moves.{WritesTerminal}
-use Rattle.kcall_core.specs.declared.kernel.Kernel.{Kernel}
-use Rattle.kernel_spec.proofs.steps.MapsAfterChange.{get_same}
+use Rattle.kcall_core.proofs.Prelude.{ℕ, ℤ, ◌%◌, ◌+◌, ◌-◌, ◌<◌, ◌^◌, ◌∙◌, ◌≡◌, ◌≤◌, After, Alive, ap, arith, Blocked, Call, Called, cases_lt, changed_state, cond, Console, done, each_of, end_of}
+use Rattle.kcall_core.proofs.Prelude.{false, free_of, get, get_or, get_same, Hart, HasMemory, held_at, held_cost, image_bytes, inl, inr, is_for, is_write, IsRunning, IsWhole, IsWithinLimits, Kernel}
+use Rattle.kcall_core.proofs.Prelude.{le-leb, le-ltb, length, length-append, List, Live, live_now, live_part, lt-leb, lt-ltb, ltb-false, Makes, nat_le, NOFILE, None, numbered, or_nothing, Own}
+use Rattle.kcall_core.proofs.Prelude.{pid_now, pos, readable, ready, refl, rename_shown, room_for, row_of, row_waits_for, SEND_BYTES, set, set-get_or, show, slot_now, SlotChanges, Some, State}
+use Rattle.kcall_core.proofs.Prelude.{state_of, subst, sym, target_at, target_of_open, the_value, true, View, view_now, view_of, waits, waits_for, with_image, with_sent, write, write_case, write_to}
+use Rattle.kcall_core.proofs.Prelude.{write_waits_for, WritesTerminal}
 use Rattle.kcall_core.proofs.table.States.{running}
 use Rattle.kcall_core.proofs.turns.Turned.{live-is}
-use Rattle.kernel_spec.proofs.steps.AloneLawsHold as law
-use Rattle.kernel_spec.proofs.rows.Decoding.{is_write, write_case}
-use Rattle.kernel_spec.proofs.rows.RowParts.{write_to}
-use Rattle.kernel_spec.proofs.Common.{the_value}
 use Rattle.kcall_core.proofs.memory.PipeRest.{next-read, rest-read}
 use Rattle.kcall_core.proofs.turns.StepSlots.{KeepsAll}
 use Rattle.kcall_core.proofs.making.CallAnswers.{IsDone}
@@ -45,6 +15,9 @@ use Rattle.kcall_core.proofs.making.Midway.{WakeOn, IsAsleep, midway-done, midwa
 use Rattle.kcall_core.proofs.making.Moved.{nobody, sleeps-unready}
 use Rattle.kcall_core.proofs.files.MovingRows.{shown-at, shown-there}
 use Rattle.kcall_core.proofs.files.TerminalMoves.{Moving, moving-midway}
+use Rattle.proc_table.specs.declared.channel.Channel.TheVariants as on
+use Rattle.kernel_spec.specs.steps.Updates as update
+use Rattle.kernel_spec.proofs.steps.AloneLawsHold as law
 
 module _ {k : Kernel} {h : Hart} {c : Call} {n : ℕ} (whole : IsWhole k h) (runs : IsRunning k) (x : WritesTerminal k h c n) where
   abbrev s : State

@@ -1,22 +1,7 @@
 -- A descriptor that a call names by its number: what is in use, and what is not.
-use Rattle.std.proofs.Common.{◌≡◌, ℕ, ◌<◌, Bool, cond, Option, Some, None, inl, inr, refl, sym, ap, ◌∙◌, subst}
-use Rattle.std.specs.Prelude.{ℤ, pos, IsSome, option_map}
-use Rattle.std.specs.FinMap.{get}
-use Rattle.std.proofs.lemmas.Bool.{cases_lt, le-ltb, lt-ltb}
-use Rattle.xk_base.specs.declared.limits.TheConstants.{NOFILE}
-use Rattle.hart_core.specs.declared.hart.Hart.{Hart}
-use Rattle.file_table.specs.Named.{named_by}
-use Rattle.file_table.specs.OpenFiles.{open_file_at, entry_file}
-use Rattle.file_table.specs.declared.open_file.OpenFile.{OpenFile}
-use Rattle.proc_table.specs.Slots.{descriptors_at}
-use Rattle.kernel_spec.specs.views.View.{view_of, named, numbered, rename}
-use Rattle.kernel_spec.proofs.steps.SeenByParts.{descriptor_at}
-use Rattle.kcall_core.specs.Kernel.{state_of, IsRunning, slot_now, live_now}
-use Rattle.kcall_core.specs.Whole.{IsWhole}
-use Rattle.kcall_core.specs.Makes.{view_now}
-use Rattle.kcall_core.specs.Moves.{InUse}
-use Rattle.kcall_core.specs.declared.kernel.Kernel.{Kernel}
-use Rattle.kernel_spec.proofs.steps.NamesAreChosenAgain.{named_at}
+use Rattle.kcall_core.proofs.Prelude.{ℕ, ℤ, ◌<◌, ◌∙◌, ◌≡◌, ap, Bool, cases_lt, cond, descriptor_at, descriptors_at, entry_file, get, Hart, inl, inr, InUse, IsRunning, IsSome, IsWhole, Kernel, le-ltb}
+use Rattle.kcall_core.proofs.Prelude.{live_now, lt-ltb, named, named_at, named_by, NOFILE, None, numbered, open_file_at, OpenFile, Option, option_map, pos, refl, rename, slot_now, Some, state_of}
+use Rattle.kcall_core.proofs.Prelude.{subst, sym, view_now, view_of}
 use Rattle.kcall_core.proofs.table.Stops.{now-slot}
 use Rattle.kcall_core.proofs.files.Namings.{named-seen}
 use Rattle.kcall_core.proofs.files.OneClosed.{used-entry, used-seen, opened-seen}

@@ -1,53 +1,20 @@
 -- A step that changes only the process that runs, which goes on or sleeps: what it does to the kernel.
-use Rattle.std.proofs.Common.{◌≡◌, ◌≢◌, ℕ, ◌+◌, true, false, length, subst, Option, Some, None, refl, sym, ap, ◌∙◌, cond, ◌||◌}
-use Rattle.std.specs.Prelude.{ℤ, IsSome, is_some, option_map}
-use Rattle.std.specs.FinMap.{get}
-use Rattle.std.proofs.lemmas.Bool.{false_from_ne_true}
+use Rattle.kcall_core.proofs.Prelude.{ℕ, ℤ, ◌+◌, ◌||◌, ◌∙◌, ◌≡◌, ◌≢◌, After, Alive, alone_law, alone_state, ap, AreCounted, asleep, Blocked, by_own, Call, Called, changed_at, Channel, channel_of}
+use Rattle.kcall_core.proofs.Prelude.{cond, Condition, Console, done, false, false_from_ne_true, frame_count, get, get_other, get_same, goes_on, halts_with, Hart, Image, in_call, insert-twice, is_for}
+use Rattle.kcall_core.proofs.Prelude.{is_open, is_some, IsBlocked, IsRunning, IsSome, IsSound, IsWhole, KeepsBuffer, Kernel, length, Live, live, live_now, live_part, Makes, mid_after, None, none-some}
+use Rattle.kcall_core.proofs.Prelude.{opens_nothing, Option, option_map, or_nobody, or_zero, Own, pid_now, place_at, place_now, price, Process, ready, refl, Registers, same_Some, Sleeps, slot_now}
+use Rattle.kcall_core.proofs.Prelude.{Slots, Some, State, state_of, status_of, Step_of, subst, sym, true, Turns, turns_of, TurnsAfter, view_alone, view_now, view_of, waiting, waits, waits_for}
+use Rattle.kcall_core.proofs.Prelude.{WakesWhereDue, WellFormed, with_a0, with_answer, word, world_of, Zombie}
 use Rattle.std.proofs.Math.ListN.{length-set}
-use Rattle.std.proofs.lemmas.Option.{none-some, same_Some}
-use Rattle.xk_base.specs.Image.{Image, price}
-use Rattle.rv64i_core.specs.Registers.{Registers}
-use Rattle.hart_core.specs.declared.hart.Hart.{Hart}
-use Rattle.file_table.specs.OpenFiles as files
-use Rattle.proc_table.specs.Processes.{status_of, channel_of, asleep, in_call}
-use Rattle.proc_table.specs.Slots.{place_at, changed_at, Slots}
-use Rattle.proc_table.specs.declared.channel.Channel.{Channel}
-use Rattle.proc_table.specs.declared.process.Call.{Call}
-use Rattle.proc_table.specs.declared.process.Process.{Process}
-use Rattle.console_core.specs.Lists.{Console}
-use Rattle.kernel_spec.specs.views.Processes.{Live, Alive, Zombie}
-use Rattle.kernel_spec.specs.views.State.{State, live, live_part}
-use Rattle.kernel_spec.specs.views.View.{view_of}
-use Rattle.kernel_spec.specs.steps.Own.{Own, Called, Blocked, goes_on}
-use Rattle.kernel_spec.specs.waking.Ready.{ready}
-use Rattle.kernel_spec.specs.waking.Turns.{Turns, Sleeps}
-use Rattle.kernel_spec.specs.steps.Updates.{alone_state, with_answer}
-use Rattle.kernel_spec.specs.runs.Run.{Step_of, TurnsAfter, IsBlocked, halts_with}
-use Rattle.kernel_spec.specs.waking.Wakes.{WakesWhereDue}
-use Rattle.kernel_spec.specs.views.WellFormed.{WellFormed}
-use Rattle.kernel_spec.specs.waking.Conditions.{is_open, waits_for, Condition}
-use Rattle.kernel_spec.specs.steps.Cases.{After}
-use Rattle.kcall_core.specs.Kernel.{state_of, IsSound, IsRunning, or_nobody, slot_now, place_now, pid_now, live_now, frame_count}
-use Rattle.kcall_core.specs.Machine.{turns_of, world_of}
-use Rattle.kcall_core.specs.Whole.{IsWhole, AreCounted}
-use Rattle.kcall_core.specs.Buffers.{KeepsBuffer}
-use Rattle.kernel_spec.specs.waking.SleepsOn.{is_for}
-use Rattle.kcall_core.specs.declared.kernel.Kernel.{Kernel}
-use Rattle.kernel_spec.specs.views.Words.{word, or_zero}
-use Rattle.kernel_spec.specs.rows.Calls.{done, with_a0, waits}
-use Rattle.kcall_core.specs.Makes.{Makes, view_now}
-use Rattle.kernel_spec.proofs.steps.MapsAfterChange.{get_same, get_other, insert-twice}
 use Rattle.kcall_core.proofs.table.States.{running}
-use Rattle.kernel_spec.proofs.well.WellLaws as well
-use Rattle.kernel_spec.proofs.waking.Openings.{opens_nothing}
 use Rattle.kcall_core.proofs.turns.Turned.{live-is}
 use Rattle.kcall_core.proofs.table.OnePlace.{ItsPlace, place-slots, place-counted, place-sleepers, changed-place, in-call-lives, in-call-channel, asleep-lives, asleep-channel, place-join}
-use Rattle.kernel_spec.proofs.steps.AloneLawsHold.{alone_law, by_own, mid_after, waiting}
-use Rattle.kernel_spec.proofs.steps.ChangeIsSeen.{view_alone}
 use Rattle.kcall_core.proofs.turns.WhoRuns.{place-is, place-lives, now-is}
 use Rattle.kcall_core.proofs.turns.StepSlots.{KeepsAll, slots-kept}
 use Rattle.kcall_core.proofs.making.Buffers.{no-call-keeps, changed-buffers}
 use Rattle.kcall_core.proofs.making.Making.{Itself, Others, Leaves, leaves-whole, made}
+use Rattle.file_table.specs.OpenFiles as files
+use Rattle.kernel_spec.proofs.well.WellLaws as well
 
 -- what the records below have in common: process `after` stands where the process that runs stood, and sleeps on this channel, if any
 record ItsStep (k : Kernel) (h : Hart) (k' : Kernel) (h' : Hart) (after : Process) (on : Option Channel) : Type 0 where

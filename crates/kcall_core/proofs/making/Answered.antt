@@ -1,15 +1,6 @@
 -- A call of the process that runs is answered: its registers become others, and perhaps its image.
-use Rattle.std.proofs.Common.{◌≡◌, get_or, Some, None, sym, ap, ◌∙◌, subst, arith}
-use Rattle.std.specs.Prelude.{IsSome}
-use Rattle.xk_base.specs.Image.{Image}
-use Rattle.rv64i_core.specs.Registers.{Registers}
-use Rattle.hart_core.specs.declared.hart.Hart.{Hart}
-use Rattle.proc_table.specs.Slots.{descriptors_at}
-use Rattle.kernel_spec.specs.steps.Updates.{set_live}
-use Rattle.kcall_core.specs.Holdings.{or_nothing, held_at, with_image}
-use Rattle.kcall_core.specs.Memories.{each_of, free_of, RunsIn, SlotChanges, Same}
-use Rattle.kcall_core.specs.Kernel.{live_of, state_of, IsRunning, slot_now, place_now, pid_now, live_now, IsSound, IsRepriced}
-use Rattle.kcall_core.specs.declared.kernel.Kernel.{Kernel}
+use Rattle.kcall_core.proofs.Prelude.{◌∙◌, ◌≡◌, ap, arith, descriptors_at, each_of, free_of, get_or, Hart, held_at, Image, IsRepriced, IsRunning, IsSome, IsSound, Kernel, live_now, live_of, None}
+use Rattle.kcall_core.proofs.Prelude.{or_nothing, pid_now, place_now, Registers, RunsIn, Same, set_live, slot_now, SlotChanges, Some, state_of, subst, sym, with_image}
 use Rattle.kcall_core.proofs.table.States.{running, Goes, goes-sound, goes-state, runs-same, changed-here, changed-has, changed-goes}
 use Rattle.kcall_core.proofs.table.Stops.{Rest, cost-held}
 

@@ -1,34 +1,16 @@
 -- The process that runs is to sleep: it is in its call and on a channel, and nothing else that the state tells is another.
-use Rattle.std.proofs.Common.{◌≡◌, ◌≢◌, ℕ, List, set, Option, Some, None, inl, inr, refl, sym, ap, ◌∙◌, subst, arith}
-use Rattle.std.specs.Prelude.{option_map}
-use Rattle.std.proofs.lemmas.Bool.{cases_eq}
-use Rattle.std.proofs.lemmas.List.{get_or-set_same, get_or-set_other}
-use Rattle.std.proofs.lemmas.Option.{none-some, same_Some}
-use Rattle.xk_base.specs.declared.limits.TheConstants.{NPROC}
-use Rattle.rv64i_core.specs.Registers.{Registers}
-use Rattle.hart_core.specs.declared.hart.Hart.{Hart}
-use Rattle.proc_table.specs.Processes.{status_of, in_call, asleep}
-use Rattle.proc_table.specs.Slots.{Slots, place_at, descriptors_at, IsTable, IsLiveAt, changed_at}
-use Rattle.proc_table.specs.declared.channel.Channel.{Channel}
-use Rattle.proc_table.specs.declared.process.Call.{Call}
-use Rattle.proc_table.specs.declared.process.State as table
-use Rattle.proc_table.specs.declared.process.State.TheVariants.{Live as Live_state, Zombie as Zombie_state}
-use Rattle.proc_table.specs.declared.process.Process.{Process}
-use Rattle.proc_table.proofs.Pids.{table_at}
-use Rattle.kernel_spec.specs.views.Words.{or_zero}
-use Rattle.kernel_spec.specs.views.ByPid.{by_pid}
-use Rattle.kernel_spec.specs.steps.Updates.{own_state}
-use Rattle.kernel_spec.specs.steps.Updates as update
-use Rattle.kcall_core.specs.Holdings.{Held, held_at}
-use Rattle.kcall_core.specs.Memories.{each_of}
-use Rattle.kcall_core.specs.Kernel.{process_of, regs_at, entry_of, entry_at, state_of, IsSound, IsRunning, IsCurrent, slot_now, pid_now, live_now}
-use Rattle.kcall_core.specs.declared.kernel.Kernel.{Kernel}
+use Rattle.kcall_core.proofs.Prelude.{ℕ, ◌∙◌, ◌≡◌, ◌≢◌, ap, arith, asleep, by_pid, Call, cases_eq, changed_at, Channel, descriptors_at, each_of, entry_at, entry_of, get_or-set_other, get_or-set_same}
+use Rattle.kcall_core.proofs.Prelude.{Hart, Held, held_at, in_call, inl, inr, IsCurrent, IsLiveAt, IsRunning, IsSound, IsTable, Kernel, List, live_now, Live_state, None, none-some, NPROC, Option}
+use Rattle.kcall_core.proofs.Prelude.{option_map, or_zero, own_state, pid_now, place_at, Process, process_of, refl, Registers, regs_at, same_Some, set, slot_now, Slots, Some, state_of, status_of}
+use Rattle.kcall_core.proofs.Prelude.{subst, sym, table_at, Zombie_state}
 use Rattle.kcall_core.proofs.table.ByPid.{by_pid-same}
 use Rattle.kcall_core.proofs.table.States.{Alone, Running, running, alone-entries, not-this, not-over}
 use Rattle.kcall_core.proofs.table.Stops.{read-some, live-place}
 use Rattle.kcall_core.proofs.turns.Chosen.{noted}
 use Rattle.kcall_core.proofs.table.OnePlace.{asleep-lives}
 use Rattle.kcall_core.proofs.table.InCall.{is-in-call, progress-set}
+use Rattle.proc_table.specs.declared.process.State as table
+use Rattle.kernel_spec.specs.steps.Updates as update
 
 -- who sleeps is no part of the state
 asleep-means : (on : Channel) (p : Process) (files : List (Option ℕ)) (held : Held) (regs : Registers) → process_of (asleep on p) files held regs ≡ process_of p files held regs

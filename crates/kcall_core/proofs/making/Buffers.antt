@@ -1,32 +1,10 @@
 -- The buffers of reads and writes in progress stay there, whatever a step does.
-use Rattle.std.proofs.Common.{◌≡◌, ◌≢◌, ℕ, ◌<◌, Bool, true, false, ◌||◌, List, [], ◌∷◌, Option, Some, None, inl, inr, refl, sym, ap, ◌∙◌, subst, arith}
-use Rattle.std.specs.Prelude.{◌/◌, ◌*◌, ◌&&◌, pos, not, nat_lt, is_some, is_none, option_map, MatchOption}
-use Rattle.std.specs.FinMap.{get, insert}
-use Rattle.std.specs.List.{list_all, list_any, range_with_len}
-use Rattle.std.proofs.lemmas.Bool.{cases_eq, or_parts, or_right, and_parts, and_from, false≢true}
-use Rattle.std.proofs.lemmas.Option.{none-some, same_Some}
-use Rattle.xk_base.specs.Image.{Image, Page}
-use Rattle.xk_base.specs.Bytes.{write_image}
-use Rattle.xk_base.specs.declared.access.Access.TheVariants.{Load}
-use Rattle.addr_space.specs.Absent.{is_absent, pages_at, brought}
-use Rattle.addr_space.specs.Changes.{perm_of_page}
-use Rattle.addr_space.proofs.Touching.{brought-size}
-use Rattle.user_copy.specs.Reach.{allows, may}
-use Rattle.proc_table.specs.declared.process.Call.{Call}
-use Rattle.kernel_spec.specs.views.Words.{c_int}
-use Rattle.kernel_spec.specs.views.Processes.{Live, Alive}
-use Rattle.kernel_spec.specs.views.State.{State, live, live_part}
-use Rattle.kernel_spec.specs.views.View.{View, view, view_of}
-use Rattle.kernel_spec.specs.rows.Buffers.{may_touching, reaches_touching, readable, writable_now}
-use Rattle.kernel_spec.specs.rows.Touches.{has_absent}
-use Rattle.kernel_spec.specs.steps.Own.{Own}
-use Rattle.kernel_spec.specs.others.Quiet.{seen}
-use Rattle.kernel_spec.specs.steps.Cases.{After, IsBuffer}
-use Rattle.kcall_core.specs.Buffers.{HasMoved, KeepsBuffer, KeepBuffers}
-use Rattle.kernel_spec.proofs.Common.{none_from_is_none, is_some-view, the_value}
-use Rattle.kernel_spec.proofs.rows.RowParts.{length_of_int}
-use Rattle.kernel_spec.proofs.rows.Settled.{there-not-absent, brought-there, brought-keeps, brought-new, brought-none, there-ready, ready-there, store-brought}
-use Rattle.kernel_spec.proofs.steps.MapsAfterChange.{get_same, get_other}
+use Rattle.kcall_core.proofs.Prelude.{[], ℕ, ◌&&◌, ◌*◌, ◌/◌, ◌<◌, ◌||◌, ◌∙◌, ◌∷◌, ◌≡◌, ◌≢◌, After, Alive, allows, and_from, and_parts, ap, arith, Bool, brought, brought-keeps, brought-new}
+use Rattle.kcall_core.proofs.Prelude.{brought-none, brought-size, brought-there, c_int, Call, cases_eq, false, false≢true, get, get_other, get_same, has_absent, HasMoved, Image, inl, inr, insert}
+use Rattle.kcall_core.proofs.Prelude.{is_absent, is_none, is_some, is_some-view, IsBuffer, KeepBuffers, KeepsBuffer, length_of_int, List, list_all, list_any, Live, live, live_part, Load, MatchOption}
+use Rattle.kcall_core.proofs.Prelude.{may, may_touching, nat_lt, None, none-some, none_from_is_none, not, Option, option_map, or_parts, or_right, Own, Page, pages_at, perm_of_page, pos}
+use Rattle.kcall_core.proofs.Prelude.{range_with_len, reaches_touching, readable, ready-there, refl, same_Some, seen, Some, State, store-brought, subst, sym, the_value, there-not-absent, there-ready}
+use Rattle.kcall_core.proofs.Prelude.{true, View, view, view_of, writable_now, write_image}
 use Rattle.kernel_spec.proofs.steps.WritesKeepRights.{writable_written, absent_written}
 
 -- ---- one process

@@ -1,29 +1,13 @@
 -- What a call of the process that runs comes to: at its first step, and where it goes on.
-use Rattle.std.proofs.Common.{◌≡◌, false, length, Option, Some, None, refl, sym, ap, ◌∙◌, subst}
-use Rattle.std.specs.Prelude.{ℤ}
-use Rattle.rv64i_core.specs.Registers.{reg, with_pc, after}
-use Rattle.rv64i_core.specs.Step.{Ecall}
-use Rattle.hart_core.specs.declared.hart.Hart.{Hart}
-use Rattle.proc_table.specs.declared.process.Call.{Call}
-use Rattle.kernel_spec.specs.steps.Instruction.{next_instruction}
-use Rattle.kernel_spec.specs.views.Words.{A0, A1, A2, A7, c_int}
-use Rattle.kernel_spec.specs.views.View.{view_of}
-use Rattle.kernel_spec.specs.steps.Own.{Own}
-use Rattle.kernel_spec.specs.rows.Calls.{perform, done}
-use Rattle.kernel_spec.specs.steps.Step.{own, call_begun, call_or_begun, call_in}
-use Rattle.kernel_spec.specs.steps.Updates.{own_state, with_answer}
-use Rattle.kernel_spec.specs.steps.Cases as laws
-use Rattle.kernel_spec.specs.steps.Cases.{IsLive, begun_live, begun_state}
-use Rattle.kcall_core.specs.Kernel.{state_of, IsSound, IsRunning, pid_now, live_now}
-use Rattle.kcall_core.specs.Whole.{IsWhole}
-use Rattle.kcall_core.specs.Makes.{Makes, view_now, answer_of}
-use Rattle.kcall_core.specs.declared.kernel.Kernel.{Kernel}
-use Rattle.kcall_core.specs.declared.call_end.CallEnd.{CallEnd}
-use Rattle.kernel_spec.proofs.steps.AloneLawsHold as law
+use Rattle.kcall_core.proofs.Prelude.{ℤ, ◌∙◌, ◌≡◌, A0, A1, A2, A7, after, answer_of, ap, begun_live, begun_state, c_int, Call, call_begun, call_in, call_or_begun, CallEnd, done, Ecall, false, Hart}
+use Rattle.kcall_core.proofs.Prelude.{IsLive, IsRunning, IsSound, IsWhole, Kernel, length, live_now, Makes, next_instruction, None, Option, Own, own, own_state, perform, pid_now, refl, reg, Some}
+use Rattle.kcall_core.proofs.Prelude.{state_of, subst, sym, view_now, view_of, with_answer, with_pc}
 use Rattle.kcall_core.proofs.table.InCall.{calling, moved, is-in-call}
 use Rattle.kcall_core.proofs.turns.Turned.{live-is}
 use Rattle.kcall_core.proofs.making.Buffers.{unmoved-keeps}
 use Rattle.kcall_core.proofs.making.AloneMakes.{OnlyItself, only-pid, only-whole, answer-makes, mid-makes}
+use Rattle.kernel_spec.specs.steps.Cases as laws
+use Rattle.kernel_spec.proofs.steps.AloneLawsHold as law
 
 -- ---- a call that is done at once
 

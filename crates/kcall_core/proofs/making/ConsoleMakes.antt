@@ -1,45 +1,20 @@
 -- A key is typed, or a byte is sent: the console is another, and those wake who wait for what has come.
-use Rattle.std.proofs.Common.{◌≡◌, ◌≢◌, ℕ, ◌≤◌, ◌||◌, Bool, true, false, List, [], ◌∷◌, length, drop, subst, Option, Some, None, inl, inr, ◌⊎◌, refl, sym, ap, ◌∙◌, arith}
-use Rattle.std.specs.Prelude.{ℤ, option_map, is_some, nat_lt, slice_get}
-use Rattle.std.proofs.lemmas.Bool.{lt-ltb, and_right}
-use Rattle.std.proofs.lemmas.Option.{none-some, same_Some}
-use Rattle.xk_base.specs.declared.limits.TheConstants.{NPROC, SEND_BYTES}
-use Rattle.console_core.specs.Lists.{Console, IsWithinLimits}
+use Rattle.kcall_core.proofs.Prelude.{[], ℕ, ℤ, ◌||◌, ◌∙◌, ◌∷◌, ◌≡◌, ◌≢◌, ◌≤◌, ◌⊎◌, and_right, and_true, ap, AreCounted, arith, Bool, Bytes, Channel, channel_of, Child_of, Condition, Console}
+use Rattle.kcall_core.proofs.Prelude.{descriptors_at, drop, each_changed, false, first_sent, frame_count, free_of, Hart, HasNoProcess, inl, inr, is_for, is_open, is_some, IsButWoken, IsEnd, IsInCall}
+use Rattle.kcall_core.proofs.Prelude.{IsSound, IsWhole, IsWithinLimits, KeepBuffers, Kernel, KeyHappens, Keys, length, List, Live, live, lt-ltb, namings, nat_lt, no_process, None, none-some, NPROC}
+use Rattle.kcall_core.proofs.Prelude.{Option, option_map, or_nobody, or_zero, Outcome, pid_now, pipes_of, place_at, place_is_live, Process, process_pid, ready, ready_is, refl, Room, same_Some}
+use Rattle.kcall_core.proofs.Prelude.{SEND_BYTES, SendHappens, Sending, Sent, sent, sleepers_below, slice_get, slot_now, Slots, slots_of, Some, State, state_of, subst, sym, Ticked, Time, true}
+use Rattle.kcall_core.proofs.Prelude.{turns_of, Typed, View, view_of, waits_for, wakes_if, WakesWhereDue, WellFormed, woken_by, world_of}
 use Rattle.console_core.specs.Keys.{line}
 use Rattle.console_core.proofs.KeyKeeps.{key-sends-nothing}
-use Rattle.hart_core.specs.declared.hart.Hart.{Hart}
-use Rattle.file_table.specs.OpenFiles as files
-use Rattle.proc_table.specs.Processes.{channel_of}
-use Rattle.proc_table.specs.Slots.{Slots, place_at, place_is_live, descriptors_at, process_pid, each_changed, no_process}
-use Rattle.proc_table.specs.declared.channel.Channel.{Channel}
-use Rattle.proc_table.specs.declared.channel.Channel.TheVariants as on
-use Rattle.proc_table.specs.declared.process.Process.{Process}
-use Rattle.kernel_spec.specs.views.Processes.{Live}
-use Rattle.kernel_spec.specs.views.State.{State, live}
-use Rattle.kernel_spec.specs.views.View.{View, view_of}
-use Rattle.kernel_spec.specs.waking.Ready.{ready}
-use Rattle.kernel_spec.specs.runs.Run.{Outcome, Ticked, Typed, Sent, KeyHappens, SendHappens, IsButWoken, first_sent, sent}
-use Rattle.kernel_spec.specs.waking.Wakes.{WakesWhereDue, IsInCall, IsEnd}
-use Rattle.kernel_spec.specs.views.WellFormed.{WellFormed}
-use Rattle.kcall_core.specs.Closings.{woken_by, wakes_if}
-use Rattle.kernel_spec.specs.waking.Conditions.{Condition, Child_of, Bytes, Room, Time, Keys, Sending, is_open, waits_for}
-use Rattle.kcall_core.specs.Memories.{pipes_of, free_of}
-use Rattle.kcall_core.specs.Starts.{HasNoProcess}
-use Rattle.kcall_core.specs.Kernel.{frame_count, state_of, IsSound, or_nobody, slot_now, pid_now}
-use Rattle.kcall_core.specs.Machine.{slots_of, sleepers_below, turns_of, world_of}
-use Rattle.kernel_spec.specs.views.Words.{or_zero}
-use Rattle.kcall_core.specs.Buffers.{KeepBuffers}
-use Rattle.kcall_core.specs.Whole.{IsWhole, AreCounted, namings}
-use Rattle.kernel_spec.specs.waking.SleepsOn.{is_for}
-use Rattle.kcall_core.specs.declared.kernel.Kernel.{Kernel}
 use Rattle.kcall_core.proofs.table.Deserted.{wakes-nobody, console-within}
 use Rattle.kcall_core.proofs.table.Woken.{woken-channel, place-each, live-woken, stirred-state, stirred-sound}
 use Rattle.kcall_core.proofs.turns.StepSlots.{same-pid}
 use Rattle.kcall_core.proofs.turns.Turned.{slots-same}
-use Rattle.kernel_spec.proofs.waking.Wakes.{ready_is}
 use Rattle.kcall_core.proofs.making.Sleepers.{Sleeping, changed-stays, changed-slept, slept-before, wakes-due, on-channels, unready}
+use Rattle.file_table.specs.OpenFiles as files
+use Rattle.proc_table.specs.declared.channel.Channel.TheVariants as on
 use Rattle.kernel_spec.proofs.well.WellLaws as well
-use Rattle.kernel_spec.proofs.Common.{and_true}
 
 -- What is left: the console is another, those on some channels woke, and all else stays
 pub record HasConsole (k : Kernel) (console : Console) (wakes : Channel → Bool) (k' : Kernel) : Type 0 where

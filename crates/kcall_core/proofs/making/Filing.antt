@@ -1,46 +1,16 @@
 -- A call that changes its process, descriptors, open files, pipes, the console and the free frames: what it has to leave to make the step that its row tells.
-use Rattle.std.proofs.Common.{◌≡◌, ◌≢◌, ℕ, Bool, true, false, cond, ◌||◌, subst, Option, Some, None, inl, inr, ◌⊎◌, refl, sym, ap, ◌∙◌}
-use Rattle.std.specs.Prelude.{IsSome, is_some, option_map}
-use Rattle.std.specs.Ordering.{nat_cmp}
-use Rattle.std.specs.FinMap.{FinMap}
-use Rattle.std.proofs.lemmas.Bool.{cases_eq}
-use Rattle.std.proofs.lemmas.Option.{same_Some}
-use Rattle.hart_core.specs.declared.hart.Hart.{Hart}
-use Rattle.pipe_core.specs.Pipe.{Pipe}
-use Rattle.console_core.specs.Lists.{Console}
-use Rattle.file_table.specs.OpenFiles as files
-use Rattle.file_table.specs.declared.open_file.OpenFile.{OpenFile}
-use Rattle.proc_table.specs.Processes.{channel_of}
-use Rattle.proc_table.specs.Slots.{place_at, process_pid, pid_at}
-use Rattle.proc_table.specs.declared.channel.Channel.{Channel}
-use Rattle.proc_table.specs.declared.process.Process.{Process}
-use Rattle.kernel_spec.specs.views.Processes.{Live, Alive}
-use Rattle.kernel_spec.specs.views.State.{State, live, live_part}
-use Rattle.kernel_spec.specs.views.View.{view_of}
-use Rattle.kernel_spec.specs.steps.Own.{Own}
-use Rattle.kernel_spec.specs.waking.Ready.{ready}
-use Rattle.kernel_spec.specs.runs.Run.{IsBlocked}
-use Rattle.kernel_spec.specs.views.WellFormed.{WellFormed}
-use Rattle.kernel_spec.specs.steps.Updates.{changed_state}
-use Rattle.kcall_core.specs.Closings.{woken_by}
-use Rattle.kernel_spec.specs.waking.Conditions.{Condition, is_open, waits_for, KeepsTargets}
-use Rattle.kernel_spec.specs.steps.Cases.{After, FilesLeft}
-use Rattle.kcall_core.specs.Kernel.{frame_count, state_of, IsSound, IsRunning, or_nobody, slot_now, pid_now, live_now}
-use Rattle.kcall_core.specs.Machine.{slots_of}
-use Rattle.kcall_core.specs.Whole.{IsWhole, AreCounted}
-use Rattle.kcall_core.specs.Buffers.{KeepsBuffer}
-use Rattle.kernel_spec.specs.waking.SleepsOn.{is_for}
-use Rattle.kcall_core.specs.Makes.{Makes}
-use Rattle.kcall_core.specs.declared.kernel.Kernel.{Kernel}
-use Rattle.kernel_spec.proofs.steps.MapsAfterChange.{get_same, get_other}
+use Rattle.kcall_core.proofs.Prelude.{ℕ, ◌||◌, ◌∙◌, ◌≡◌, ◌≢◌, ◌⊎◌, After, Alive, ap, AreCounted, Bool, cases_eq, changed_state, Channel, channel_of, cond, Condition, Console, false, FilesLeft, FinMap}
+use Rattle.kcall_core.proofs.Prelude.{frame_count, get_other, get_same, Hart, inl, inr, is_for, is_open, is_some, IsBlocked, IsRunning, IsSome, IsSound, IsWhole, KeepsBuffer, KeepsTargets, Kernel}
+use Rattle.kcall_core.proofs.Prelude.{Live, live, live_now, live_part, Makes, nat_cmp, None, OpenFile, Option, option_map, or_nobody, Own, pid_at, pid_now, Pipe, place_at, Process, process_pid, ready}
+use Rattle.kcall_core.proofs.Prelude.{refl, same_Some, slot_now, slots_of, Some, State, state_of, subst, sym, true, view_of, waits_for, waits_stay, WellFormed, woken_by}
 use Rattle.kcall_core.proofs.table.States.{running}
 use Rattle.kcall_core.proofs.turns.Turned.{slots-same, live-is}
-use Rattle.kernel_spec.proofs.waking.WaitsOn.{waits_stay}
 use Rattle.kcall_core.proofs.turns.StepSlots.{KeepsAll, same-pid, slots-kept}
 use Rattle.kcall_core.proofs.table.Woken.{woken-channel}
 use Rattle.kcall_core.proofs.making.Sleepers.{changed-stays, changed-slept}
 use Rattle.kcall_core.proofs.making.Buffers.{changed-buffers}
 use Rattle.kcall_core.proofs.making.Making.{Itself, Others, made}
+use Rattle.file_table.specs.OpenFiles as files
 
 -- The state after it: process p is m, with these open files, pipes, console and free frames
 pub record Filed (k : Kernel) (h : Hart) (k' : Kernel) (h' : Hart) (o : Own) (wakes : Channel → Bool) (on : Option Channel) (m : Live)

@@ -1,35 +1,12 @@
 -- The process that runs has another image, and then its call is done.
-use Rattle.std.proofs.Common.{◌≡◌, ℕ, ◌+◌, ◌<◌, ◌≤◌, length, Some, None, refl, sym, ap, ◌∙◌, subst, arith}
-use Rattle.std.specs.Prelude.{ℤ, true, false, Result, Ok, Err, IfOk, IfErr, is_ok}
-use Rattle.std.proofs.lemmas.Bool.{true≢false}
-use Rattle.xk_base.specs.Image.{Image, price}
-use Rattle.xk_base.specs.declared.access.Rights.{Rights}
-use Rattle.addr_space.specs.Absent.{grown_lazily}
-use Rattle.addr_space.specs.Changes.{grown as grown_with}
-use Rattle.hart_core.specs.declared.hart.Hart.{Hart}
-use Rattle.proc_table.specs.Processes.{in_call}
-use Rattle.proc_table.specs.Slots.{changed_at}
-use Rattle.proc_table.specs.declared.process.Call.{Call}
+use Rattle.kcall_core.proofs.Prelude.{ℕ, ℤ, ◌+◌, ◌<◌, ◌∙◌, ◌≡◌, ◌≤◌, ap, arith, at-greater, at-smaller, at_size, Call, changed_at, data_rights, done, each_of, Err, false, free_of, grown as grown_with}
+use Rattle.kcall_core.proofs.Prelude.{grown_lazily, Hart, HasImage, held_at, IfErr, IfOk, Image, in_call, is_ok, IsRunning, IsSound, IsTooDear, IsWhole, Kernel, length, Live, live_now, Makes}
+use Rattle.kcall_core.proofs.Prelude.{Memories, None, Ok, or_nothing, Own, own_state, pid_now, price, refl, Result, Rights, RunsIn, Same, set_live, slot_now, SlotChanges, Some, State, state_of, subst}
+use Rattle.kcall_core.proofs.Prelude.{sym, true, true≢false, view_now, view_of, with_answer, with_image}
 use Rattle.kernel_spec.specs.rows.Buffers.{grown, shrunk}
-use Rattle.xk_base.specs.Access.{data_rights}
-use Rattle.kernel_spec.specs.views.Processes.{Live}
-use Rattle.kernel_spec.specs.views.State.{State}
-use Rattle.kernel_spec.specs.views.View.{view_of}
-use Rattle.kernel_spec.specs.steps.Own.{Own}
-use Rattle.kernel_spec.specs.rows.Calls.{done}
-use Rattle.kernel_spec.specs.steps.Updates.{set_live, own_state, with_answer}
-use Rattle.kcall_core.specs.Holdings.{or_nothing, held_at, with_image}
-use Rattle.kcall_core.specs.Memories.{each_of, free_of, RunsIn, SlotChanges, Same}
-use Rattle.kcall_core.specs.Kernel.{state_of, IsRunning, slot_now, pid_now, live_now, IsSound, IsTooDear, HasImage}
-use Rattle.kernel_spec.specs.rows.Sizes.{at_size}
-use Rattle.kcall_core.specs.Whole.{IsWhole}
-use Rattle.kcall_core.specs.Makes.{Makes, view_now}
-use Rattle.kcall_core.specs.declared.kernel.Kernel.{Kernel}
-use Rattle.kcall_core.specs.declared.memories.Memories.{Memories}
 use Rattle.kcall_core.proofs.table.States.{running, changed-here}
 use Rattle.kcall_core.proofs.table.Stops.{now-slot}
 use Rattle.kcall_core.proofs.making.Answered.{answered-same, answered-anew}
-use Rattle.kernel_spec.proofs.rows.Resized.{at-greater, at-smaller}
 use Rattle.kcall_core.proofs.making.AloneMakes.{IsAnswered, alone-twice, done-makes}
 
 -- ---- by the answer of a growth

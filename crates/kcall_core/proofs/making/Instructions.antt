@@ -1,52 +1,22 @@
 -- One instruction of the process that runs, as a step of its own and nothing else.
-use Rattle.std.proofs.Common.{◌≡◌, ◌≢◌, ℕ, ◌+◌, ◌<◌, true, length, set, arith, Option, Some, None, refl, sym, ap, ◌∙◌, subst}
-use Rattle.std.specs.Prelude.{ℤ, option_map}
-use Rattle.std.specs.FinMap.{get}
-use Rattle.rv64i_core.specs.Registers.{Registers}
+use Rattle.kcall_core.proofs.Prelude.{ℕ, ℤ, ◌+◌, ◌<◌, ◌∙◌, ◌≡◌, ◌≢◌, After, Alive, ap, arith, before-next, begins, Blocked, call_of, changed_at, Channel, channel_of, descriptors_at, each_of, Ecall}
+use Rattle.kcall_core.proofs.Prelude.{Fault, get, goes_on, Hart, held_at, Holds, Image, in_call, insert_again, instruction, is_for, IsRunning, IsSound, IsWhole, KeepBuffers, Kernel, length, Live}
+use Rattle.kcall_core.proofs.Prelude.{live, live_now, live_of, Makes, Memories, Next, next_instruction, next_of_stop, None, Option, option_map, or_nobody, or_nothing, Own, own, pid_now, place_at}
+use Rattle.kcall_core.proofs.Prelude.{place_now, price, Process, refl, Registers, regs_after, set, set_live, slot_now, Slots, Some, State, state_after, state_call, state_in_call, state_of, Stays}
+use Rattle.kcall_core.proofs.Prelude.{Step, step_in, Stepped, stepped, Steps, Stop, stop_of, stored, subst, sym, true, turns_of, View, view, view_now, view_of, waits_for, WellFormed, with_image}
+use Rattle.kcall_core.proofs.Prelude.{with_store}
 use Rattle.rv64i_core.specs.Memory.{Store}
-use Rattle.rv64i_core.specs.Step.{Step, Next, Ecall, Fault, stop_of, regs_after, state_after}
-use Rattle.rv64i_core.specs.declared.execution.Stop.{Stop}
-use Rattle.rv64i_core.specs.declared.execution.Stop.TheVariants as stops
-use Rattle.rv64i_core.specs.UserImage.{with_store}
-use Rattle.hart_core.specs.declared.hart.Hart.{Hart}
-use Rattle.xk_base.specs.Image.{Image, price}
-use Rattle.proc_table.specs.declared.channel.Channel.{Channel}
-use Rattle.proc_table.specs.declared.process.Process.{Process}
-use Rattle.proc_table.specs.declared.process.State as table
-use Rattle.proc_table.specs.declared.process.State.TheVariants as table_state
-use Rattle.proc_table.specs.Processes.{channel_of, call_of, state_call, state_in_call, in_call}
-use Rattle.proc_table.specs.Slots.{Slots, Holds, place_at, descriptors_at, changed_at}
-use Rattle.kernel_spec.specs.steps.Instruction.{next_instruction}
-use Rattle.kernel_spec.specs.views.Processes.{Live, Alive}
-use Rattle.kernel_spec.specs.views.State.{State, live}
-use Rattle.kernel_spec.specs.views.View.{View, view, view_of}
-use Rattle.kernel_spec.specs.steps.Own.{Own, Stepped, Blocked, goes_on}
-use Rattle.kernel_spec.specs.steps.Step.{own, stored}
-use Rattle.kernel_spec.specs.steps.Cases as laws
-use Rattle.kernel_spec.specs.steps.Cases.{After}
-use Rattle.kernel_spec.specs.views.WellFormed.{WellFormed}
-use Rattle.kernel_spec.specs.waking.Conditions.{waits_for}
-use Rattle.kcall_core.specs.Holdings.{held_at, or_nothing, with_image}
-use Rattle.kcall_core.specs.Memories.{each_of, step_in, Steps}
-use Rattle.kcall_core.specs.Kernel.{state_of, live_of, IsSound, IsRunning, or_nobody, slot_now, place_now, pid_now, live_now}
-use Rattle.kcall_core.specs.Machine.{turns_of}
-use Rattle.kcall_core.specs.Whole.{IsWhole}
-use Rattle.kcall_core.specs.Buffers.{KeepBuffers}
-use Rattle.kernel_spec.specs.waking.SleepsOn.{is_for}
-use Rattle.kcall_core.specs.Makes.{Makes, Stays, view_now}
-use Rattle.kcall_core.specs.declared.kernel.Kernel.{Kernel}
-use Rattle.kcall_core.specs.declared.memories.Memories.{Memories}
-use Rattle.kernel_spec.specs.steps.Updates.{set_live, stepped}
-use Rattle.kernel_spec.proofs.steps.MapsAfterChange.{insert_again}
 use Rattle.kcall_core.proofs.memory.Lists.{set-read}
 use Rattle.kcall_core.proofs.table.States.{running, Goes, goes-sound, goes-state, changed-here, changed-has, changed-goes}
 use Rattle.kcall_core.proofs.turns.Turned.{live-is}
 use Rattle.kernel_spec.proofs.well.WellLaws.{stores_take_nothing}
-use Rattle.kernel_spec.proofs.steps.AloneLawsHold.{begins, before-next, instruction}
-use Rattle.kernel_spec.proofs.memory.OnAbsent.{next_of_stop}
 use Rattle.kcall_core.proofs.turns.StepSlots.{KeepsAll}
 use Rattle.kcall_core.proofs.making.Buffers.{no-call-keeps}
 use Rattle.kcall_core.proofs.making.AloneMakes.{OnlyItself, only-makes}
+use Rattle.rv64i_core.specs.declared.execution.Stop.TheVariants as stops
+use Rattle.proc_table.specs.declared.process.State as table
+use Rattle.proc_table.specs.declared.process.State.TheVariants as table_state
+use Rattle.kernel_spec.specs.steps.Cases as laws
 
 -- the process after a step
 abbrev pub after_step : Step → Live → Live

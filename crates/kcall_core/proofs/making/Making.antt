@@ -1,39 +1,14 @@
 -- A step after which the process that ran is there still: it makes what `own` tells, whatever it did to itself, to open files, to pipes, to the console and to other processes.
 -- What is asked for is said of each part by itself: its own place, those who slept, the slots, and the state.
-use Rattle.std.proofs.Common.{◌≡◌, ◌≢◌, ℕ, Bool, true, false, cond, ◌||◌, subst, Option, Some, None, inl, inr, refl, sym, ap, ◌∙◌}
-use Rattle.std.specs.Prelude.{IsSome, is_some, option_map}
-use Rattle.std.specs.FinSet.{contains}
-use Rattle.std.proofs.lemmas.Bool.{cases_eq, both_ways}
-use Rattle.std.proofs.lemmas.Option.{none-some, same_Some}
-use Rattle.xk_base.specs.declared.limits.TheConstants.{NPROC}
-use Rattle.hart_core.specs.declared.hart.Hart.{Hart}
-use Rattle.file_table.specs.OpenFiles as files
-use Rattle.proc_table.specs.Processes.{channel_of}
-use Rattle.proc_table.specs.Slots.{place_at}
-use Rattle.proc_table.specs.declared.channel.Channel.{Channel}
-use Rattle.proc_table.specs.declared.process.Process.{Process}
-use Rattle.kernel_spec.specs.views.Words.{minus_one, or_zero}
-use Rattle.kernel_spec.specs.views.Processes.{Live}
-use Rattle.kernel_spec.specs.views.State.{State, live}
-use Rattle.kernel_spec.specs.views.View.{view_of}
-use Rattle.kernel_spec.specs.steps.Own.{Own, Answer, Stepped, Called, Blocked, Exited, Faulted, gone_with}
-use Rattle.kernel_spec.specs.waking.Ready.{ready}
-use Rattle.kernel_spec.specs.runs.Run.{Step_of, Ticked, IsBlocked, stays_current, halts_with}
-use Rattle.kernel_spec.specs.waking.Wakes.{IsEnd}
-use Rattle.kernel_spec.specs.views.WellFormed.{WellFormed}
-use Rattle.kernel_spec.specs.waking.Conditions.{is_open, waits_for, OthersWaitOn}
-use Rattle.kernel_spec.specs.steps.Cases.{After}
-use Rattle.kcall_core.specs.Kernel.{frame_count, state_of, IsSound, IsRunning, or_nobody, slot_now, pid_now, live_now}
-use Rattle.kcall_core.specs.Machine.{sleepers_below, turns_of}
-use Rattle.kcall_core.specs.Whole.{IsWhole, AreCounted}
-use Rattle.kcall_core.specs.Buffers.{KeepBuffers}
-use Rattle.kernel_spec.specs.waking.SleepsOn.{is_for}
-use Rattle.kcall_core.specs.Makes.{Makes}
-use Rattle.kcall_core.specs.declared.kernel.Kernel.{Kernel}
+use Rattle.kcall_core.proofs.Prelude.{ℕ, ◌||◌, ◌∙◌, ◌≡◌, ◌≢◌, After, Answer, ap, AreCounted, Blocked, Bool, both_ways, Called, cases_eq, Channel, channel_of, cond, contains, Exited, false, Faulted}
+use Rattle.kcall_core.proofs.Prelude.{frame_count, gone_with, halts_with, Hart, inl, inr, is_for, is_open, is_some, IsBlocked, IsEnd, IsRunning, IsSome, IsSound, IsWhole, KeepBuffers, Kernel, Live}
+use Rattle.kcall_core.proofs.Prelude.{live, live_now, Makes, minus_one, None, none-some, NPROC, Option, option_map, or_nobody, or_zero, OthersWaitOn, Own, pid_now, place_at, Process, ready, ready_is}
+use Rattle.kcall_core.proofs.Prelude.{refl, same_Some, sleepers_below, slot_now, Some, State, state_of, stays_current, Step_of, Stepped, subst, sym, Ticked, true, turns_of, view_of, waits_for}
+use Rattle.kcall_core.proofs.Prelude.{WellFormed}
 use Rattle.kcall_core.proofs.turns.Turned.{sleeps-is}
-use Rattle.kernel_spec.proofs.waking.Wakes.{ready_is}
 use Rattle.kcall_core.proofs.turns.StepSlots.{SlotsAfter}
 use Rattle.kcall_core.proofs.making.Sleepers.{Sleeping, elsewhere, another, slept-before, wakes-due, on-channels, unready}
+use Rattle.file_table.specs.OpenFiles as files
 
 -- The process that ran keeps its slot and pid. It runs on, or it sleeps on a channel of what it waits for, and isn't ready
 pub record Itself (k : Kernel) (h : Hart) (k' : Kernel) (h' : Hart) (on : Option Channel) : Type 0 where

@@ -1,47 +1,12 @@
 -- A call that has done its work and is about to answer, or to sleep: what it has changed by then, and that with its answer, or asleep, it makes the step that its row tells.
 -- The work may be on descriptors, open files, pipes, the console and the process's own image; it may have woken others.
-use Rattle.std.proofs.Common.{◌≡◌, ℕ, Bool, true, false, cond, length, subst, Option, Some, None, inl, inr, ◌⊎◌, refl, sym, ap, ◌∙◌}
-use Rattle.std.specs.Prelude.{ℤ, IsSome, is_some, option_map, nat_lt}
-use Rattle.std.specs.Ordering.{nat_cmp}
-use Rattle.std.specs.FinMap.{FinMap, get}
-use Rattle.std.proofs.lemmas.Bool.{eqb-true}
+use Rattle.kcall_core.proofs.Prelude.{ℕ, ℤ, ◌∙◌, ◌≡◌, ◌⊎◌, After, Alive, ap, AreCounted, asleep, Blocked, Bool, Bytes, Call, Called, changed_at, changed_state, Channel, channel_of, Child_of, cond}
+use Rattle.kcall_core.proofs.Prelude.{Condition, Console, eqb-true, false, family, FilesLeft, FinMap, frame_count, get, get_same, Hart, has_bytes, has_room, in_call, inl, inr, insert-twice, is_for}
+use Rattle.kcall_core.proofs.Prelude.{is_open, is_some, IsBlocked, IsLive, IsRunning, IsSome, IsSound, IsWhole, KeepsBuffer, KeepsTargets, Kernel, Keys, length, Live, live_now, Makes, nat_cmp, nat_lt}
+use Rattle.kcall_core.proofs.Prelude.{None, none-some, OpenFile, Option, option_map, or_gone, or_nobody, or_zero, Own, own_state, pid_now, Pipe, place_at, place_now, Process, ready, refl, Registers}
+use Rattle.kcall_core.proofs.Prelude.{Room, same_Some, SEND_BYTES, Sending, slot_now, Slots, Some, State, state_of, status_of, subst, sym, Time, true, unless_woken, view_of, waits_for, WellFormed}
+use Rattle.kcall_core.proofs.Prelude.{with_a0, with_answer, woken_by, word}
 use Rattle.std.proofs.Math.ListN.{length-set}
-use Rattle.std.proofs.lemmas.Option.{none-some, same_Some}
-use Rattle.xk_base.specs.declared.limits.TheConstants.{SEND_BYTES}
-use Rattle.rv64i_core.specs.Registers.{Registers}
-use Rattle.hart_core.specs.declared.hart.Hart.{Hart}
-use Rattle.pipe_core.specs.Pipe.{Pipe}
-use Rattle.console_core.specs.Lists.{Console}
-use Rattle.file_table.specs.OpenFiles as files
-use Rattle.file_table.specs.declared.open_file.OpenFile.{OpenFile}
-use Rattle.proc_table.specs.Processes.{status_of, channel_of, in_call, asleep}
-use Rattle.proc_table.specs.Slots.{Slots, place_at, changed_at}
-use Rattle.proc_table.specs.declared.channel.Channel.{Channel}
-use Rattle.proc_table.specs.declared.channel.Channel.TheVariants as on
-use Rattle.proc_table.specs.declared.process.Call.{Call}
-use Rattle.proc_table.specs.declared.process.Process.{Process}
-use Rattle.kernel_spec.specs.views.Words.{word, or_zero}
-use Rattle.kernel_spec.specs.views.Processes.{Live, Alive}
-use Rattle.kernel_spec.specs.views.State.{State}
-use Rattle.kernel_spec.specs.views.View.{view_of, or_gone}
-use Rattle.kernel_spec.specs.steps.Own.{Own, Called, Blocked}
-use Rattle.kernel_spec.specs.waking.Ready.{ready}
-use Rattle.kernel_spec.specs.rows.Calls.{with_a0}
-use Rattle.kernel_spec.specs.runs.Run.{IsBlocked}
-use Rattle.kernel_spec.specs.steps.Updates.{changed_state, own_state, with_answer}
-use Rattle.kernel_spec.specs.steps.Updates as update
-use Rattle.kernel_spec.specs.views.WellFormed.{WellFormed}
-use Rattle.kernel_spec.specs.steps.Cases.{IsLive, After, FilesLeft}
-use Rattle.kcall_core.specs.Closings.{unless_woken, woken_by}
-use Rattle.kernel_spec.specs.waking.Conditions.{Condition, Child_of, Bytes, Room, Time, Keys, Sending, is_open, waits_for, KeepsTargets}
-use Rattle.kernel_spec.specs.views.PipeEnds.{has_bytes, has_room}
-use Rattle.kcall_core.specs.Kernel.{frame_count, state_of, IsSound, IsRunning, or_nobody, slot_now, place_now, pid_now, live_now}
-use Rattle.kcall_core.specs.Whole.{IsWhole, AreCounted}
-use Rattle.kcall_core.specs.Buffers.{KeepsBuffer}
-use Rattle.kernel_spec.specs.waking.SleepsOn.{is_for}
-use Rattle.kcall_core.specs.Makes.{Makes}
-use Rattle.kcall_core.specs.declared.kernel.Kernel.{Kernel}
-use Rattle.kernel_spec.proofs.steps.MapsAfterChange.{get_same, insert-twice}
 use Rattle.kcall_core.proofs.table.States.{running}
 use Rattle.kcall_core.proofs.turns.Turned.{live-is}
 use Rattle.kcall_core.proofs.table.OnePlace.{ItsPlace, changed-place, place-counted, place-join, in-call-lives, in-call-channel, asleep-lives, asleep-channel}
@@ -50,10 +15,12 @@ use Rattle.kcall_core.proofs.turns.StepSlots.{KeepsAll}
 use Rattle.kcall_core.proofs.table.Woken.{woken_by-status, woken-channel}
 use Rattle.kcall_core.proofs.making.CallAnswers.{IsDone}
 use Rattle.kcall_core.proofs.files.Namings.{files-left}
-use Rattle.kernel_spec.proofs.waking.Openings.{family}
-use Rattle.kernel_spec.proofs.well.WellLaws as well
 use Rattle.kcall_core.proofs.making.Buffers.{no-call-keeps}
 use Rattle.kcall_core.proofs.making.Filing.{filed-makes}
+use Rattle.file_table.specs.OpenFiles as files
+use Rattle.proc_table.specs.declared.channel.Channel.TheVariants as on
+use Rattle.kernel_spec.specs.steps.Updates as update
+use Rattle.kernel_spec.proofs.well.WellLaws as well
 
 -- ---- who wakes
 

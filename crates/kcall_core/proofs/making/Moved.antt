@@ -1,41 +1,18 @@
 -- A call that moves bytes between a pipe and its process, or that only waits: what it has left before its answer.
-use Rattle.std.proofs.Common.{◌≡◌, ℕ, ◌+◌, ◌≤◌, Bool, false, length, subst, get_or, Some, None, inl, inr, refl, sym, ap, ◌∙◌}
-use Rattle.std.specs.Prelude.{ℤ, IsSome, option_map}
-use Rattle.std.specs.FinMap.{get, insert}
-use Rattle.std.proofs.lemmas.List.{get_or-set_same, get_or-set_other}
-use Rattle.xk_base.specs.declared.limits.TheConstants.{PIPE_BYTES}
-use Rattle.xk_base.specs.Image.{Image, price}
-use Rattle.hart_core.specs.declared.hart.Hart.{Hart}
-use Rattle.pipe_core.specs.Pipe.{Pipe}
-use Rattle.file_table.specs.OpenFiles as files
-use Rattle.proc_table.specs.Slots.{Slots, place_at, place_is_live, descriptors_at, each_changed}
-use Rattle.proc_table.specs.declared.channel.Channel.{Channel}
-use Rattle.kernel_spec.specs.views.Processes.{Live, Alive}
-use Rattle.kernel_spec.specs.views.State.{State, live}
-use Rattle.kernel_spec.specs.views.View.{view_of, view}
-use Rattle.kernel_spec.specs.steps.Own.{Own, Blocked}
-use Rattle.kernel_spec.specs.steps.Step.{own}
-use Rattle.kernel_spec.specs.waking.Ready.{ready}
-use Rattle.kernel_spec.specs.steps.Updates.{changed_state, set_pipe}
-use Rattle.kernel_spec.specs.views.WellFormed.{WellFormed}
-use Rattle.kcall_core.specs.Closings.{woken_by}
-use Rattle.kcall_core.specs.Holdings.{or_nothing, held_at, with_image}
-use Rattle.kcall_core.specs.Memories.{each_of}
-use Rattle.kcall_core.specs.Moves.{Moves}
-use Rattle.kcall_core.specs.Kernel.{frame_count, state_of, IsSound, IsRunning, slot_now, place_now, pid_now, live_now, live_of}
-use Rattle.kcall_core.specs.Whole.{IsWhole, AreCounted, namings}
-use Rattle.kcall_core.specs.declared.kernel.Kernel.{Kernel}
-use Rattle.kcall_core.specs.declared.memories.Memories.{Memories}
-use Rattle.kernel_spec.proofs.steps.MapsAfterChange.{insert_again}
+use Rattle.kcall_core.proofs.Prelude.{ℕ, ℤ, ◌+◌, ◌∙◌, ◌≡◌, ◌≤◌, Alive, ap, AreCounted, Blocked, Bool, changed_state, Channel, descriptors_at, each_changed, each_of, false, frame_count, get, get_or}
+use Rattle.kcall_core.proofs.Prelude.{get_or-set_other, get_or-set_same, Hart, held_at, Image, inl, inr, insert, insert_again, IsRunning, IsSome, IsSound, IsWhole, Kernel, length, Live, live}
+use Rattle.kcall_core.proofs.Prelude.{live_now, live_of, Memories, Moves, namings, None, option_map, or_nothing, Own, own, pid_now, Pipe, PIPE_BYTES, place_at, place_is_live, place_now, price, ready}
+use Rattle.kcall_core.proofs.Prelude.{refl, set_pipe, slot_now, Slots, Some, State, state_of, subst, sym, view, view_of, WellFormed, with_image, woken_by}
 use Rattle.kcall_core.proofs.table.States.{running, Goes, goes-processes, goes-sound}
 use Rattle.kcall_core.proofs.memory.Changes.{some-inside}
 use Rattle.kcall_core.proofs.turns.Turned.{live-is}
 use Rattle.kcall_core.proofs.table.Woken.{place-each, live-woken, each-none, stirred-state, stirred-sound}
 use Rattle.kernel_spec.proofs.rows.Asleep.{blocks_unready}
-use Rattle.kernel_spec.proofs.well.WellLaws as well
-use Rattle.kernel_spec.proofs.well.WellSteps as steps
 use Rattle.kcall_core.proofs.making.Prepared.{over}
 use Rattle.kcall_core.proofs.making.Midway.{WakeOn, Midway}
+use Rattle.file_table.specs.OpenFiles as files
+use Rattle.kernel_spec.proofs.well.WellLaws as well
+use Rattle.kernel_spec.proofs.well.WellSteps as steps
 
 -- a process that sleeps by its step isn't ready then
 pub sleeps-unready : (s t : State) (p : ℕ) (l m : Live) (o : Own) (number : ℤ) → own (view_of s p l) ≡ o → o.answer ≡ Blocked number

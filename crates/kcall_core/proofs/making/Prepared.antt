@@ -1,27 +1,11 @@
 -- A row that gives its process another image and other registers, and then is done.
-use Rattle.std.proofs.Common.{◌≡◌, ℕ, ◌+◌, length, Some, None, refl, ap, ◌∙◌, arith}
-use Rattle.std.specs.Prelude.{ℤ}
-use Rattle.xk_base.specs.Image.{Image, price}
-use Rattle.rv64i_core.specs.Registers.{Registers}
-use Rattle.hart_core.specs.declared.hart.Hart.{Hart}
-use Rattle.proc_table.specs.Processes as process
-use Rattle.proc_table.specs.Slots.{place_at, descriptors_at, changed_at}
-use Rattle.proc_table.specs.declared.process.Call.{Call}
-use Rattle.kernel_spec.specs.views.Words.{or_zero}
-use Rattle.kernel_spec.specs.views.State.{State}
-use Rattle.kernel_spec.specs.steps.Own.{Own}
-use Rattle.kernel_spec.specs.rows.Calls.{done}
-use Rattle.kernel_spec.specs.steps.Updates.{own_state, alone_state, with_answer}
-use Rattle.kcall_core.specs.Holdings.{or_nothing, held_at, with_image}
-use Rattle.kcall_core.specs.Memories.{each_of, RunsIn, SlotChanges, Same}
-use Rattle.kcall_core.specs.Kernel.{live_of, state_of, IsSound, IsRunning, or_nobody, slot_now, place_now, pid_now, live_now}
-use Rattle.kcall_core.specs.Whole.{IsWhole}
-use Rattle.kcall_core.specs.Makes.{Makes, view_now}
-use Rattle.kcall_core.specs.declared.memories.Memories.{Memories}
-use Rattle.kcall_core.specs.declared.kernel.Kernel.{Kernel}
+use Rattle.kcall_core.proofs.Prelude.{ℕ, ℤ, ◌+◌, ◌∙◌, ◌≡◌, alone_state, ap, arith, Call, changed_at, descriptors_at, done, each_of, Hart, held_at, Image, IsRunning, IsSound, IsWhole, Kernel, length}
+use Rattle.kcall_core.proofs.Prelude.{live_now, live_of, Makes, Memories, None, or_nobody, or_nothing, or_zero, Own, own_state, pid_now, place_at, place_now, price, refl, Registers, RunsIn, Same}
+use Rattle.kcall_core.proofs.Prelude.{slot_now, SlotChanges, Some, State, state_of, view_now, with_answer, with_image}
 use Rattle.kcall_core.proofs.table.States.{changed-here}
 use Rattle.kcall_core.proofs.making.Answered.{answered-same, answered-anew}
 use Rattle.kcall_core.proofs.making.AloneMakes.{done-makes, alone-twice}
+use Rattle.proc_table.specs.Processes as process
 
 -- Before its answer: the process that runs has this image and these registers, paid from the free frames, and its call is in progress still
 pub record Prepared (k : Kernel) (h : Hart) (k1 : Kernel) (h1 : Hart) (image : Image) (regs : Registers) (free : ℕ) : Type 0 where

@@ -1,22 +1,13 @@
 -- Instructions of the process that runs, one after another: stretches of them, and behind each an instruction that faulted and is done where an absent page comes.
-use Rattle.std.proofs.Common.{◌≡◌, ◌≢◌, ℕ, zero, suc, ◌+◌, ◌-◌, ◌<◌, ◌≤◌, refl, sym, ap, ◌∙◌, subst, arith}
-use Rattle.xk_base.specs.declared.access.Cause.{Cause}
-use Rattle.rv64i_core.specs.declared.execution.Stop.{Stop}
-use Rattle.rv64i_core.specs.declared.execution.Stop.TheVariants as stops
-use Rattle.hart_core.specs.declared.hart.Hart.{Hart}
-use Rattle.kernel_spec.specs.steps.Step.{own}
-use Rattle.kernel_spec.specs.steps.Cases as laws
-use Rattle.kcall_core.specs.Memories.{Steps, StepsDone, IsLastStep, StepsInARow, RunsIn}
-use Rattle.kcall_core.specs.Kernel.{IsRunning, slot_now, live_now}
-use Rattle.kcall_core.specs.Whole.{IsWhole}
-use Rattle.kcall_core.specs.Makes.{Makes, MakesDone, IsUndone, IsLastMade, MakesInARow, view_now, stop_now}
-use Rattle.kcall_core.specs.declared.kernel.Kernel.{Kernel}
-use Rattle.kcall_core.specs.declared.memories.Memories.{Memories}
+use Rattle.kcall_core.proofs.Prelude.{ℕ, ◌+◌, ◌-◌, ◌<◌, ◌∙◌, ◌≡◌, ◌≢◌, ◌≤◌, ap, arith, Cause, Hart, IsLastMade, IsLastStep, IsRunning, IsUndone, IsWhole, Kernel, live_now, Makes, MakesDone}
+use Rattle.kcall_core.proofs.Prelude.{MakesInARow, Memories, own, refl, RunsIn, slot_now, Steps, StepsDone, StepsInARow, Stop, stop_now, subst, suc, sym, view_now, zero}
 use Rattle.kcall_core.proofs.table.States.{running}
 use Rattle.kcall_core.proofs.making.Instructions.{step-done, step-stays}
 use Rattle.kcall_core.proofs.making.Staying.{still-runs}
 use Rattle.kcall_core.proofs.making.TouchedSteps.{IsTried, tried-here, stop-plain, made-before, stop-before, stays-there, runs-there}
 use Rattle.kcall_core.proofs.memory.Stepping.{ecall-no-fault, next-no-fault}
+use Rattle.rv64i_core.specs.declared.execution.Stop.TheVariants as stops
+use Rattle.kernel_spec.specs.steps.Cases as laws
 
 pub ecall-next : stops.Ecall ≢ stops.Next
 ecall-next e = cc

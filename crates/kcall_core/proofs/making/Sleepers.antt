@@ -1,35 +1,12 @@
 -- Who sleeps and who wakes after a change of a whole kernel, whatever the outcome, and that no sleeper is ready afterwards: told of each process that slept.
-use Rattle.std.proofs.Common.{◌≡◌, ◌≢◌, ℕ, Bool, true, false, cond, subst, Option, Some, None, inl, inr, ◌⊎◌, refl, sym, ap, ◌∙◌}
-use Rattle.std.specs.Prelude.{ℤ, ◌↔◌, IsSome, is_some, option_map}
-use Rattle.std.specs.FinSet.{contains}
-use Rattle.std.proofs.lemmas.Bool.{or_parts, false_from_ne_true, both_ways}
-use Rattle.std.proofs.lemmas.Option.{none-some, same_Some}
-use Rattle.xk_base.specs.declared.limits.TheConstants.{NPROC}
-use Rattle.hart_core.specs.declared.hart.Hart.{Hart}
-use Rattle.proc_table.specs.Processes.{channel_of}
-use Rattle.proc_table.specs.Slots.{IsTable, place_at, descriptors_at}
-use Rattle.proc_table.specs.declared.channel.Channel.{Channel}
-use Rattle.proc_table.specs.declared.process.Process.{Process}
-use Rattle.kernel_spec.specs.views.Processes.{Live}
-use Rattle.kernel_spec.specs.views.State.{State, live}
-use Rattle.kernel_spec.specs.views.View.{View, view, view_of}
-use Rattle.kernel_spec.specs.waking.Ready.{ready}
-use Rattle.kernel_spec.specs.waking.Turns.{Sleeps}
-use Rattle.kernel_spec.specs.runs.Run.{World, Outcome, Ticked}
-use Rattle.kernel_spec.specs.waking.Wakes.{WakesWhereDue, IsInCall, IsEnd, NoReadySleeper}
-use Rattle.kcall_core.specs.Closings.{unless_woken}
-use Rattle.kernel_spec.specs.waking.Conditions.{is_open, waits_for}
-use Rattle.kcall_core.specs.Holdings.{held_at}
-use Rattle.kcall_core.specs.Memories.{each_of}
-use Rattle.kcall_core.specs.Kernel.{state_of, IsSound, IsRunning, or_nobody, slot_now, pid_now, live_of, regs_at}
-use Rattle.kcall_core.specs.Machine.{sleepers_below, turns_of, world_of}
-use Rattle.kcall_core.specs.Whole.{IsWhole, SleepOnTheirChannels}
-use Rattle.kernel_spec.specs.waking.SleepsOn.{is_for}
-use Rattle.kcall_core.specs.declared.kernel.Kernel.{Kernel}
+use Rattle.kcall_core.proofs.Prelude.{ℕ, ℤ, ◌↔◌, ◌∙◌, ◌≡◌, ◌≢◌, ◌⊎◌, ap, Bool, both_ways, Channel, channel_of, cond, contains, descriptors_at, each_of, false, false_from_ne_true, Hart, held_at, inl}
+use Rattle.kcall_core.proofs.Prelude.{inr, is_for, is_open, is_some, IsEnd, IsInCall, IsRunning, IsSome, IsSound, IsTable, IsWhole, Kernel, Live, live, live_of, None, none-some, NoReadySleeper, NPROC}
+use Rattle.kcall_core.proofs.Prelude.{Option, option_map, or_nobody, or_parts, Outcome, pid_now, place_at, Process, ready, ready_is, refl, regs_at, same_Some, sleepers_below, SleepOnTheirChannels}
+use Rattle.kcall_core.proofs.Prelude.{Sleeps, slot_now, Some, State, state_of, subst, sym, Ticked, true, turns_of, unless_woken, View, view, view_is, view_of, waits_for, WakesWhereDue, World}
+use Rattle.kcall_core.proofs.Prelude.{world_of}
 use Rattle.kcall_core.proofs.table.States.{running}
 use Rattle.kcall_core.proofs.table.Observed.{live-held}
 use Rattle.kcall_core.proofs.turns.Turned.{sleeps-is, sleeps-from, awake-is, sleeper-lives}
-use Rattle.kernel_spec.proofs.waking.Wakes.{ready_is, view_is}
 
 -- A process that sleeps, in its slot, on its channel
 pub record Sleeper (k : Kernel) (q : ℕ) : Type 0 where

@@ -1,21 +1,7 @@
 -- Where nothing that can be seen is another, the process that ran runs on, and what it makes next it makes from before.
-use Rattle.std.proofs.Common.{◌≡◌, ℕ, Option, Some, None, refl, sym, ap, ◌∙◌, subst}
-use Rattle.std.specs.Prelude.{IsSome, option_map}
-use Rattle.std.specs.FinMap.{get}
-use Rattle.std.proofs.lemmas.Option.{none-some, same_Some}
-use Rattle.hart_core.specs.declared.hart.Hart.{Hart}
-use Rattle.kernel_spec.specs.views.Processes.{Live, Zombie}
-use Rattle.kernel_spec.specs.views.State.{State}
-use Rattle.kernel_spec.specs.views.View.{view_of}
-use Rattle.kernel_spec.specs.steps.Own.{Own}
-use Rattle.kernel_spec.specs.steps.Cases.{After}
-use Rattle.kernel_spec.specs.runs.Run.{World, Step_of, TurnsAfter, halts_with}
-use Rattle.kernel_spec.specs.waking.Wakes.{WakesWhereDue}
-use Rattle.kernel_spec.proofs.Common.{same_live}
-use Rattle.kcall_core.specs.Kernel.{state_of, IsSound, IsRunning, pid_now, live_now}
-use Rattle.kcall_core.specs.Machine.{turns_of, world_of}
-use Rattle.kcall_core.specs.Makes.{Makes, Stays, StillRuns, view_now}
-use Rattle.kcall_core.specs.declared.kernel.Kernel.{Kernel}
+use Rattle.kcall_core.proofs.Prelude.{ℕ, ◌∙◌, ◌≡◌, After, ap, get, halts_with, Hart, IsRunning, IsSome, IsSound, Kernel, Live, live_now, Makes, None, none-some, Option, option_map, Own, pid_now, refl}
+use Rattle.kcall_core.proofs.Prelude.{same_live, same_Some, Some, State, state_of, Stays, Step_of, StillRuns, subst, sym, turns_of, TurnsAfter, view_now, view_of, WakesWhereDue, World, world_of}
+use Rattle.kcall_core.proofs.Prelude.{Zombie}
 use Rattle.kcall_core.proofs.table.States.{running}
 use Rattle.kcall_core.proofs.turns.Turned.{live-is}
 

@@ -1,40 +1,16 @@
 -- The timer interrupts: the clock counts, nobody runs, and those who count ticks wake.
-use Rattle.std.proofs.Common.{◌≡◌, ℕ, ◌+◌, ◌%◌, ◌||◌, Bool, true, false, length, subst, Some, None, inl, inr, ◌⊎◌, refl, sym, ap, ◌∙◌}
-use Rattle.std.specs.Prelude.{option_map}
-use Rattle.std.proofs.lemmas.Option.{none-some, same_Some}
-use Rattle.xk_base.specs.declared.limits.TheConstants.{NPROC}
-use Rattle.hart_core.specs.declared.hart.Hart.{Hart}
-use Rattle.file_table.specs.OpenFiles as files
-use Rattle.proc_table.specs.Channels.{same_channel}
-use Rattle.proc_table.specs.Processes.{woken}
-use Rattle.proc_table.specs.Slots.{Slots, place_at, place_is_live, descriptors_at, process_pid, each_changed}
-use Rattle.proc_table.specs.declared.channel.Channel.{Channel}
-use Rattle.proc_table.specs.declared.channel.Channel.TheVariants as on
-use Rattle.kernel_spec.specs.views.Words.{CLOCK_ROUND}
-use Rattle.kernel_spec.specs.views.Processes.{Live}
-use Rattle.kernel_spec.specs.views.State.{State, live}
-use Rattle.kernel_spec.specs.views.View.{View, view_of}
-use Rattle.kernel_spec.specs.waking.Ready.{ready}
-use Rattle.kernel_spec.specs.rows.Calls.{table}
-use Rattle.kernel_spec.specs.runs.Run.{Ticked, TickHappens}
-use Rattle.kernel_spec.specs.waking.Wakes.{WakesWhereDue, IsInCall, IsEnd}
-use Rattle.kernel_spec.specs.views.WellFormed.{WellFormed}
-use Rattle.kcall_core.specs.Closings.{woken_by}
-use Rattle.kernel_spec.specs.waking.Conditions.{is_open, waits_for}
-use Rattle.kcall_core.specs.Kernel.{frame_count, state_of, IsSound, pid_now}
-use Rattle.kcall_core.specs.Machine.{slots_of, sleepers_below, turns_of, world_of}
-use Rattle.kcall_core.specs.Whole.{IsWhole, AreCounted, namings}
-use Rattle.kcall_core.specs.Buffers.{KeepBuffers}
-use Rattle.kernel_spec.specs.waking.SleepsOn.{is_for}
-use Rattle.kcall_core.specs.declared.kernel.Kernel.{Kernel}
+use Rattle.kcall_core.proofs.Prelude.{ℕ, ◌%◌, ◌+◌, ◌||◌, ◌∙◌, ◌≡◌, ◌⊎◌, ap, AreCounted, Bool, Channel, CLOCK_ROUND, descriptors_at, each_changed, false, frame_count, Hart, inl, inr, is_for, is_open}
+use Rattle.kcall_core.proofs.Prelude.{IsEnd, IsInCall, IsSound, IsWhole, KeepBuffers, Kernel, length, Live, live, namings, None, none-some, NPROC, opens_tick, option_map, pid_now, place_at}
+use Rattle.kcall_core.proofs.Prelude.{place_is_live, process_pid, ready, ready_is, refl, same_channel, same_Some, sleepers_below, Slots, slots_of, Some, State, state_of, subst, sym, table, Ticked}
+use Rattle.kcall_core.proofs.Prelude.{TickHappens, true, turns_of, View, view_of, waits_for, WakesWhereDue, WellFormed, woken, woken_by, world_of}
 use Rattle.kcall_core.proofs.turns.Turned.{slots-same}
-use Rattle.kernel_spec.proofs.waking.Wakes.{ready_is}
-use Rattle.kernel_spec.proofs.waking.Openings.{opens_tick}
 use Rattle.kcall_core.proofs.table.Woken.{woken-channel, place-each, live-woken, each-woken}
 use Rattle.kcall_core.proofs.turns.StepSlots.{same-pid}
 use Rattle.kcall_core.proofs.making.Sleepers.{Sleeping, changed-stays, changed-slept, slept-before, wakes-due, on-channels, unready}
-use Rattle.kernel_spec.proofs.well.WellLaws as well
 use Rattle.kernel_spec.proofs.waking.TickWaits.{counts-ticks, on-clock, is-clock, time-clock, in-thirteen, call-same}
+use Rattle.file_table.specs.OpenFiles as files
+use Rattle.proc_table.specs.declared.channel.Channel.TheVariants as on
+use Rattle.kernel_spec.proofs.well.WellLaws as well
 
 -- What `tick` leaves
 pub record HasTicked (k : Kernel) (h : Hart) (k' : Kernel) (h' : Hart) : Type 0 where

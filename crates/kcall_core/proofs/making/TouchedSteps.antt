@@ -1,34 +1,15 @@
 -- Instructions of the process that runs where its pages may be absent: one that faults is tried, the absent page that it is on comes, and it is done.
-use Rattle.std.proofs.Common.{◌≡◌, ◌≢◌, ℕ, ◌/◌, true, false, ◌&&◌, if◌then◌else◌, [], ◌∷◌, None, inl, inr, ◌⊎◌, refl, sym, ap, ◌∙◌, subst}
-use Rattle.xk_base.specs.Image.{Image}
-use Rattle.xk_base.specs.declared.access.Cause.{Cause}
-use Rattle.rv64i_core.specs.Registers.{Registers}
-use Rattle.rv64i_core.specs.Step.{Step, Next, Ecall, Fault, stop_of, address_used, is_data_page_fault}
-use Rattle.rv64i_core.specs.declared.execution.Stop.{Stop}
-use Rattle.rv64i_core.specs.declared.execution.Stop.TheVariants as stops
-use Rattle.hart_core.specs.Steps.{last_fault}
-use Rattle.rv64i_core.specs.UserImage.{user}
-use Rattle.hart_core.specs.declared.hart.Hart.{Hart}
-use Rattle.addr_space.specs.Absent.{is_absent, pages_at, brought}
-use Rattle.kernel_spec.specs.steps.Instruction.{next_instruction}
-use Rattle.kernel_spec.specs.views.Processes.{Live}
-use Rattle.kernel_spec.specs.views.View.{View, view_of}
-use Rattle.kernel_spec.specs.steps.Step.{own, after_instruction, going_on, unless_killed}
-use Rattle.kernel_spec.specs.rows.Touches.{touch, page_used, before_instruction, instruction_now}
-use Rattle.kernel_spec.specs.steps.Cases as laws
-use Rattle.kcall_core.specs.Memories.{RunsIn, step_in, Steps}
-use Rattle.kcall_core.specs.Kernel.{IsRunning, slot_now, live_now}
-use Rattle.kcall_core.specs.Whole.{IsWhole}
-use Rattle.kcall_core.specs.Makes.{Makes, Stays, StillRuns, view_now, stop_now}
-use Rattle.kcall_core.specs.Touched.{IsTouched, HasFaulted}
-use Rattle.kcall_core.specs.declared.kernel.Kernel.{Kernel}
-use Rattle.kcall_core.specs.declared.memories.Memories.{Memories}
+use Rattle.kcall_core.proofs.Prelude.{[], ℕ, ◌&&◌, ◌/◌, ◌∙◌, ◌∷◌, ◌≡◌, ◌≢◌, ◌⊎◌, address_used, after_instruction, ap, before_fault, before_instruction, before_same, before_touched, before_untouched}
+use Rattle.kcall_core.proofs.Prelude.{brought, Cause, done_once_touched, Ecall, false, Fault, faults_on_data, going_on, Hart, HasFaulted, if◌then◌else◌, Image, inl, inr, instruction_now, is_absent}
+use Rattle.kcall_core.proofs.Prelude.{is_data_page_fault, is_on_absent, IsRunning, IsTouched, IsWhole, Kernel, last_fault, Live, live_now, Makes, Memories, Next, next_instruction, None, not_on_absent}
+use Rattle.kcall_core.proofs.Prelude.{off_absent_once_touched, own, page_not_on_absent, page_used, pages_at, refl, Registers, RunsIn, slot_now, Stays, Step, step_in, Steps, StillRuns, Stop, stop_now}
+use Rattle.kcall_core.proofs.Prelude.{stop_of, subst, sym, touch, true, unless_killed, user, View, view_now, view_of}
 use Rattle.kcall_core.proofs.table.States.{running}
-use Rattle.kernel_spec.proofs.memory.OnAbsent.{not_on_absent, page_not_on_absent, before_same, before_fault, before_touched}
-use Rattle.kernel_spec.proofs.memory.OnAbsent.{before_untouched, off_absent_once_touched, done_once_touched, faults_on_data, is_on_absent}
 use Rattle.kcall_core.proofs.making.Instructions.{step-done, step-stays}
 use Rattle.kcall_core.proofs.making.Staying.{still-runs, stays-view, makes-from}
 use Rattle.kcall_core.proofs.memory.Stepping.{ecall-no-fault}
+use Rattle.rv64i_core.specs.declared.execution.Stop.TheVariants as stops
+use Rattle.kernel_spec.specs.steps.Cases as laws
 
 -- ---- an instruction that doesn't fault
 

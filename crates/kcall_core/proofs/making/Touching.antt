@@ -1,29 +1,8 @@
 -- Pages of the process that runs come where they are touched: what the kernel is then, and that what it makes from there on is what it makes from before.
-use Rattle.std.proofs.Common.{◌≡◌, ℕ, ◌+◌, ◌-◌, ◌<◌, ◌≤◌, Bool, true, false, List, Some, None, inl, inr, refl, sym, ap, ◌∙◌, subst, arith}
-use Rattle.std.specs.Prelude.{is_some}
-use Rattle.std.specs.FinMap.{get}
-use Rattle.xk_base.specs.Gathered.{gathered}
-use Rattle.xk_base.specs.declared.limits.TheConstants.{OPEN_FILES}
-use Rattle.file_table.specs.OpenFiles.{open_file_at}
-use Rattle.xk_base.specs.Image.{Image, price}
-use Rattle.hart_core.specs.declared.hart.Hart.{Hart}
-use Rattle.addr_space.specs.Absent.{is_absent, pages_at, brought}
-use Rattle.kernel_spec.specs.rows.Buffers.{writable, writable_now}
-use Rattle.kernel_spec.specs.rows.Touches.{touch}
-use Rattle.kernel_spec.specs.views.State.{live_part}
-use Rattle.kernel_spec.specs.views.Processes.{Live}
-use Rattle.kernel_spec.specs.views.View.{view_of}
-use Rattle.kcall_core.specs.Holdings.{held_at, with_image}
-use Rattle.kcall_core.specs.Memories.{each_of, free_of, RunsIn, SlotChanges}
-use Rattle.kcall_core.specs.Kernel.{state_of, IsRunning, slot_now, place_now, pid_now, live_now, HasImage}
-use Rattle.kcall_core.specs.Whole.{IsWhole}
-use Rattle.kcall_core.specs.Makes.{view_now}
-use Rattle.kcall_core.specs.Buffers.{KeepsBuffer}
-use Rattle.kcall_core.specs.Touched.{IsTouched, IsReady, IsUnready}
-use Rattle.kcall_core.specs.declared.kernel.Kernel.{Kernel}
-use Rattle.kcall_core.specs.declared.memories.Memories.{Memories}
-use Rattle.kernel_spec.proofs.rows.Settled.{brought-none, touch-view, touch-dear, there-ready, ready-there}
-use Rattle.kernel_spec.proofs.steps.ChangeIsSeen.{view_alone}
+use Rattle.kcall_core.proofs.Prelude.{ℕ, ◌+◌, ◌-◌, ◌<◌, ◌∙◌, ◌≡◌, ◌≤◌, ap, arith, Bool, brought, brought-none, each_of, false, free_of, gathered, get, Hart, HasImage, held_at, Image, inl, inr}
+use Rattle.kcall_core.proofs.Prelude.{is_absent, is_some, IsReady, IsRunning, IsTouched, IsUnready, IsWhole, KeepsBuffer, Kernel, List, Live, live_now, live_part, Memories, None, open_file_at}
+use Rattle.kcall_core.proofs.Prelude.{OPEN_FILES, pages_at, pid_now, place_now, price, ready-there, refl, RunsIn, slot_now, SlotChanges, Some, state_of, subst, sym, there-ready, touch, touch-dear}
+use Rattle.kcall_core.proofs.Prelude.{touch-view, true, view_alone, view_now, view_of, with_image, writable, writable_now}
 use Rattle.kcall_core.proofs.table.States.{running}
 use Rattle.kcall_core.proofs.table.Stops.{now-slot}
 use Rattle.kcall_core.proofs.turns.Turned.{live-is}

@@ -1,26 +1,12 @@
 -- How the instruction of the process that runs ends, seen in the view before it: no page comes where it isn't done, and what comes changes the image and the free frames alone.
-use Rattle.std.proofs.Common.{◌≡◌, ◌≢◌, Bool, true, false, [], ◌∷◌, Option, Some, None, refl, ap, ◌∙◌}
-use Rattle.xk_base.specs.declared.access.Cause.{Cause}
-use Rattle.rv64i_core.specs.Registers.{Registers}
+use Rattle.kcall_core.proofs.Prelude.{[], ◌∙◌, ◌∷◌, ◌≡◌, ◌≢◌, after_instruction, ap, before_instruction, before_same, before_touched, before_untouched, Bool, Cause, done_once_touched, Ecall, false}
+use Rattle.kcall_core.proofs.Prelude.{Fault, Faulted, goes_on, gone, Hart, instruction_now, is_on_absent, Kernel, live_now, Next, next_instruction, next_of_stop, None, Option, own, page_used, refl}
+use Rattle.kcall_core.proofs.Prelude.{Registers, Some, Step, Stepped, Stop, stop_now, stop_of, stored, touch, touch-comes, true, View, view_now, view_of}
 use Rattle.rv64i_core.specs.Memory.{Store}
-use Rattle.rv64i_core.specs.Step.{Step, Next, Ecall, Fault, stop_of}
-use Rattle.rv64i_core.specs.declared.execution.Stop.{Stop}
-use Rattle.rv64i_core.specs.declared.execution.Stop.TheVariants as stops
-use Rattle.hart_core.specs.declared.hart.Hart.{Hart}
-use Rattle.kernel_spec.specs.steps.Instruction.{next_instruction}
-use Rattle.kernel_spec.specs.views.View.{View, view_of}
-use Rattle.kernel_spec.specs.steps.Own.{Stepped, Faulted, goes_on}
-use Rattle.kernel_spec.specs.rows.Calls.{gone}
-use Rattle.kernel_spec.specs.steps.Step.{own, stored, after_instruction}
-use Rattle.kernel_spec.specs.rows.Touches.{touch, page_used, before_instruction, instruction_now}
-use Rattle.kernel_spec.specs.steps.Cases as laws
-use Rattle.kcall_core.specs.Kernel.{live_now}
-use Rattle.kcall_core.specs.Makes.{view_now, stop_now}
-use Rattle.kcall_core.specs.declared.kernel.Kernel.{Kernel}
-use Rattle.kernel_spec.proofs.memory.OnAbsent.{before_same, before_touched, before_untouched, done_once_touched, next_of_stop, is_on_absent}
-use Rattle.kernel_spec.proofs.rows.Settled.{touch-comes}
 use Rattle.kcall_core.proofs.making.TouchedSteps.{own-is, fault-of, fault-no-next}
 use Rattle.kcall_core.proofs.making.Series.{ecall-next}
+use Rattle.rv64i_core.specs.declared.execution.Stop.TheVariants as stops
+use Rattle.kernel_spec.specs.steps.Cases as laws
 
 -- ---- the view in which it is done
 

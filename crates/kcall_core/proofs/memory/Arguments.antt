@@ -1,17 +1,8 @@
 -- The argument texts that a memory holds, one after another.
-use Rattle.std.proofs.Common.{◌≡◌, ◌≢◌, ℕ, zero, suc, ◌+◌, ◌-◌, ◌<◌, ◌≤◌, cond, List, [], ◌∷◌, ◌++◌, length, Option, Some, None, Result, Ok, Err, refl, sym, ap, ◌∙◌, arith, inl, inr}
-use Rattle.std.specs.Prelude.{Bool, true, false, nat_eq, is_ok, OnOk, option_map, if◌then◌else◌, nat_lt}
-use Rattle.xk_base.specs.Bytes.{image_byte}
-use Rattle.xk_base.specs.declared.access.Access.TheVariants.{Load}
-use Rattle.std.proofs.lemmas.Bool.{cases_lt, eq-eqb, ne_eqb, false≢true, le-ltb}
-use Rattle.std.proofs.lemmas.List.{append_assoc, append-nil, length-append}
-use Rattle.std.proofs.lemmas.Option.{none-some, same_Some}
-use Rattle.xk_base.specs.Image.{Image}
-use Rattle.xk_base.specs.declared.limits.TheConstants.{MAXARG, ARG_BYTES}
-use Rattle.xk_base.specs.declared.errors.ExecError.{ExecError}
-use Rattle.xk_base.specs.declared.errors.ExecError.TheVariants.{TooManyArgs, ArgsTooLong}
-use Rattle.exec_core.specs.ArgTexts.{terminated, push_refusal}
-use Rattle.kernel_spec.specs.rows.Buffers.{text_at, text_from, texts_at, pointer_at, may_touching}
+use Rattle.kcall_core.proofs.Prelude.{[], ℕ, ◌++◌, ◌+◌, ◌-◌, ◌<◌, ◌∙◌, ◌∷◌, ◌≡◌, ◌≢◌, ◌≤◌, ap, append-nil, append_assoc, ARG_BYTES, ArgsTooLong, arith, Bool, cases_lt, cond, eq-eqb, Err, ExecError}
+use Rattle.kcall_core.proofs.Prelude.{false, false≢true, if◌then◌else◌, Image, image_byte, inl, inr, is_ok, le-ltb, length, length-append, List, Load, MAXARG, may_touching, nat_eq, nat_lt, ne_eqb}
+use Rattle.kcall_core.proofs.Prelude.{None, none-some, Ok, OnOk, Option, option_map, pointer_at, push_refusal, refl, Result, same_Some, Some, suc, sym, terminated, text_at, text_from, texts_at}
+use Rattle.kcall_core.proofs.Prelude.{TooManyArgs, true, zero}
 use Rattle.kernel_spec.proofs.memory.TextsByParts.{texts_from, with_text}
 
 -- these texts, and then the others

@@ -1,33 +1,12 @@
 -- A vacant slot gets a memory made of free frames; a call that is refused.
-use Rattle.std.proofs.Common.{◌≡◌, ℕ, zero, suc, ◌+◌, ◌%◌, ◌<◌, Bool, false, cond, List, [], ◌∷◌, ◌++◌, length, set, get_or, map}
-use Rattle.std.proofs.Common.{replicate, Option, Some, None, Result, Ok, Err, IfOk, IfErr, IsSome, inl, inr, refl, sym, ap, ◌∙◌, subst, arith}
-use Rattle.std.proofs.lemmas.Bool.{cases_lt, true≢false}
-use Rattle.std.proofs.lemmas.List.{length-replicate}
-use Rattle.std.specs.FinMap.{empty}
-use Rattle.std.proofs.lemmas.Option.{none-some}
-use Rattle.xk_base.specs.Frames.{copies}
-use Rattle.xk_base.specs.Gathered.{gathered, insert_some}
-use Rattle.xk_base.specs.declared.limits.TheConstants.{NPROC}
-use Rattle.xk_base.specs.Image.{Image}
-use Rattle.xk_base.specs.declared.errors.NoFrames.{NoFrames}
-use Rattle.xk_base.proofs.Frames.{at-same, copies-nil, copies-cons, copies-one, length-all}
-use Rattle.frame_list.specs.declared.Pool.{Pool}
-use Rattle.frame_list.specs.Pool.{free_in, Good}
-use Rattle.frame_list.specs.Traded.{Traded, Taken}
-use Rattle.frame_list.proofs.Trades.{trade-none, trade-join, trade-lengths}
-use Rattle.addr_space.specs.Space as space
-use Rattle.addr_space.specs.Space.{image_of, Belongs, Made}
-use Rattle.addr_space.specs.declared.Space.{Space}
-use Rattle.rv64i_core.specs.Registers.{Registers, fresh}
-use Rattle.hart_core.specs.Trapframe.{saved}
-use Rattle.pipe_core.specs.Pipe.{pipe_in}
-use Rattle.kernel_spec.specs.views.Words.{count_if}
-use Rattle.kcall_core.specs.Holdings.{Held, or_nothing, HasMemory, IsVacant}
-use Rattle.kcall_core.specs.Memories.{held_in, keeps_pipe, kept_pipe, slot_frames, all_joined, process_frames, IsMemory, IsAccounted, AreSound, each_of, SlotChanges, Stands}
-use Rattle.kcall_core.specs.declared.memories.Memory.{Memory}
-use Rattle.kcall_core.specs.declared.memories.Memories.{Memories}
+use Rattle.kcall_core.proofs.Prelude.{[], ℕ, ◌%◌, ◌++◌, ◌+◌, ◌<◌, ◌∙◌, ◌∷◌, ◌≡◌, all_joined, ap, AreSound, arith, at-same, Belongs, Bool, cases_lt, cond, copies, copies-cons, copies-nil, copies-one}
+use Rattle.kcall_core.proofs.Prelude.{count_if, each_of, empty, Err, false, free_in, fresh, gathered, get_or, Good, HasMemory, Held, held_in, IfErr, IfOk, Image, image_of, inl, inr, insert_some}
+use Rattle.kcall_core.proofs.Prelude.{IsAccounted, IsMemory, IsSome, IsVacant, keeps_pipe, kept_pipe, length, length-all, length-replicate, List, Made, map, Memories, Memory, NoFrames, None}
+use Rattle.kcall_core.proofs.Prelude.{none-some, NPROC, Ok, Option, or_nothing, pipe_in, Pool, process_frames, refl, Registers, replicate, Result, saved, set, slot_frames, SlotChanges, Some, Space}
+use Rattle.kcall_core.proofs.Prelude.{Stands, subst, suc, sym, Taken, trade-join, trade-lengths, trade-none, Traded, true≢false, zero}
 use Rattle.kcall_core.proofs.memory.Frames.{saved-zero, slot-free, Stays, stays-if}
 use Rattle.kcall_core.proofs.memory.Changes.{each-at, trade-first, slot-filled, there-inside}
+use Rattle.addr_space.specs.Space as space
 
 -- ---- answers
 

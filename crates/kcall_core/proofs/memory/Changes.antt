@@ -1,33 +1,14 @@
 -- The one law of the memories: a change that moves frames only between the free ones and one owner changes that owner alone.
-use Rattle.std.proofs.Common.{◌≡◌, ◌≢◌, ℕ, zero, suc, ◌+◌, ◌%◌, ◌<◌, List, [], ◌∷◌, length, set, get_or, map, Bool, true, Option, Some, None, IsSome, inl, inr, refl, sym, ap, ◌∙◌, subst, arith}
-use Rattle.std.proofs.lemmas.Bool.{cases_eq, false≢true}
-use Rattle.std.proofs.lemmas.List.{get_or-set_same, get_or-set_other, get_or_read, length-set, length-map}
-use Rattle.std.proofs.Math.ListN.{get_or-map}
-use Rattle.std.proofs.lemmas.Option.{none-some, same_Some}
-use Rattle.xk_base.specs.Frames.{copies}
-use Rattle.xk_base.specs.Gathered.{gathered}
-use Rattle.xk_base.specs.declared.limits.TheConstants.{FRAMES_MAX}
-use Rattle.xk_base.specs.Image.{Image, price}
-use Rattle.xk_base.proofs.Frames.{at-same, copies-nil, copies-cons}
-use Rattle.frame_list.specs.declared.Pool.{Pool}
-use Rattle.frame_list.specs.Pool.{free_in}
-use Rattle.frame_list.specs.Traded.{Traded}
-use Rattle.frame_list.proofs.Trades.{trade-lengths}
-use Rattle.addr_space.specs.Space as space
-use Rattle.addr_space.specs.Space.{image_of, Belongs, Changed}
-use Rattle.addr_space.specs.declared.Space.{Space}
-use Rattle.rv64i_core.specs.Registers.{Registers}
-use Rattle.hart_core.specs.Trapframe.{saved}
-use Rattle.hart_core.specs.declared.hart.Hart.{Hart}
-use Rattle.kcall_core.specs.Holdings.{Held, held_at, or_nothing, HasMemory, IsVacant, with_image, held_cost}
-use Rattle.kcall_core.specs.Memories.{held_in, keeps_pipe, kept_pipe, slot_frames, all_joined, process_frames, IsMemory, IsAccounted}
-use Rattle.kcall_core.specs.Memories.{AreSound, Stands, each_of, pipes_of, free_of, RunsIn, SlotChanges, Same}
-use Rattle.kcall_core.specs.declared.memories.Memory.{Memory}
-use Rattle.kcall_core.specs.declared.memories.Memories.{Memories}
+use Rattle.kcall_core.proofs.Prelude.{[], ℕ, ◌%◌, ◌+◌, ◌<◌, ◌∙◌, ◌∷◌, ◌≡◌, ◌≢◌, all_joined, ap, AreSound, arith, at-same, Belongs, Bool, cases_eq, Changed, copies, copies-cons, copies-nil, each_of}
+use Rattle.kcall_core.proofs.Prelude.{false≢true, FRAMES_MAX, free_in, free_of, gathered, get_or, get_or-map, get_or-set_other, get_or-set_same, get_or_read, Hart, HasMemory, Held, held_at, held_cost}
+use Rattle.kcall_core.proofs.Prelude.{held_in, Image, image_of, inl, inr, IsAccounted, IsMemory, IsSome, IsVacant, keeps_pipe, kept_pipe, length, length-map, length-set, List, map, Memories, Memory}
+use Rattle.kcall_core.proofs.Prelude.{None, none-some, Option, or_nothing, pipes_of, Pool, price, process_frames, refl, Registers, RunsIn, Same, same_Some, saved, set, slot_frames, SlotChanges, Some}
+use Rattle.kcall_core.proofs.Prelude.{Space, Stands, subst, suc, sym, trade-lengths, Traded, true, with_image, zero}
 use Rattle.kcall_core.proofs.memory.Lists.{map-same, map-set_one}
 use Rattle.kcall_core.proofs.memory.Joined.{joined-set}
-use Rattle.kcall_core.proofs.memory.Frames.{saved-same, fits-stay, frames-at, slot-free, slot-inside, pipe-free, slots-apart}
-use Rattle.kcall_core.proofs.memory.Frames.{pipe-apart, Stays, stays-if, PipeStays, pipe-stays-if, pipes-seen, cost-frames}
+use Rattle.kcall_core.proofs.memory.Frames.{saved-same, fits-stay, frames-at, slot-free, slot-inside, pipe-free, slots-apart, pipe-apart, Stays, stays-if, PipeStays, pipe-stays-if, pipes-seen}
+use Rattle.kcall_core.proofs.memory.Frames.{cost-frames}
+use Rattle.addr_space.specs.Space as space
 
 -- ---- one slot
 

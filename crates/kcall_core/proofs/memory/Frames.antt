@@ -1,33 +1,13 @@
 -- What a change of one owner's frames leaves of all other owners.
-use Rattle.std.proofs.Common.{◌≡◌, ◌≢◌, ℕ, zero, suc, ◌+◌, ◌*◌, ◌%◌, ◌<◌, ◌≤◌, Bool, true, false, cond, List, []}
-use Rattle.std.proofs.Common.{◌∷◌, length, get_or, map, replicate, Option, Some, None, inl, inr, refl, ap, ◌∙◌, subst, arith}
-use Rattle.std.proofs.lemmas.Bool.{cases_lt, cases_eq}
-use Rattle.std.proofs.Math.ListN.{get_or-map}
-use Rattle.std.proofs.lemmas.Option.{none-some, same_Some}
-use Rattle.xk_base.specs.Frames.{copies}
-use Rattle.xk_base.specs.Gathered.{gathered}
-use Rattle.xk_base.specs.declared.access.Access.{Access}
-use Rattle.xk_base.proofs.Frames.{at-same, at-other, copies-cons, copies-one}
-use Rattle.phys_ram.specs.Ram.{frame_at, word_at, zero_frame}
-use Rattle.phys_ram.proofs.Words.{word_at-same, word_at-zero}
-use Rattle.frame_list.specs.declared.Pool.{Pool}
-use Rattle.frame_list.specs.Pool.{free_in}
-use Rattle.frame_list.specs.Traded.{Traded}
-use Rattle.sv39_core.specs.Sv39.{walked}
-use Rattle.addr_space.specs.Space as space
-use Rattle.addr_space.specs.Space.{Spared}
-use Rattle.addr_space.proofs.Isolation.{spared}
+use Rattle.kcall_core.proofs.Prelude.{[], ℕ, ◌%◌, ◌*◌, ◌+◌, ◌<◌, ◌∙◌, ◌∷◌, ◌≡◌, ◌≢◌, ◌≤◌, Access, ap, arith, at-other, at-same, Bool, cases_eq, cases_lt, cond, copies, copies-cons, copies-one}
+use Rattle.kcall_core.proofs.Prelude.{count_if, false, Fits, frame_at, free_in, fresh, gathered, get_or, get_or-map, held_cost, held_in, inl, inr, IsAccounted, IsMemory, IsPipe, keeps_pipe, kept_pipe}
+use Rattle.kcall_core.proofs.Prelude.{length, List, map, Memory, None, none-some, nothing, Option, owners, pipe_in, Pool, process_frames, refl, Registers, replicate, ring_byte, same_Some, saved}
+use Rattle.kcall_core.proofs.Prelude.{slot_frames, Some, Spared, spared, subst, suc, Traded, Translations, true, values_below, walked, word_at, word_at-same, word_at-zero, words_from, zero}
+use Rattle.kcall_core.proofs.Prelude.{zero_frame}
 use Rattle.addr_space.proofs.Trades.{space-price}
 use Rattle.addr_space.proofs.Steps.{gathered-same}
-use Rattle.rv64i_core.specs.Registers.{Registers, fresh}
-use Rattle.hart_core.specs.Trapframe.{saved, words_from}
-use Rattle.hart_core.specs.Translations.{Translations, Fits, nothing}
-use Rattle.pipe_core.specs.Pipe.{IsPipe, pipe_in, ring_byte, values_below}
-use Rattle.kernel_spec.specs.views.Words.{count_if}
-use Rattle.kcall_core.specs.Holdings.{held_cost}
-use Rattle.kcall_core.specs.Memories.{held_in, keeps_pipe, kept_pipe, slot_frames, process_frames, owners, IsMemory, IsAccounted}
-use Rattle.kcall_core.specs.declared.memories.Memory.{Memory}
 use Rattle.kcall_core.proofs.memory.Joined.{joined-has, joined-two}
+use Rattle.addr_space.specs.Space as space
 
 -- ---- what one frame holds
 

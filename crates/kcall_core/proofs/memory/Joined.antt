@@ -1,8 +1,5 @@
 -- How often a frame stands in lists that are all_joined.
-use Rattle.std.proofs.Common.{◌≡◌, ◌≢◌, ℕ, zero, suc, ◌+◌, ◌<◌, ◌≤◌, List, [], ◌∷◌, length, set, get_or, refl, arith}
-use Rattle.xk_base.specs.Frames.{copies}
-use Rattle.xk_base.proofs.Frames.{copies-nil, copies-append}
-use Rattle.kcall_core.specs.Memories.{all_joined}
+use Rattle.kcall_core.proofs.Prelude.{[], ℕ, ◌+◌, ◌<◌, ◌∷◌, ◌≡◌, ◌≢◌, ◌≤◌, all_joined, arith, copies, copies-append, copies-nil, get_or, length, List, refl, set, suc, zero}
 
 joined-cons : (x : ℕ) (xs : List ℕ) (rest : List (List ℕ)) → copies x (all_joined (xs ∷ rest)) ≡ copies x xs + copies x (all_joined rest)
 unfolding all_joined

@@ -1,11 +1,6 @@
 -- A byte of an image.
-use Rattle.std.proofs.Common.{◌≡◌, ℕ, zero, suc, ◌/◌, ◌%◌, List, [], ◌∷◌, get_or, take, drop, Option, Some, None, refl, sym, ap, ◌∙◌}
-use Rattle.std.specs.Prelude.{option_map, slice_index}
-use Rattle.std.specs.FinMap.{get}
-use Rattle.xk_base.specs.declared.access.Rights.{Rights}
-use Rattle.xk_base.specs.Image.{Page, Image}
-use Rattle.addr_space.specs.Changes.{perm_of_page}
-use Rattle.kcall_core.specs.Holdings.{byte_of}
+use Rattle.kcall_core.proofs.Prelude.{[], ℕ, ◌%◌, ◌/◌, ◌∙◌, ◌∷◌, ◌≡◌, ap, byte_of, drop, get, get_or, Image, List, None, Option, option_map, Page, perm_of_page, refl, Rights, slice_index, Some, suc}
+use Rattle.kcall_core.proofs.Prelude.{sym, take, zero}
 
 pub byte-none : (image : Image) (va : ℕ) → get image.pages (va / 4096) ≡ None → byte_of image va ≡ None
 byte-none image va e = ap (option_map (λ (page : Page). slice_index page.bytes (va % 4096))) e

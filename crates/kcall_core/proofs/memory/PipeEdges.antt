@@ -1,22 +1,8 @@
 -- What the memories tell and change of a pipe's counts.
-use Rattle.std.proofs.Common.{◌≡◌, ℕ, ◌<◌, ◌≤◌, Bool, true, false, cond, Option, Some, None, IsSome, refl, sym, ap, ◌∙◌, subst, arith}
-use Rattle.std.specs.Prelude.{nat_eq}
-use Rattle.std.specs.FinMap.{get}
-use Rattle.std.proofs.lemmas.Bool.{false≢true}
-use Rattle.proc_table.specs.declared.channel.Channel.{Channel}
-use Rattle.proc_table.specs.Processes.{woken}
-use Rattle.proc_table.specs.Slots.{Slots, each_changed}
-use Rattle.xk_base.specs.declared.limits.TheConstants.{FRAMES_MAX}
-use Rattle.pipe_core.specs.Pipe.{Pipe, IsPipe, Becomes, pipe_in}
-use Rattle.file_table.specs.declared.open_file.End.{End}
-use Rattle.kernel_spec.specs.views.PipeEnds.{count_on, joined, parted, is_given_up}
-use Rattle.kcall_core.specs.Holdings.{or_new, pipe_named, pipe_cost, with_pipe}
-use Rattle.kcall_core.specs.Memories.{AreSound, pipes_of, PipeChanges}
-use Rattle.kcall_core.specs.declared.memories.Memories.{Memories}
-use Rattle.kernel_spec.proofs.steps.MapsAfterChange.{get_same}
+use Rattle.kcall_core.proofs.Prelude.{ℕ, ◌<◌, ◌∙◌, ◌≡◌, ◌≤◌, across, ap, AreSound, arith, Becomes, Bool, Channel, closes_wake, cond, count_on, each_changed, End, false, false≢true, FRAMES_MAX, get}
+use Rattle.kcall_core.proofs.Prelude.{get_same, is_given_up, IsPipe, IsSome, joined, Memories, nat_eq, None, Option, or_new, parted, Pipe, pipe_cost, pipe_in, pipe_named, PipeChanges, pipes_of, refl}
+use Rattle.kcall_core.proofs.Prelude.{Slots, Some, subst, sym, true, with_pipe, woken, woken_by}
 use Rattle.kcall_core.proofs.memory.PipeFrames.{pipe-keeps, pipe-named, pipe-becomes}
-use Rattle.kcall_core.specs.Closings.{across, woken_by}
-use Rattle.kernel_spec.specs.waking.SleepsOn.{closes_wake}
 use Rattle.kcall_core.proofs.files.PipeLeft.{remainder, with-twice, wakes-across, wakes-nobody}
 use Rattle.kcall_core.proofs.table.Woken.{each-woken, each-none}
 

@@ -1,27 +1,9 @@
 -- A change of the frame of one pipe.
-use Rattle.std.proofs.Common.{◌≡◌, ◌≢◌, ℕ, ◌+◌, ◌<◌, ◌≤◌, Bool, true, false, cond, ltb, List, [], ◌∷◌, length, set, get_or, map, Option, Some, None, IsSome, inl, inr, refl, sym, ap, ◌∙◌, subst, arith}
-use Rattle.std.specs.Ordering.{nat_cmp, eq_by_cmp}
-use Rattle.std.specs.Cmp.{nat_cmp_total}
-use Rattle.std.specs.FinMap.{FinMap, get, get-insert, get-remove}
-use Rattle.std.proofs.lemmas.Bool.{cases_eq, false≢true, lt-ltb}
-use Rattle.std.proofs.lemmas.List.{get_or-set_same, get_or-set_other, length-set}
-use Rattle.xk_base.specs.Frames.{copies}
-use Rattle.xk_base.specs.Gathered.{gathered}
-use Rattle.xk_base.specs.declared.limits.TheConstants.{FRAMES_MAX}
-use Rattle.xk_base.proofs.Frames.{at, at-same, at-other, copies-nil, copies-one}
-use Rattle.phys_ram.specs.Ram.{OthersStay}
-use Rattle.frame_list.specs.declared.Pool.{Pool}
-use Rattle.frame_list.specs.Pool.{free_in, Good}
-use Rattle.frame_list.specs.Traded.{Traded, Taken, Given}
-use Rattle.frame_list.proofs.FreeList.{free_in-written, Good-written}
-use Rattle.frame_list.proofs.Trades.{trade-lengths, trade-join}
-use Rattle.xk_base.proofs.Gathered.{tie-yes, tie-no, gathered-get, same_pages}
-use Rattle.pipe_core.specs.Pipe.{Pipe, IsPipe, Becomes, pipe_in}
-use Rattle.kernel_spec.specs.views.Words.{count_if}
-use Rattle.kcall_core.specs.Holdings.{pipe_cost, with_pipe, or_new, pipe_named}
-use Rattle.kcall_core.specs.Memories.{held_in, keeps_pipe, kept_pipe, slot_frames, all_joined, process_frames, IsAccounted, AreSound, each_of, pipes_of, free_of, PipeChanges}
-use Rattle.kcall_core.specs.declared.memories.Memory.{Memory}
-use Rattle.kcall_core.specs.declared.memories.Memories.{Memories}
+use Rattle.kcall_core.proofs.Prelude.{[], ℕ, ◌+◌, ◌<◌, ◌∙◌, ◌∷◌, ◌≡◌, ◌≢◌, ◌≤◌, all_joined, ap, AreSound, arith, at, at-other, at-same, Becomes, Bool, cases_eq, cond, copies, copies-nil, copies-one}
+use Rattle.kcall_core.proofs.Prelude.{count_if, each_of, eq_by_cmp, false, false≢true, FinMap, FRAMES_MAX, free_in, free_in-written, free_of, gathered, gathered-get, get, get-insert, get-remove}
+use Rattle.kcall_core.proofs.Prelude.{get_or, get_or-set_other, get_or-set_same, Given, Good, Good-written, held_in, inl, inr, IsAccounted, IsPipe, IsSome, keeps_pipe, kept_pipe, length, length-set}
+use Rattle.kcall_core.proofs.Prelude.{List, lt-ltb, ltb, map, Memories, Memory, nat_cmp, nat_cmp_total, None, Option, or_new, OthersStay, Pipe, pipe_cost, pipe_in, pipe_named, PipeChanges, pipes_of}
+use Rattle.kcall_core.proofs.Prelude.{Pool, process_frames, refl, same_pages, set, slot_frames, Some, subst, sym, Taken, tie-no, tie-yes, trade-join, trade-lengths, Traded, true, with_pipe}
 use Rattle.kcall_core.proofs.memory.Lists.{map-same, set-read}
 use Rattle.kcall_core.proofs.memory.Frames.{fits-stay, slot-free, slot-pipe-apart, pipe-free, pipes-apart, Stays, stays-if, PipeStays, pipe-stays-if, pipe-seen}
 use Rattle.kcall_core.proofs.memory.Births.{taken-apart}

@@ -1,17 +1,6 @@
 -- Bytes that go from frame to frame, between the pages of a slot and a pipe.
-use Rattle.std.proofs.Common.{◌≡◌, ℕ, ◌<◌, List, Some, IsSome, sym, ap, subst, arith}
-use Rattle.std.specs.FinMap.{get}
-use Rattle.xk_base.specs.Frames.{copies}
-use Rattle.xk_base.proofs.Frames.{copies-cons}
-use Rattle.xk_base.specs.declared.limits.TheConstants.{FRAMES_MAX}
-use Rattle.xk_base.specs.Image.{Image}
-use Rattle.xk_base.specs.Bytes.{image_bytes}
-use Rattle.addr_space.specs.Space.{image_of, frames_of}
-use Rattle.pipe_core.specs.Pipe.{Pipe, Becomes, pipe_in, with_more}
-use Rattle.kcall_core.specs.Holdings.{held_at, pipe_named}
-use Rattle.kcall_core.specs.Memories.{AreSound, PipeChanges, each_of, pipes_of, slot_frames, Stands}
-use Rattle.kcall_core.specs.declared.memories.Memory.{Memory}
-use Rattle.kcall_core.specs.declared.memories.Memories.{Memories}
+use Rattle.kcall_core.proofs.Prelude.{ℕ, ◌<◌, ◌≡◌, ap, AreSound, arith, Becomes, copies, copies-cons, each_of, FRAMES_MAX, frames_of, get, held_at, Image, image_bytes, image_of, IsSome, List}
+use Rattle.kcall_core.proofs.Prelude.{Memories, Memory, Pipe, pipe_in, pipe_named, PipeChanges, pipes_of, slot_frames, Some, Stands, subst, sym, with_more}
 use Rattle.kcall_core.proofs.memory.Changes.{image-seen}
 use Rattle.kcall_core.proofs.memory.Frames.{pipe-apart}
 use Rattle.kcall_core.proofs.memory.PipeFrames.{pipe-keeps, pipe-becomes}

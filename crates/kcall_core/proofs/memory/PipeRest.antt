@@ -1,19 +1,8 @@
 -- What of a buffer is left, from a place in it on.
-use Rattle.std.proofs.Common.{◌≡◌, ℕ, ◌+◌, ◌-◌, ◌%◌, ◌^◌, ◌<◌, ◌≤◌, true, get_or, Option, Some, None, IsSome, inl, inr, refl, sym, ap, ◌∙◌, subst, arith}
-use Rattle.std.proofs.lemmas.Bool.{cases_lt, both_ways}
-use Rattle.xk_base.specs.Image.{Image}
-use Rattle.xk_base.specs.declared.access.Access.{Access}
-use Rattle.xk_base.specs.declared.access.Access.TheVariants.{Load, Store}
-use Rattle.addr_space.specs.Space.{image_of}
-use Rattle.user_copy.specs.Reach.{reaches}
-use Rattle.user_copy.proofs.Ranges.{reaches-none, reaches-not, reaches-rest, reaches-fewer, may-beyond}
-use Rattle.kernel_spec.specs.rows.Buffers.{readable, writable_now, reaches_touching}
-use Rattle.kcall_core.specs.Holdings.{held_at, or_nothing, HasMemory}
-use Rattle.kcall_core.specs.Memories.{each_of, held_in, AreSound}
-use Rattle.kcall_core.specs.declared.memories.Memory.{Memory}
-use Rattle.kcall_core.specs.declared.memories.Memories.{Memories}
+use Rattle.kcall_core.proofs.Prelude.{ℕ, ◌%◌, ◌+◌, ◌-◌, ◌<◌, ◌^◌, ◌∙◌, ◌≡◌, ◌≤◌, Access, ap, AreSound, arith, both_ways, cases_lt, each_of, get_or, HasMemory, held_at, held_in, Image, image_of, inl}
+use Rattle.kcall_core.proofs.Prelude.{inr, IsSome, Load, may-beyond, Memories, Memory, None, Option, or_nothing, reaches, reaches-fewer, reaches-none, reaches-not, reaches-rest, reaches_touching}
+use Rattle.kcall_core.proofs.Prelude.{readable, refl, Some, Store, subst, sym, touching-rest, true, writable_now}
 use Rattle.kcall_core.proofs.memory.Changes.{each-at, there-inside}
-use Rattle.kernel_spec.proofs.memory.Bringing.{touching-rest}
 use Rattle.kcall_core.proofs.memory.Written.{readable-inside}
 
 -- what a process may reach lies below 2^38

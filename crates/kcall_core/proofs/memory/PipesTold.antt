@@ -1,15 +1,6 @@
 -- What is told of the pipe in a frame.
-use Rattle.std.proofs.Common.{◌≡◌, ℕ, ◌<◌, Bool, true, false, cond, Option, Some, None, inl, inr, refl, ap, ◌∙◌, subst}
-use Rattle.std.specs.Prelude.{is_some, IsSome}
-use Rattle.std.proofs.lemmas.Bool.{cases_lt, le-ltb, false≢true, lt-ltb}
-use Rattle.std.specs.Ordering.{nat_cmp}
-use Rattle.std.specs.FinMap.{FinMap, get}
-use Rattle.xk_base.specs.declared.limits.TheConstants.{FRAMES_MAX}
-use Rattle.xk_base.proofs.Gathered.{gathered-get}
-use Rattle.pipe_core.specs.Pipe.{Pipe, pipe_in}
-use Rattle.kcall_core.specs.Holdings.{or_new, pipe_named}
-use Rattle.kcall_core.specs.Memories.{keeps_pipe, kept_pipe, pipes_of}
-use Rattle.kcall_core.specs.declared.memories.Memories.{Memories}
+use Rattle.kcall_core.proofs.Prelude.{ℕ, ◌<◌, ◌∙◌, ◌≡◌, ap, Bool, cases_lt, cond, false, false≢true, FinMap, FRAMES_MAX, gathered-get, get, inl, inr, is_some, IsSome, keeps_pipe, kept_pipe, le-ltb}
+use Rattle.kcall_core.proofs.Prelude.{lt-ltb, Memories, nat_cmp, None, Option, or_new, Pipe, pipe_in, pipe_named, pipes_of, refl, Some, subst, true}
 
 -- a pipe lies in a frame, so its number is a frame's
 pub pipe-below : (m : Memories) (f : ℕ) → IsSome (get (pipes_of m) f) → f < FRAMES_MAX

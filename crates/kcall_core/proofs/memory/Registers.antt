@@ -1,27 +1,12 @@
 -- The trapframe of a slot is written.
-use Rattle.std.proofs.Common.{◌≡◌, ℕ, ◌%◌, List, ◌∷◌, get_or, Some, None, sym, ap, ◌∙◌, subst, arith}
-use Rattle.std.proofs.lemmas.Option.{same_Some}
-use Rattle.xk_base.specs.Frames.{copies}
-use Rattle.xk_base.proofs.Frames.{at, at-same, copies-cons}
-use Rattle.phys_ram.specs.Ram.{word_at, OthersStay}
-use Rattle.frame_list.specs.Pool.{free_in}
-use Rattle.frame_list.specs.Traded.{Traded}
-use Rattle.frame_list.proofs.FreeList.{free_in-written, Good-written}
+use Rattle.kcall_core.proofs.Prelude.{ℕ, ◌%◌, ◌∙◌, ◌∷◌, ◌≡◌, ap, arith, at, at-same, copies, copies-cons, each_of, Fits, fits-same, free_in, free_in-written, get_or, Good-written, Hart, held_at}
+use Rattle.kcall_core.proofs.Prelude.{held_in, image_of, IsMemory, List, Memories, Memory, None, OthersStay, Registers, RunsIn, same_Some, saved, slot_frames, SlotChanges, Some, Stands, subst, sym}
+use Rattle.kcall_core.proofs.Prelude.{Traded, with_saved, word_at}
 use Rattle.sv39_core.proofs.Owned.{Kept, kept-owned, kept-image, kept-pages}
-use Rattle.addr_space.specs.Space as space
-use Rattle.addr_space.specs.Space.{image_of}
 use Rattle.addr_space.proofs.Copies.{space-kept, same-price}
-use Rattle.rv64i_core.specs.Registers.{Registers}
-use Rattle.hart_core.specs.Trapframe.{saved}
-use Rattle.hart_core.specs.Translations.{Fits}
-use Rattle.hart_core.specs.declared.hart.Hart.{Hart}
-use Rattle.hart_core.proofs.Caches.{fits-same}
-use Rattle.kcall_core.specs.Holdings.{held_at, with_saved}
-use Rattle.kcall_core.specs.Memories.{held_in, slot_frames, IsMemory, each_of, RunsIn, SlotChanges, Stands}
-use Rattle.kcall_core.specs.declared.memories.Memory.{Memory}
-use Rattle.kcall_core.specs.declared.memories.Memories.{Memories}
 use Rattle.kcall_core.proofs.memory.Lists.{set-read}
 use Rattle.kcall_core.proofs.memory.Changes.{trapframe-apart, held-seen, slot-changes}
+use Rattle.addr_space.specs.Space as space
 
 -- a trapframe that a pc which is a multiple of 4 was saved in
 pub saved-aligned : (ram : List (List ℕ)) (f : ℕ) → word_at ram f 0 % 4 ≡ 0 → (saved ram f).pc % 4 ≡ 0

@@ -1,25 +1,10 @@
 -- A slot's space is replaced by one that was made beside it.
-use Rattle.std.proofs.Common.{◌≡◌, ℕ, ◌+◌, ◌%◌, ◌≤◌, List, [], ◌∷◌, set, get_or, Some, None, refl, sym, ap, ◌∙◌, subst, arith}
-use Rattle.std.proofs.lemmas.Option.{same_Some}
-use Rattle.xk_base.specs.Frames.{copies}
-use Rattle.xk_base.specs.Image.{Image}
-use Rattle.xk_base.proofs.Frames.{copies-nil, copies-cons}
-use Rattle.phys_ram.specs.Ram.{frame_at}
-use Rattle.frame_list.specs.declared.Pool.{Pool}
-use Rattle.frame_list.specs.Pool.{free_in}
-use Rattle.frame_list.specs.Traded.{Traded}
-use Rattle.addr_space.specs.Space as space
-use Rattle.addr_space.specs.Space.{image_of, Belongs, Made, Spared}
-use Rattle.addr_space.specs.declared.Space.{Space}
-use Rattle.addr_space.proofs.Isolation.{spared}
-use Rattle.rv64i_core.specs.Registers.{Registers}
-use Rattle.hart_core.specs.Trapframe.{saved}
-use Rattle.kcall_core.specs.Holdings.{Held, held_at, with_image}
-use Rattle.kcall_core.specs.Memories.{held_in, slot_frames, IsMemory, each_of, SlotChanges, Stands}
-use Rattle.kcall_core.specs.declared.memories.Memory.{Memory}
-use Rattle.kcall_core.specs.declared.memories.Memories.{Memories}
+use Rattle.kcall_core.proofs.Prelude.{[], ℕ, ◌%◌, ◌+◌, ◌∙◌, ◌∷◌, ◌≡◌, ◌≤◌, ap, arith, Belongs, copies, copies-cons, copies-nil, each_of, frame_at, free_in, get_or, Held, held_at, held_in, Image}
+use Rattle.kcall_core.proofs.Prelude.{image_of, IsMemory, List, Made, Memories, Memory, None, Pool, refl, Registers, same_Some, saved, set, slot_frames, SlotChanges, Some, Space, Spared, spared}
+use Rattle.kcall_core.proofs.Prelude.{Stands, subst, sym, Traded, with_image}
 use Rattle.kcall_core.proofs.memory.Frames.{saved-same, slot-free, Stays, stays-if}
 use Rattle.kcall_core.proofs.memory.Changes.{slot-changes, trapframe-apart, held-seen}
+use Rattle.addr_space.specs.Space as space
 
 module _ {old : Memories} {i : ℕ} {m : Memory} {pool1 : Pool} {ram1 : List (List ℕ)} {n : Space} (s : Stands old i m) (made : Made old.pool old.ram pool1 ram1 n) where
   stays : Stays old.ram ram1 (Some m)

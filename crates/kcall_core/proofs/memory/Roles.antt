@@ -1,24 +1,11 @@
 -- What a frame is used for in a tree of tables, and in the memory of a process: each frame for one thing.
-use Rattle.std.proofs.Common.{◌≡◌, ◌≢◌, ℕ, zero, suc, ◌+◌, ◌*◌, ◌/◌, ◌%◌, ◌^◌, ◌<◌, ◌≤◌, List, get_or, Option, Some, None, inl, inr, refl, sym, ap, ◌∙◌, subst, arith}
-use Rattle.std.specs.Prelude.{min, IfNone}
-use Rattle.std.proofs.lemmas.List.{get_or_read}
-use Rattle.std.proofs.lemmas.Bool.{cases_lt}
-use Rattle.std.proofs.lemmas.Option.{none-some, same_Some}
-use Rattle.xk_base.specs.Frames.{copies}
-use Rattle.xk_base.specs.declared.limits.TheConstants.{NPROC}
-use Rattle.xk_base.proofs.Frames.{at, at-same, at-other, copies-nil, copies-cons}
-use Rattle.sv39_core.specs.Sv39.{entry_at, table_at, last, page_entry}
+use Rattle.kcall_core.proofs.Prelude.{ℕ, ◌%◌, ◌*◌, ◌+◌, ◌/◌, ◌<◌, ◌^◌, ◌∙◌, ◌≡◌, ◌≢◌, ◌≤◌, ap, AreSound, arith, at, at-other, at-same, cases_lt, copies, copies-cons, copies-nil, copies-owned}
+use Rattle.kcall_core.proofs.Prelude.{frame_of, FrameRole, get_or, get_or_read, IfNone, inl, inr, IsInTree, IsOffTheWay, IsSpace, IsTree, IsUsedBy, IsUsedIn, last, List, lower-place, lowers, Memories}
+use Rattle.kcall_core.proofs.Prelude.{Memory, min, None, none-some, NPROC, one-place, Option, owned, page-has, page-place, page_entry, page_frames, refl, same_Some, slot_frames, Some, Space, subst}
+use Rattle.kcall_core.proofs.Prelude.{suc, sym, upper-place, uppers, zero}
+use Rattle.sv39_core.specs.Sv39.{entry_at, table_at}
 use Rattle.sv39_core.specs.Listed.{push_some, listed}
-use Rattle.sv39_core.specs.Tree.{frame_of, uppers, lowers, page_frames, owned, IsTree}
 use Rattle.sv39_core.proofs.Listings.{listed-has}
-use Rattle.sv39_core.proofs.Places.{copies-owned, upper-place, lower-place, page-place, page-has, one-place}
-use Rattle.addr_space.specs.Space.{IsSpace}
-use Rattle.addr_space.specs.declared.Space.{Space}
-use Rattle.kcall_core.specs.Memories.{slot_frames, AreSound}
-use Rattle.kcall_core.specs.ObservedFrames.{IsInTree, IsOffTheWay, IsUsedBy, IsUsedIn}
-use Rattle.kcall_core.specs.declared.memories.Memory.{Memory}
-use Rattle.kcall_core.specs.declared.memories.Memories.{Memories}
-use Rattle.kcall_core.specs.declared.memories.frame_roles.FrameRole.{FrameRole}
 use Rattle.kcall_core.specs.declared.memories.frame_roles.FrameRole.TheVariants.{Trapframe, Root, Upper, Lower, Page}
 
 -- ---- the walk over all pages

@@ -1,23 +1,7 @@
 -- A hart goes on with the tables of a slot whose space changes.
-use Rattle.std.proofs.Common.{◌≡◌, ℕ, ◌+◌, ◌*◌, ◌<◌, ◌≤◌, true, false, List, set, get_or, Some, None, Result, Ok, Err, IfOk, IfErr, inl, inr, sym, ap, ◌∙◌, subst, arith}
-use Rattle.std.specs.Prelude.{◌&&◌, nat_lt}
-use Rattle.std.proofs.lemmas.Bool.{cases_lt, le-leb, lt-ltb, false≢true}
-use Rattle.std.proofs.lemmas.Bool.Decides.{nat_tests}
-use Rattle.std.proofs.lemmas.List.{get_or-set_same}
-use Rattle.std.proofs.lemmas.Option.{same_Some}
-use Rattle.xk_base.specs.declared.access.Access.{Access}
-use Rattle.xk_base.specs.declared.errors.NoFrames.{NoFrames}
-use Rattle.sv39_core.specs.Sv39.{walked}
-use Rattle.addr_space.specs.Space.{Changed, Unchanged}
-use Rattle.addr_space.specs.Translations.{TranslationsStay, WalksStayBelow}
-use Rattle.addr_space.specs.declared.Space.{Space}
-use Rattle.hart_core.specs.Steps.{FitsHart}
-use Rattle.hart_core.specs.Translations.{Fits, FitsBut, but_not, nothing, Translations}
-use Rattle.hart_core.proofs.Caches.{fits_root, fits-none_gone}
-use Rattle.hart_core.specs.declared.hart.Hart.{Hart}
-use Rattle.kcall_core.specs.Memories.{RunsIn, is_between, Stands}
-use Rattle.kcall_core.specs.declared.memories.Memory.{Memory}
-use Rattle.kcall_core.specs.declared.memories.Memories.{Memories}
+use Rattle.kcall_core.proofs.Prelude.{ℕ, ◌&&◌, ◌*◌, ◌+◌, ◌<◌, ◌∙◌, ◌≡◌, ◌≤◌, Access, ap, arith, but_not, cases_lt, Changed, Err, false, false≢true, Fits, fits-none_gone, fits_root, FitsBut, FitsHart}
+use Rattle.kcall_core.proofs.Prelude.{get_or, get_or-set_same, Hart, IfErr, IfOk, inl, inr, is_between, le-leb, List, lt-ltb, Memories, Memory, nat_lt, nat_tests, NoFrames, None, nothing, Ok, Result}
+use Rattle.kcall_core.proofs.Prelude.{RunsIn, same_Some, set, Some, Space, Stands, subst, sym, Translations, TranslationsStay, true, Unchanged, walked, WalksStayBelow}
 
 -- what is kept stays true as long as each present translation stays
 fits-on : (ram ram' : List (List ℕ)) (root : ℕ) (cache : Translations) → TranslationsStay ram ram' root → Fits ram root cache → Fits ram' root cache

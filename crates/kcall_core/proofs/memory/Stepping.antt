@@ -1,35 +1,18 @@
 -- One instruction of the process in a slot.
-use Rattle.std.proofs.Common.{◌≡◌, ◌≢◌, ℕ, zero, suc, ◌/◌, ◌%◌, ◌<◌, List, length, set, get_or, Option, Some, None, refl, sym, ap, ◌∙◌, subst, arith}
-use Rattle.xk_base.specs.declared.access.Cause.{Cause}
-use Rattle.phys_ram.specs.Ram.{frame_at}
-use Rattle.phys_ram.proofs.Words.{others_stay-set}
-use Rattle.frame_list.specs.declared.Pool.{Pool}
-use Rattle.frame_list.specs.Pool.{free_in}
-use Rattle.frame_list.proofs.Trades.{trade-lengths}
-use Rattle.sv39_core.specs.Sv39.{page_entry}
-use Rattle.sv39_core.specs.Tree.{frame_of, pages_of, owned}
-use Rattle.addr_space.specs.Space as space
-use Rattle.addr_space.specs.Space.{image_of, Belongs, Changed}
-use Rattle.addr_space.specs.declared.Space.{Space}
+use Rattle.kcall_core.proofs.Prelude.{ℕ, ◌%◌, ◌/◌, ◌<◌, ◌∙◌, ◌≡◌, ◌≢◌, address_used, ap, AreDone, AreSound, arith, Belongs, Cause, Changed, each_of, Ecall, Fault, Fits, fits_hart, fits_root, FitsHart}
+use Rattle.kcall_core.proofs.Prelude.{frame_at, frame_of, free_in, free_of, get_or, Hart, held_at, image_of, InARow, instr, Instructed, IsLast, IsLastStep, last_fault, length, List, Memories, Next}
+use Rattle.kcall_core.proofs.Prelude.{None, Option, others_stay-set, owned, page_entry, pages_of, Pool, refl, Registers, regs_after, root_of, RunsIn, set, Some, Space, Stands, state_after, Step}
+use Rattle.kcall_core.proofs.Prelude.{step_in, Steps, StepsDone, StepsInARow, Stop, stop_of, subst, suc, sym, trade-lengths, Translations, user, with_store, write_pages, zero}
 use Rattle.addr_space.proofs.Pages.{bytes-changed}
 use Rattle.addr_space.proofs.Freeing.{changed-none}
 use Rattle.addr_space.proofs.FromFrames.{leaf-of}
 use Rattle.rv64i_core.specs.Memory.{written}
-use Rattle.rv64i_core.specs.Step.{Step, Next, Ecall, Fault, instr, stop_of, regs_after, state_after, address_used}
-use Rattle.rv64i_core.specs.Registers.{Registers}
-use Rattle.rv64i_core.specs.declared.execution.Stop.{Stop}
-use Rattle.rv64i_core.specs.declared.execution.Stop.TheVariants as stops
-use Rattle.hart_core.specs.declared.hart.Hart.{Hart}
-use Rattle.hart_core.specs.Steps.{root_of, FitsHart, Stepped, Instructed, AreDone, IsLast, InARow, last_fault}
+use Rattle.hart_core.specs.Steps.{Stepped}
 use Rattle.hart_core.specs.UserMemory.{user_at, put_bytes, store_in, SpaceState, space_state, space_store}
-use Rattle.rv64i_core.specs.UserImage.{user, with_store, write_pages}
-use Rattle.hart_core.specs.Translations.{Translations, Fits}
-use Rattle.hart_core.proofs.Caches.{fits_root, fits_hart}
-use Rattle.kcall_core.specs.Holdings.{held_at}
-use Rattle.kcall_core.specs.Memories.{AreSound, each_of, free_of, RunsIn, Steps, step_in, StepsDone, IsLastStep, StepsInARow, Stands}
-use Rattle.kcall_core.specs.declared.memories.Memories.{Memories}
 use Rattle.kcall_core.proofs.memory.Lists.{set-read}
 use Rattle.kcall_core.proofs.memory.Changes.{belongs-of, image-seen, space-changes, runs-inside}
+use Rattle.addr_space.specs.Space as space
+use Rattle.rv64i_core.specs.declared.execution.Stop.TheVariants as stops
 
 -- a store changes the frame of one page, or nothing
 put-changed : (pool : Pool) (ram : List (List ℕ)) (s : Space) (v o : ℕ) (bytes : List ℕ) → Belongs pool ram s → (t : Option ℕ)

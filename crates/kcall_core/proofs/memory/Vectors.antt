@@ -1,5 +1,5 @@
 -- A vector is told by its parts: two with the same elements in the same place are one.
-use Rattle.std.proofs.Common.{◌≡◌, List, sym, ap, subst}
+use Rattle.kcall_core.proofs.Prelude.{◌≡◌, ap, List, subst, sym}
 use Rattle.std.specs.declared.vec.Vec.{Vec, ok-type}
 use Rattle.std.proofs.Math.Bridge.{le_prop}
 use native.Mathlib.Nat.{ℕ_set}

@@ -1,29 +1,10 @@
 -- Bytes are written to the space in a slot; answers that are good or refused.
-use Rattle.std.proofs.Common.{◌≡◌, ℕ, ◌+◌, ◌^◌, ◌<◌, Bool, true, false, cond, List, length, set, Some, None, Result, Ok, Err, IfOk, IfErr, refl, sym, ap, ◌∙◌, arith, subst, ◌≤◌}
-use Rattle.std.specs.Prelude.{is_ok}
-use Rattle.std.proofs.lemmas.Bool.{false≢true}
-use Rattle.xk_base.specs.Image.{Image, with_page}
-use Rattle.xk_base.specs.declared.access.Access.{Access}
-use Rattle.xk_base.specs.declared.access.Access.TheVariants.{Load}
-use Rattle.xk_base.specs.declared.limits.TheConstants.{SIZE_LIMIT}
-use Rattle.frame_list.specs.Pool.{free_in}
-use Rattle.frame_list.proofs.Trades.{trade-lengths}
-use Rattle.addr_space.specs.Space.{IsSpace, Changed, frames_of, image_of}
-use Rattle.addr_space.specs.Absent.{whole, pages_at, brought, bring, is_absent}
-use Rattle.addr_space.specs.Changes.{zeroed}
-use Rattle.xk_base.specs.Access.{data_rights}
+use Rattle.kcall_core.proofs.Prelude.{ℕ, ◌+◌, ◌<◌, ◌^◌, ◌∙◌, ◌≡◌, ◌≤◌, Access, allows, ap, arith, Bool, bring, brought, Changed, cond, data_rights, each_of, Err, false, false≢true, frames_of, free_in}
+use Rattle.kcall_core.proofs.Prelude.{Hart, held_at, IfErr, IfOk, Image, image_of, is_absent, is_ok, IsSpace, length, List, Load, low-pages, mapped-inside, Memories, Memory, None, Ok, pages_at}
+use Rattle.kcall_core.proofs.Prelude.{reached-mapped, reaches, reaches-whole, reaches_touching, readable, refl, Result, RunsIn, set, SIZE_LIMIT, Some, Stands, subst, sym, trade-lengths, true, whole}
+use Rattle.kcall_core.proofs.Prelude.{whole-low, with_page, zeroed}
 use Rattle.addr_space.specs.InPlace.{WrittenInPlace}
-use Rattle.addr_space.proofs.Touching.{low-pages, whole-low}
-use Rattle.user_copy.specs.Reach.{allows, reaches}
-use Rattle.hart_core.specs.declared.hart.Hart.{Hart}
-use Rattle.user_copy.proofs.Ranges.{reached-mapped, mapped-inside}
-use Rattle.kernel_spec.specs.rows.Buffers.{reaches_touching, readable}
-use Rattle.kcall_core.specs.Memories.{RunsIn, each_of, Stands}
-use Rattle.kcall_core.specs.Holdings.{held_at}
-use Rattle.kcall_core.specs.declared.memories.Memory.{Memory}
-use Rattle.kcall_core.specs.declared.memories.Memories.{Memories}
 use Rattle.kcall_core.proofs.memory.Lists.{set-read}
-use Rattle.kernel_spec.proofs.memory.Bringing.{reaches-whole}
 use Rattle.kcall_core.proofs.memory.Changes.{image-seen}
 use Rattle.kcall_core.proofs.memory.Runs.{runs-on, same-translations}
 

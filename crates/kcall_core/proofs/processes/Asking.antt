@@ -1,24 +1,11 @@
 -- The program that a process asks exec for.
-use Rattle.std.proofs.Common.{◌≡◌, ◌≢◌, ℕ, zero, suc, ◌+◌, ◌-◌, ◌%◌, ◌<◌, ◌≤◌, Bool, true, false, cond, List, []}
-use Rattle.std.proofs.Common.{◌∷◌, ◌++◌, length, drop, Option, Some, None, Result, Ok, Err, refl, sym, ap, ◌∙◌, arith}
-use Rattle.std.specs.Prelude.{if◌then◌else◌, nat_lt, slice_index, map, find, option_map, bytes_eq}
-use Rattle.std.proofs.lemmas.Bool.{eq-eqb, ne_eqb, ltb-false}
-use Rattle.std.proofs.lemmas.List.{length-append}
-use Rattle.std.proofs.lemmas.Option.{none-some}
-use Rattle.xk_base.specs.declared.limits.TheConstants.{MAXPATH, MAXARG, ARG_BYTES}
-use Rattle.xk_base.specs.declared.errors.ExecError.{ExecError}
-use Rattle.xk_base.specs.declared.errors.ExecError.TheVariants.{ArgsTooLong}
+use Rattle.kcall_core.proofs.Prelude.{[], ℕ, ◌%◌, ◌++◌, ◌+◌, ◌-◌, ◌<◌, ◌>>=◌, ◌∙◌, ◌∷◌, ◌≡◌, ◌≢◌, ◌≤◌, aligned, ap, ARG_BYTES, ArgsTooLong, arith, Asks, Bool, bytes_eq, cond, down, drop, end_after}
+use Rattle.kcall_core.proofs.Prelude.{eq-eqb, Err, ExecError, false, find, if◌then◌else◌, Image, length, length-append, List, Loaded, loaded, lowest, ltb-false, map, MAXARG, MAXPATH, named_file}
+use Rattle.kcall_core.proofs.Prelude.{nat_lt, ne_eqb, no_slashes, None, none-some, Ok, Option, option_map, Program, program_image, program_named, ProgramFile, refl, Result, slice_index, Some}
+use Rattle.kcall_core.proofs.Prelude.{stack_pointer, suc, sym, terminated, text_at, text_places, texts_at, true, with_texts, zero}
 use Rattle.xk_base.specs.declared.program.Header.{Header}
-use Rattle.xk_base.specs.declared.program.Program.{Program}
 use Rattle.xk_base.specs.declared.program.Segment.{Segment}
-use Rattle.xk_base.specs.Image.{Image}
 use Rattle.xk_base.specs.ProgramFile.{page_up, header_of, segments_of}
-use Rattle.xk_base.specs.Loaded.{Loaded, loaded, with_texts, end_after, down, text_places, lowest, stack_pointer, program_image, aligned, ◌>>=◌}
-use Rattle.exec_core.specs.ArgTexts.{terminated}
-use Rattle.kernel_spec.specs.rows.Buffers.{text_at, texts_at, no_slashes}
-use Rattle.kernel_spec.specs.views.Programs.{program_named}
-use Rattle.kernel_spec.specs.views.State.{ProgramFile, named_file}
-use Rattle.kernel_spec.specs.rows.Execs.{Asks}
 use Rattle.kernel_spec.proofs.rows.WholePages.{bound}
 
 -- ---- names

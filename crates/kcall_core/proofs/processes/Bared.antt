@@ -1,46 +1,20 @@
 -- A process that runs closes all its descriptors, and then it ends: together it departs.
-use Rattle.std.proofs.Common.{◌≡◌, ◌≢◌, ℕ, ◌+◌, ◌<◌, Bool, cond, List, length, get_or, Option, Some, None, inl, inr, refl, sym, ap, ◌∙◌, subst, arith}
-use Rattle.std.specs.Prelude.{ℤ, option_map}
-use Rattle.std.specs.Ordering.{nat_cmp}
-use Rattle.std.specs.Cmp.{nat_cmp_total}
-use Rattle.std.specs.FinMap.{get, get-empty, empty, same_map, nat_cmp-IsAntisymmetric}
-use Rattle.std.proofs.lemmas.Bool.{cases_eq, lt-ltb}
-use Rattle.std.proofs.lemmas.List.{get_or-replicate, length-replicate, ext_get_or, get_or-set_other}
-use Rattle.xk_base.specs.declared.limits.TheConstants.{NOFILE}
-use Rattle.xk_base.proofs.Gathered.{gathered-get}
-use Rattle.hart_core.specs.declared.hart.Hart.{Hart}
-use Rattle.file_table.specs.Named.{none_named}
-use Rattle.file_table.specs.OpenFiles as files
-use Rattle.file_table.specs.declared.open_file.CountedFile.{CountedFile}
-use Rattle.proc_table.specs.Processes.{is_live, given, woken, state_woken, ended}
-use Rattle.proc_table.specs.Slots.{Slots, place_at, place_is_live, descriptors_at, each_changed, changed_at}
-use Rattle.proc_table.specs.declared.channel.Channel.{Channel}
-use Rattle.proc_table.specs.declared.channel.Channel.TheVariants as on
-use Rattle.proc_table.specs.declared.process.State as table
-use Rattle.proc_table.specs.declared.process.State.TheVariants.{Live as Live_state, Zombie as Zombie_state}
-use Rattle.proc_table.specs.declared.process.Process.{Process}
-use Rattle.kernel_spec.specs.views.Words.{or_zero}
-use Rattle.kernel_spec.specs.views.Processes.{Alive}
-use Rattle.kernel_spec.specs.views.State.{State}
-use Rattle.kernel_spec.specs.steps.Updates.{changed_state, fewer_on_all, freed_on_all, gone_state}
-use Rattle.kernel_spec.specs.steps.Cases.{FilesLeft}
-use Rattle.kcall_core.specs.Kernel.{descriptor_map, state_of, IsSound, IsRunning, slot_now, pid_now, live_now, or_nobody}
-use Rattle.kernel_spec.specs.steps.Own.{Answer, gone_with}
-use Rattle.kernel_spec.specs.rows.Calls.{gone}
-use Rattle.kcall_core.specs.Makes.{view_now, Makes}
-use Rattle.kcall_core.specs.Whole.{namings, IsWhole, AreCounted}
-use Rattle.kcall_core.specs.declared.kernel.Kernel.{Kernel}
-use Rattle.kernel_spec.proofs.steps.MapsAfterChange.{get_same}
+use Rattle.kcall_core.proofs.Prelude.{ℕ, ℤ, ◌+◌, ◌<◌, ◌∙◌, ◌≡◌, ◌≢◌, Alive, Answer, ap, AreCounted, arith, Bool, cases_eq, changed_at, changed_state, Channel, closes_wake, cond, CountedFile}
+use Rattle.kcall_core.proofs.Prelude.{descriptor_map, descriptors_at, each_changed, empty, end_wakes, ended, ext_get_or, family_wakes, fewer_on_all, FilesLeft, freed_on_all, gathered-get, get}
+use Rattle.kcall_core.proofs.Prelude.{get-empty, get_or, get_or-replicate, get_or-set_other, get_same, given, gone, gone_state, gone_with, Hart, inl, inr, is_live, IsRunning, IsSound, IsWhole, Kernel}
+use Rattle.kcall_core.proofs.Prelude.{length, length-replicate, List, live_now, Live_state, lt-ltb, Makes, namings, nat_cmp, nat_cmp-IsAntisymmetric, nat_cmp_total, NOFILE, None, none_named, Option}
+use Rattle.kcall_core.proofs.Prelude.{option_map, or_nobody, or_zero, pid_now, place_at, place_is_live, Process, refl, same_live, same_map, slot_now, Slots, Some, State, state_of, state_woken, subst}
+use Rattle.kcall_core.proofs.Prelude.{sym, view_now, woken, Zombie_state}
 use Rattle.kcall_core.proofs.table.States.{running}
 use Rattle.kcall_core.proofs.turns.Turned.{live-is}
 use Rattle.kcall_core.proofs.processes.Departs.{OthersWake, Departs}
-use Rattle.kernel_spec.specs.waking.SleepsOn.{closes_wake}
-use Rattle.kernel_spec.specs.waking.SleepsOn.{family_wakes, end_wakes}
-use Rattle.kernel_spec.proofs.Common.{same_live}
 use Rattle.kcall_core.proofs.table.OthersWake.{others-join, others-end, own-end, end_in, parent_woken}
 use Rattle.kcall_core.proofs.table.Woken.{place-each}
 use Rattle.kcall_core.proofs.processes.GoneAfter.{gone-after}
 use Rattle.kcall_core.proofs.processes.GoneMakes.{gone-makes}
+use Rattle.file_table.specs.OpenFiles as files
+use Rattle.proc_table.specs.declared.channel.Channel.TheVariants as on
+use Rattle.proc_table.specs.declared.process.State as table
 
 -- k1 is k but for the descriptors of the process that runs, which are closed
 pub record IsBared (k : Kernel) (h : Hart) (k1 : Kernel) : Type 0 where

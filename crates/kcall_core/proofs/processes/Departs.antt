@@ -1,22 +1,9 @@
 -- What a process that goes leaves in the kernel: the state without it, and who wakes.
-use Rattle.std.specs.Prelude.{◌≡◌, ◌≢◌, ℕ, Bool, ℤ, Option, Some, None, option_map, length}
-use Rattle.std.specs.FinMap.{FinMap}
-use Rattle.std.specs.Ordering.{nat_cmp}
-use Rattle.hart_core.specs.declared.hart.Hart.{Hart}
+use Rattle.kcall_core.proofs.Prelude.{ℕ, ℤ, ◌≡◌, ◌≢◌, AreCounted, Bool, Channel, channel_of, end_wakes, FilesLeft, FinMap, gone_state, Hart, Holds, IsSound, Kernel, length, live_now, nat_cmp, None}
+use Rattle.kcall_core.proofs.Prelude.{OpenFile, Option, option_map, pid_now, place_at, Process, slot_now, Slots, Some, state_of, status_of}
 use Rattle.file_table.specs.OpenFiles as files
-use Rattle.file_table.specs.declared.open_file.OpenFile.{OpenFile}
-use Rattle.proc_table.specs.Processes.{status_of, channel_of}
-use Rattle.proc_table.specs.Slots.{Slots, Holds, place_at}
-use Rattle.proc_table.specs.declared.channel.Channel.{Channel}
-use Rattle.proc_table.specs.declared.process.Process.{Process}
 pub use Rattle.kcall_core.specs.Closings.{unless_woken}
 pub use Rattle.kernel_spec.specs.waking.SleepsOn.{last_closes, closes_wake}
-use Rattle.kernel_spec.specs.steps.Updates.{gone_state}
-use Rattle.kernel_spec.specs.steps.Cases.{FilesLeft}
-use Rattle.kcall_core.specs.Kernel.{state_of, IsSound, slot_now, pid_now, live_now}
-use Rattle.kcall_core.specs.Whole.{AreCounted}
-use Rattle.kcall_core.specs.declared.kernel.Kernel.{Kernel}
-use Rattle.kernel_spec.specs.waking.SleepsOn.{end_wakes}
 
 -- ---- who wakes
 

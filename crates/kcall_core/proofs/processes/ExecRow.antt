@@ -1,20 +1,7 @@
 -- The row of exec, by the program that is asked for.
-use Rattle.std.proofs.Common.{◌≡◌, ℕ, List, Option, Some, None, Result, Ok, Err, refl, ◌∙◌}
-use Rattle.std.specs.Prelude.{pos, nat_lt}
-use Rattle.xk_base.specs.declared.limits.TheConstants.{MAXPATH, MAXARG, ARG_BYTES}
-use Rattle.xk_base.specs.declared.errors.ExecError.{ExecError}
-use Rattle.xk_base.specs.Image.{price}
-use Rattle.xk_base.specs.Loaded.{Loaded, loaded}
-use Rattle.proc_table.specs.declared.process.Call.{Call}
-use Rattle.kernel_spec.specs.rows.Buffers.{text_at, texts_at, no_slashes}
-use Rattle.kernel_spec.specs.views.Programs.{program_named}
-use Rattle.kernel_spec.specs.views.State.{ProgramFile}
-use Rattle.kernel_spec.specs.views.View.{View}
-use Rattle.kernel_spec.specs.steps.Own.{Own}
-use Rattle.kernel_spec.specs.rows.Calls.{exec, done, refused}
+use Rattle.kcall_core.proofs.Prelude.{ℕ, ◌∙◌, ◌≡◌, ARG_BYTES, Call, done, Err, exec, exec_loaded, exec_path, exec_program, exec_same, ExecError, List, Loaded, loaded, MAXARG, MAXPATH, nat_lt}
+use Rattle.kcall_core.proofs.Prelude.{no_slashes, None, Ok, Option, Own, pos, price, program_named, ProgramFile, refl, refused, Result, running, Some, text_at, texts_at, unless, View}
 use Rattle.kcall_core.proofs.processes.Asking.{asked, asked_path, asked_program, if_loaded}
-use Rattle.kernel_spec.proofs.rows.RowParts.{exec_path, exec_program, exec_loaded, unless, running}
-use Rattle.kernel_spec.proofs.rows.RowsByParts.{exec_same}
 
 abbrev pub exec_asked : Call → View → Option Loaded → Own
 exec_asked c v None = refused c v

@@ -1,39 +1,17 @@
 -- The call exec, in the words of its row: the program is another, or nothing but the answer.
-use Rattle.std.proofs.Common.{◌≡◌, ℕ, ◌+◌, ◌-◌, ◌%◌, ◌<◌, ◌≤◌, List, map, Option, Some, None, refl, sym, ap, ◌∙◌, subst, arith, lt-ltb}
-use Rattle.std.specs.Prelude.{ℤ, pos}
-use Rattle.std.specs.Int.{cast_signed, cast_unsigned, w64}
-use Rattle.std.proofs.lemmas.Bool.{le-ltb}
-use Rattle.std.proofs.lemmas.Int.{to_z_pos}
-use Rattle.xk_base.specs.declared.limits.TheConstants.{ARG_BYTES}
-use Rattle.xk_base.specs.Image.{price}
-use Rattle.xk_base.specs.Loaded.{Loaded}
-use Rattle.exec_core.specs.declared.planning.Entry.{Entry}
-use Rattle.rv64i_core.specs.Registers.{Registers, put, with_pc}
-use Rattle.hart_core.specs.declared.hart.Hart.{Hart}
-use Rattle.proc_table.specs.Processes as process
-use Rattle.proc_table.specs.Slots.{changed_at}
-use Rattle.proc_table.specs.declared.process.Call.{Call}
-use Rattle.kernel_spec.specs.views.Words.{SP, A1, minus_one}
-use Rattle.kernel_spec.specs.views.State.{ProgramFile, named_file}
-use Rattle.kernel_spec.specs.views.View.{View, view_of}
-use Rattle.kernel_spec.specs.steps.Own.{Own, Called}
-use Rattle.kernel_spec.specs.rows.Calls.{exec, done, refused}
-use Rattle.kernel_spec.specs.steps.Updates.{started, own_state, with_answer}
-use Rattle.kernel_spec.specs.rows.Execs.{Asks}
-use Rattle.kcall_core.specs.Holdings.{held_at, with_image}
-use Rattle.kcall_core.specs.Memories.{each_of, free_of, RunsIn, SlotChanges, Same}
-use Rattle.kcall_core.specs.Kernel.{state_of, slot_now, pid_now, live_now, IsSound, IsRunning}
-use Rattle.kcall_core.specs.Whole.{IsWhole}
-use Rattle.kcall_core.specs.Makes.{Makes, view_now, answer_of}
-use Rattle.kcall_core.specs.declared.memories.Memories.{Memories}
-use Rattle.kcall_core.specs.declared.kernel.Kernel.{Kernel}
-use Rattle.kcall_core.specs.declared.call_end.CallEnd.{CallEnd}
+use Rattle.kcall_core.proofs.Prelude.{ℕ, ℤ, ◌%◌, ◌+◌, ◌-◌, ◌<◌, ◌∙◌, ◌≡◌, ◌≤◌, A1, answer_of, ap, ARG_BYTES, arith, Asks, Call, Called, CallEnd, cast_signed, cast_unsigned, changed_at, done, each_of}
+use Rattle.kcall_core.proofs.Prelude.{Entry, exec, free_of, Hart, held_at, IsRunning, IsSound, IsWhole, Kernel, le-ltb, List, live_now, Loaded, Makes, map, Memories, minus_one, named_file, None}
+use Rattle.kcall_core.proofs.Prelude.{Option, Own, own_state, pid_now, pos, price, ProgramFile, refl, refused, Registers, running, RunsIn, Same, slot_now, SlotChanges, Some, SP, started, state_of}
+use Rattle.kcall_core.proofs.Prelude.{subst, sym, to_z_pos, unless, View, view_now, view_of, with_answer, with_image, with_pc}
+use Rattle.std.proofs.Common.{lt-ltb}
+use Rattle.std.specs.Int.{w64}
+use Rattle.rv64i_core.specs.Registers.{put}
 use Rattle.kcall_core.specs.declared.call_end.CallEnd.TheVariants.{Done}
 use Rattle.kcall_core.proofs.table.States.{runs-same}
 use Rattle.kcall_core.proofs.processes.ExecRow.{exec_asked, exec-is}
 use Rattle.kcall_core.proofs.processes.Asking.{asked-few, asked, asks-given, asks-of}
 use Rattle.kcall_core.proofs.making.Prepared.{Prepared, over, prepared-anew, prepared-same, prepared-makes}
-use Rattle.kernel_spec.proofs.rows.RowParts.{unless, running}
+use Rattle.proc_table.specs.Processes as process
 
 -- the memories now hold the program that was asked for, and the hart uses its tables
 abbrev pub Replaced : Memories → Memories → List ProgramFile → (slot path pointers : ℕ) → Entry → Hart → Type 0

@@ -1,28 +1,9 @@
 -- The process that runs closes its descriptors and ends.
-use Rattle.std.proofs.Common.{◌≡◌, ◌≢◌, ℕ, cond, length, Option, Some, None, inl, inr, refl, sym, ap, ◌∙◌, subst, arith}
-use Rattle.std.specs.Prelude.{ℤ, is_some}
-use Rattle.std.specs.FinMap.{get, get-empty, empty}
-use Rattle.std.specs.Ordering.{nat_cmp}
-use Rattle.std.proofs.lemmas.Option.{none-some, same_Some}
-use Rattle.std.proofs.lemmas.Bool.{le-ltb}
-use Rattle.xk_base.proofs.Gathered.{same_pages}
-use Rattle.hart_core.specs.declared.hart.Hart.{Hart}
-use Rattle.file_table.specs.OpenFiles.{IsTable, open_file_at}
-use Rattle.proc_table.specs.Processes.{given, woken, ended}
-use Rattle.proc_table.specs.Slots.{place_at, parent_at, each_changed, changed_at}
-use Rattle.proc_table.specs.declared.channel.Channel.TheVariants as on
-use Rattle.kernel_spec.specs.views.Processes as meaning
-use Rattle.kernel_spec.specs.views.Processes.{Live, Alive, parent_of}
-use Rattle.kernel_spec.specs.steps.Own.{Answer, gone_with}
-use Rattle.kernel_spec.specs.rows.Calls.{gone}
-use Rattle.kernel_spec.specs.steps.Cases.{IsLive, FilesLeft}
-use Rattle.kernel_spec.specs.steps.Updates.{fewer_on_all, freed_on_all, gone_state}
-use Rattle.kcall_core.specs.Kernel.{state_of, IsSound, IsRunning, or_nobody, slot_now, pid_now, live_now}
-use Rattle.kcall_core.specs.Whole.{IsWhole}
-use Rattle.kcall_core.specs.Makes.{Makes, view_now}
-use Rattle.kcall_core.specs.Closings.{woken_by, parent_woken, IsClosing, ClosesFrom}
-use Rattle.kernel_spec.specs.waking.SleepsOn.{closes_wake}
-use Rattle.kcall_core.specs.declared.kernel.Kernel.{Kernel}
+use Rattle.kcall_core.proofs.Prelude.{ℕ, ℤ, ◌∙◌, ◌≡◌, ◌≢◌, Alive, Answer, ap, arith, changed_at, closes_wake, ClosesFrom, cond, each_changed, empty, ended, fewer_on_all, FilesLeft, freed_on_all, get}
+use Rattle.kcall_core.proofs.Prelude.{get-empty, given, gone, gone_state, gone_with, Hart, inl, inr, is_some, IsClosing, IsLive, IsRunning, IsSound, IsWhole, Kernel, le-ltb, length, Live, live_now}
+use Rattle.kcall_core.proofs.Prelude.{Makes, nat_cmp, None, none-some, open_file_at, Option, or_nobody, parent_at, parent_of, parent_woken, pid_now, place_at, refl, same_pages, same_Some, slot_now}
+use Rattle.kcall_core.proofs.Prelude.{Some, state_of, subst, sym, view_now, woken, woken_by}
+use Rattle.file_table.specs.OpenFiles.{IsTable}
 use Rattle.kcall_core.proofs.turns.Turned.{live-is}
 use Rattle.kcall_core.proofs.table.Stops.{now-slot}
 use Rattle.kcall_core.proofs.table.Observed.{parent-told}
@@ -31,6 +12,8 @@ use Rattle.kcall_core.proofs.files.AllClosed.{same-pid}
 use Rattle.kcall_core.proofs.table.OthersWake.{others-mapped, end_in}
 use Rattle.kcall_core.proofs.table.Woken.{woken-channel}
 use Rattle.kcall_core.proofs.processes.Bared.{IsBared, IsEndedIn, ended-counted, end-makes}
+use Rattle.proc_table.specs.declared.channel.Channel.TheVariants as on
+use Rattle.kernel_spec.specs.views.Processes as meaning
 
 -- what is whole may close its descriptors
 pub whole-closing : {k : Kernel} {h : Hart} → IsWhole k h → IsRunning k → IsClosing k h

@@ -1,50 +1,19 @@
 -- A call that makes a process: what fork has to leave to make the step that its row tells.
-use Rattle.std.proofs.Common.{◌≡◌, ◌≢◌, ℕ, ◌+◌, ◌||◌, Bool, true, false, subst, Option, Some, None, inl, inr, refl, sym, ap, ◌∙◌, arith}
-use Rattle.std.specs.Prelude.{pos, IsSome, is_some, nat_lt, MatchOption, Contains}
-use Rattle.std.specs.FinMap.{get, keys}
-use Rattle.std.specs.FinSet.{contains}
-use Rattle.std.proofs.lemmas.Bool.{cases_eq, ltb-false, both_ways}
-use Rattle.std.proofs.lemmas.Option.{none-some, same_Some}
-use Rattle.xk_base.specs.declared.limits.TheConstants.{NPROC, PID_MAX}
-use Rattle.xk_base.specs.Image.{price}
-use Rattle.hart_core.specs.declared.hart.Hart.{Hart}
-use Rattle.file_table.specs.OpenFiles as files
-use Rattle.proc_table.specs.Processes.{channel_of, in_call, newborn}
-use Rattle.proc_table.specs.Slots.{place_at}
-use Rattle.proc_table.specs.declared.channel.Channel.{Channel}
-use Rattle.proc_table.specs.declared.process.Call.{Call}
-use Rattle.proc_table.specs.declared.process.Process.{Process}
-use Rattle.kernel_spec.specs.views.Processes as meaning
-use Rattle.kernel_spec.specs.views.Processes.{Live, Alive}
-use Rattle.kernel_spec.specs.views.State.{State, live, live_part}
-use Rattle.kernel_spec.specs.views.View.{View, view_of}
-use Rattle.kernel_spec.specs.steps.Own.{Own, Called, Blocked, gone_with}
-use Rattle.kernel_spec.specs.rows.Calls.{fork}
-use Rattle.kernel_spec.specs.runs.Run.{IsBlocked}
-use Rattle.kernel_spec.specs.waking.Turns.{IsLowestFree}
-use Rattle.kernel_spec.specs.views.WellFormed.{WellFormed}
-use Rattle.kernel_spec.specs.steps.Updates.{forked_state, forking, forked_child}
-use Rattle.kernel_spec.specs.waking.Conditions.{is_open, waits_for}
-use Rattle.kernel_spec.specs.steps.Cases.{IsLive, After}
-use Rattle.kcall_core.specs.Kernel.{frame_count, state_of, IsSound, IsRunning, slot_now, place_now, pid_now, live_now}
-use Rattle.kcall_core.specs.Machine.{slots_of, sleepers_below, turns_of}
-use Rattle.kcall_core.specs.Whole.{IsWhole, AreCounted}
-use Rattle.kcall_core.specs.Makes.{Makes, view_now}
-use Rattle.kcall_core.specs.declared.kernel.Kernel.{Kernel}
-use Rattle.kernel_spec.proofs.steps.MapsAfterChange.{get_other}
+use Rattle.kcall_core.proofs.Prelude.{ℕ, ◌+◌, ◌||◌, ◌∙◌, ◌≡◌, ◌≢◌, After, Alive, ap, AreCounted, arith, Blocked, Bool, both_ways, Call, Called, cannot_fork, cases_eq, Channel, channel_of, Contains}
+use Rattle.kcall_core.proofs.Prelude.{contains, false, fork, fork_law, fork_same, forked, forked_child, forked_state, forking, frame_count, get, get_other, gone_with, Hart, in_call, inl, inr, is_open}
+use Rattle.kcall_core.proofs.Prelude.{is_some, IsBlocked, IsLive, IsLowestFree, IsRunning, IsSome, IsSound, IsWhole, Kernel, keys, Live, live, live_now, live_part, ltb-false, Makes, MatchOption}
+use Rattle.kcall_core.proofs.Prelude.{nat_lt, newborn, None, none-some, NPROC, opens_forked, Option, Own, PID_MAX, pid_now, place_at, place_now, pos, price, Process, refl, same_Some, sleepers_below}
+use Rattle.kcall_core.proofs.Prelude.{slot_now, slots_are_full, slots_of, Some, State, state_of, subst, sym, true, turns_of, unless, View, view_now, view_of, waits_for, waits_stay, WellFormed}
 use Rattle.kcall_core.proofs.table.States.{running}
 use Rattle.kcall_core.proofs.turns.Turned.{slot-is, slot-from, awake-is, live-is}
 use Rattle.kcall_core.proofs.table.OnePlace.{in-call-channel}
 use Rattle.kcall_core.proofs.turns.WhoRuns.{place-is}
-use Rattle.kernel_spec.proofs.waking.Openings.{opens_forked}
-use Rattle.kernel_spec.proofs.waking.WaitsOn.{waits_stay}
-use Rattle.kernel_spec.proofs.well.WellLaws as well
-use Rattle.kernel_spec.proofs.steps.FamilyLawsHold.{fork_law}
 use Rattle.kcall_core.proofs.turns.StepSlots.{SlotsAfter, no-slot}
 use Rattle.kcall_core.proofs.making.Buffers.{is_in_no_call, ended-buffers}
 use Rattle.kcall_core.proofs.making.Making.{Itself, Others, made}
-use Rattle.kernel_spec.proofs.rows.RowParts.{forked, cannot_fork, slots_are_full, unless}
-use Rattle.kernel_spec.proofs.rows.RowsByParts.{fork_same}
+use Rattle.file_table.specs.OpenFiles as files
+use Rattle.kernel_spec.specs.views.Processes as meaning
+use Rattle.kernel_spec.proofs.well.WellLaws as well
 
 -- The process that runs has a child in a slot that was free, the lowest; it has its answer. The slots, the pids and the frames suffice
 pub record IsBorn (k : Kernel) (h : Hart) (k' : Kernel) (h' : Hart) (child : ℕ) : Type 0 where

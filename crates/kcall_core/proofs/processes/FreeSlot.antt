@@ -1,36 +1,15 @@
 -- The slot for a new process, as the table finds it and as the process sees it: there is none exactly where the slots are full or the pids are used up, and else it is the lowest that is free.
-use Rattle.std.proofs.Common.{◌≡◌, ℕ, zero, suc, ◌+◌, ◌<◌, ◌≤◌, Bool, true, false, cond, ◌||◌, List, length, get_or, Option, Some, None, inl, inr, refl, sym, ap, ◌∙◌, arith}
-use Rattle.std.specs.Prelude.{if◌then◌else◌, is_none, is_some, nat_le, nat_lt, position}
-use Rattle.std.specs.Ordering.{nat_cmp}
-use Rattle.std.specs.Cmp.{nat_cmp_total}
-use Rattle.std.specs.FinMap.{get, insert, len, len-empty, len-insert, len-entries, entries}
-use Rattle.std.proofs.lemmas.Bool.{cases_eq, cases_lt, lt-ltb, le-ltb, both_ways, or_right}
-use Rattle.std.proofs.lemmas.Bool.Decides.{leb_tells}
-use Rattle.std.proofs.lemmas.List.{length-map}
-use Rattle.std.proofs.lemmas.Option.{none-some}
-use Rattle.xk_base.specs.declared.limits.TheConstants.{NPROC, PID_MAX}
-use Rattle.xk_base.specs.Words.{count_below}
-use Rattle.xk_base.proofs.Least.{none_below}
-use Rattle.hart_core.specs.declared.hart.Hart.{Hart}
-use Rattle.proc_table.specs.Slots.{place_at, slot_for_new}
-use Rattle.proc_table.specs.declared.process.Process.{Process}
-use Rattle.kernel_spec.specs.views.ByPid.{by_pid, put}
-use Rattle.kernel_spec.specs.views.Processes as meaning
-use Rattle.kernel_spec.specs.views.View.{view_of}
-use Rattle.kernel_spec.specs.waking.Turns.{IsFreeSlot, IsLowestFree}
-use Rattle.kcall_core.specs.Kernel.{state_of, entry_of, entry_at, IsSound}
-use Rattle.kcall_core.specs.Machine.{turns_of}
-use Rattle.kcall_core.specs.Makes.{view_now}
-use Rattle.kcall_core.specs.declared.kernel.Kernel.{Kernel}
+use Rattle.kcall_core.proofs.Prelude.{ℕ, ◌+◌, ◌<◌, ◌||◌, ◌∙◌, ◌≡◌, ◌≤◌, ap, arith, Bool, both_ways, by_pid, cases_eq, cases_lt, cond, count_below, entries, entry_at, entry_of, false, get, get_or}
+use Rattle.kcall_core.proofs.Prelude.{Hart, if◌then◌else◌, inl, inr, insert, is_none, is_some, IsFreeSlot, IsLowestFree, IsSound, Kernel, le-ltb, least_least, least_passes, leb_tells, len, len-empty}
+use Rattle.kcall_core.proofs.Prelude.{len-entries, len-insert, length, length-map, List, lt-ltb, nat_cmp, nat_cmp_total, nat_le, nat_lt, None, none-some, none_below, none_from_is_none, NPROC, Option}
+use Rattle.kcall_core.proofs.Prelude.{or_right, PID_MAX, place_at, position, Process, put, refl, slot_for_new, slots_are_full, Some, state_of, suc, sym, true, turns_of, view_now, view_of, zero}
 use Rattle.kcall_core.proofs.table.ByPid.{none}
-use Rattle.kernel_spec.proofs.steps.LeastPasses.{least_passes, least_least}
 use Rattle.kcall_core.proofs.files.Lowest.{least-position}
 use Rattle.kcall_core.proofs.files.Room.{count-few}
 use Rattle.kcall_core.proofs.table.States.{entry-pid}
 use Rattle.kcall_core.proofs.turns.Turned.{slot-is, slot-from}
-use Rattle.kernel_spec.proofs.rows.RowParts.{slots_are_full}
-use Rattle.kernel_spec.proofs.Common.{none_from_is_none}
 use Rattle.exec_core.proofs.Prices.{count-all}
+use Rattle.kernel_spec.specs.views.Processes as meaning
 
 -- ---- as many pids as slots that are held
 

@@ -1,20 +1,8 @@
 -- A process goes: first its descriptors are closed, then it ends. Together that is its end.
-use Rattle.std.proofs.Common.{◌≡◌, ℕ, ◌+◌, inl, inr, sym, ap, ◌∙◌, arith}
-use Rattle.std.specs.Prelude.{ℤ, option_map}
-use Rattle.std.specs.Ordering.{nat_cmp}
-use Rattle.std.specs.Cmp.{nat_cmp_total}
-use Rattle.std.specs.FinMap.{FinMap, get, empty, insert, same_map, nat_cmp-IsAntisymmetric}
-use Rattle.std.proofs.lemmas.Bool.{cases_eq}
-use Rattle.xk_base.specs.declared.limits.TheConstants.{NOFILE}
-use Rattle.xk_base.specs.Image.{price}
-use Rattle.pipe_core.specs.Pipe.{Pipe}
-use Rattle.file_table.specs.declared.open_file.OpenFile.{OpenFile}
-use Rattle.kernel_spec.specs.views.Processes.{Process, Live, Alive, Zombie}
-use Rattle.kernel_spec.specs.views.State.{State}
-use Rattle.kernel_spec.specs.steps.Updates.{orphan, orphans, changed_state, fewer_on_all, freed_on_all, gone_state}
-use Rattle.kernel_spec.proofs.steps.MapsAfterChange.{get_same, get_other}
-use Rattle.kernel_spec.proofs.steps.OrphansKeepKeys.{get-orphans}
-use Rattle.kernel_spec.proofs.steps.ClosedProcessGoes.{gone-closed}
+use Rattle.kcall_core.proofs.Prelude.{ℕ, ℤ, ◌+◌, ◌∙◌, ◌≡◌, Alive, ap, arith, cases_eq, changed_state, empty, fewer_on_all, FinMap, freed_on_all, get, get-orphans, get_other, get_same, gone-closed}
+use Rattle.kcall_core.proofs.Prelude.{gone_state, inl, inr, insert, Live, nat_cmp, nat_cmp-IsAntisymmetric, nat_cmp_total, NOFILE, OpenFile, option_map, orphan, orphans, Pipe, price, same_map, State}
+use Rattle.kcall_core.proofs.Prelude.{sym, Zombie}
+use Rattle.kernel_spec.specs.views.Processes.{Process}
 
 module _ (s : State) (p : ℕ) (l : Live) (status : ℤ) (descriptors : FinMap nat_cmp ℕ) (files : FinMap nat_cmp OpenFile) (pipes : FinMap nat_cmp Pipe) (free : ℕ) where
   abbrev bare : Live

@@ -1,42 +1,13 @@
 -- The end of a process, in the kernel's words: it makes the step that `gone` tells.
-use Rattle.std.proofs.Common.{◌≡◌, ◌≢◌, ℕ, Bool, true, false, ◌||◌, length, Some, None, inl, inr, ◌⊎◌, refl, sym, ap, ◌∙◌, subst}
-use Rattle.std.specs.Prelude.{ℤ, ◌↔◌, is_some}
-use Rattle.std.specs.FinMap.{FinMap, get}
-use Rattle.std.specs.FinSet.{contains}
-use Rattle.std.specs.Ordering.{nat_cmp}
-use Rattle.std.proofs.lemmas.Bool.{or_right}
-use Rattle.std.proofs.lemmas.Option.{none-some}
-use Rattle.xk_base.specs.declared.limits.TheConstants.{NPROC}
-use Rattle.hart_core.specs.declared.hart.Hart.{Hart}
-use Rattle.file_table.specs.declared.open_file.OpenFile.{OpenFile}
-use Rattle.proc_table.specs.declared.channel.Channel.{Channel}
-use Rattle.kernel_spec.specs.views.Processes.{Live, Zombie}
-use Rattle.kernel_spec.specs.views.State.{State, live}
-use Rattle.kernel_spec.specs.views.View.{view_of}
-use Rattle.kernel_spec.specs.steps.Own.{Answer, gone_with}
-use Rattle.kernel_spec.specs.rows.Calls.{gone}
-use Rattle.kernel_spec.specs.waking.Ready.{ready}
-use Rattle.kernel_spec.specs.views.WellFormed.{WellFormed}
-use Rattle.kernel_spec.specs.runs.Run.{Outcome, Step_of, Ticked, halts_with}
-use Rattle.kernel_spec.specs.waking.Wakes.{IsInCall, IsEnd}
-use Rattle.kernel_spec.specs.steps.Updates.{gone_state, orphans}
-use Rattle.kernel_spec.specs.steps.Cases.{IsLive, After}
-use Rattle.kernel_spec.specs.waking.Conditions.{Condition, Child_of, is_open, waits_for}
-use Rattle.kcall_core.specs.Kernel.{state_of, IsRunning, pid_now, live_now}
-use Rattle.kcall_core.specs.Machine.{sleepers_below}
-use Rattle.kcall_core.specs.Whole.{IsWhole}
-use Rattle.kernel_spec.specs.waking.SleepsOn.{is_for}
-use Rattle.kcall_core.specs.Makes.{view_now, Makes}
-use Rattle.kcall_core.specs.declared.kernel.Kernel.{Kernel}
-use Rattle.kernel_spec.proofs.steps.MapsAfterChange.{get_same}
+use Rattle.kcall_core.proofs.Prelude.{ℕ, ℤ, ◌||◌, ◌↔◌, ◌∙◌, ◌≡◌, ◌≢◌, ◌⊎◌, After, Answer, ap, Bool, Channel, Child_of, Condition, contains, end_wakes, false, FinMap, get, get_same, gone, gone_law}
+use Rattle.kcall_core.proofs.Prelude.{gone_state, gone_with, halts_with, Hart, inl, inr, is_for, is_open, is_some, IsEnd, IsInCall, IsLive, IsRunning, IsWhole, Kernel, length, Live, live, live_now}
+use Rattle.kcall_core.proofs.Prelude.{Makes, nat_cmp, None, none-some, NPROC, OpenFile, or_right, orphans, Outcome, pid_now, ready, ready_is, refl, sleepers_below, Some, State, state_of, Step_of}
+use Rattle.kcall_core.proofs.Prelude.{subst, sym, Ticked, true, view_now, view_of, waits_for, WellFormed, Zombie}
 use Rattle.kcall_core.proofs.turns.Turned.{live-is}
-use Rattle.kernel_spec.proofs.steps.FamilyLawsHold.{gone_law}
-use Rattle.kernel_spec.proofs.well.WellLaws as well
-use Rattle.kernel_spec.proofs.waking.Wakes.{ready_is}
 use Rattle.kcall_core.proofs.making.Buffers.{ended-buffers}
 use Rattle.kcall_core.proofs.making.Sleepers.{Sleeper, Sleeping, another, slept-before, wakes-due, on-channels, unready}
 use Rattle.kcall_core.proofs.processes.Departs.{Departs}
-use Rattle.kernel_spec.specs.waking.SleepsOn.{end_wakes}
+use Rattle.kernel_spec.proofs.well.WellLaws as well
 use Rattle.kernel_spec.proofs.waking.ChildWaits as calls
 use Rattle.kernel_spec.proofs.waking.GoneOpens as opens
 use Rattle.kcall_core.proofs.turns.GoneTurns as turns

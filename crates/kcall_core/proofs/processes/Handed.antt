@@ -1,43 +1,14 @@
 -- The call fork: what its code leaves is what `ForkMakes` asks for, and where it can't have a child it is refused.
-use Rattle.std.proofs.Common.{◌≡◌, ◌≢◌, ℕ, ◌+◌, ◌-◌, ◌<◌, Bool, true, false, cond, ◌||◌, List, length, get_or, subst, Option, Some, None, IsSome, inl, inr, ◌⊎◌, refl, sym, ap, ◌∙◌, arith}
-use Rattle.std.specs.Prelude.{ℤ, pos, nat_lt, map}
-use Rattle.std.specs.Ordering.{nat_cmp}
-use Rattle.std.specs.Cmp.{nat_cmp_total}
-use Rattle.std.specs.FinMap.{FinMap, get, insert, same_map, nat_cmp-IsAntisymmetric}
-use Rattle.std.proofs.Math.Path.{fun_ext}
-use Rattle.std.proofs.lemmas.Bool.{cases_eq, cases_lt, lt-ltb, le-ltb}
-use Rattle.std.proofs.lemmas.List.{get_or-set_same, get_or-set_other, length-set}
-use Rattle.std.proofs.lemmas.Option.{none-some, same_Some}
-use Rattle.xk_base.specs.declared.limits.TheConstants.{NPROC, NOFILE, OPEN_FILES, PID_MAX}
-use Rattle.xk_base.specs.Gathered.{gathered}
-use Rattle.xk_base.specs.Image.{price}
-use Rattle.xk_base.proofs.Gathered.{same_pages}
-use Rattle.rv64i_core.specs.Registers.{fresh}
-use Rattle.hart_core.specs.declared.hart.Hart.{Hart}
-use Rattle.file_table.specs.Named.{named_by}
-use Rattle.file_table.specs.OpenFiles as files
-use Rattle.file_table.specs.OpenFiles.{open_file_at}
-use Rattle.proc_table.specs.Processes.{status_of, in_call, newborn}
-use Rattle.proc_table.specs.Slots.{Slots, place_at, descriptors_at, changed_at, IsTable}
-use Rattle.proc_table.specs.declared.process.Call.{Call}
-use Rattle.proc_table.specs.declared.process.Process.{Process}
-use Rattle.kernel_spec.specs.views.Words.{word, minus_one, is_this, or_zero}
-use Rattle.kernel_spec.specs.views.Processes.{Live, Alive}
-use Rattle.kernel_spec.specs.views.State.{State, named_file}
-use Rattle.kernel_spec.specs.views.View.{view_of}
-use Rattle.kernel_spec.specs.views.ByPid.{by_pid}
-use Rattle.kernel_spec.specs.rows.Calls.{fork, done, with_a0}
-use Rattle.kernel_spec.specs.steps.Updates.{forked_state, forking, forked_child, with_answer}
-use Rattle.kcall_core.specs.Holdings.{Held, held_cost, or_nothing, held_at, HasMemory, with_saved}
-use Rattle.kcall_core.specs.Memories.{each_of, pipes_of, free_of, SlotChanges}
-use Rattle.kcall_core.specs.Kernel.{descriptor_map, live_of, process_of, entry_of, entry_at, state_of, IsSound, IsRunning, HasImage, or_nobody, slot_now, place_now, pid_now, live_now}
-use Rattle.kcall_core.specs.Whole.{IsWhole, AreCounted}
-use Rattle.kcall_core.specs.Makes.{view_now}
-use Rattle.kcall_core.specs.Forks.{IsBarren}
+use Rattle.kcall_core.proofs.Prelude.{ℕ, ℤ, ◌+◌, ◌-◌, ◌<◌, ◌||◌, ◌∙◌, ◌≡◌, ◌≢◌, ◌⊎◌, Alive, ap, AreCounted, arith, Bool, by_pid, Call, cannot_fork, cases_eq, cases_lt, changed_at, cond}
+use Rattle.kcall_core.proofs.Prelude.{descriptor_map, descriptors_at, done, each_of, entry_at, entry_of, false, FinMap, fork, fork_same, forked, forked_child, forked_state, forking, free_of, fresh}
+use Rattle.kcall_core.proofs.Prelude.{fun_ext, gathered, get, get_or, get_or-set_other, get_or-set_same, get_other, get_same, Hart, HasImage, HasMemory, Held, held_at, held_cost, in_call, inl, inr}
+use Rattle.kcall_core.proofs.Prelude.{insert, is_this, IsBarren, IsRunning, IsSome, IsSound, IsTable, IsWhole, Kernel, le-ltb, length, length-set, List, Live, live_now, live_of, lt-ltb, map}
+use Rattle.kcall_core.proofs.Prelude.{minus_one, named_by, named_file, nat_cmp, nat_cmp-IsAntisymmetric, nat_cmp_total, nat_lt, newborn, NOFILE, None, none-some, NPROC, open_file_at, OPEN_FILES}
+use Rattle.kcall_core.proofs.Prelude.{Option, or_nobody, or_nothing, or_zero, PID_MAX, pid_now, pipes_of, place_at, place_now, pos, price, Process, process_of, refl, same_map, same_pages, same_Some}
+use Rattle.kcall_core.proofs.Prelude.{slot_now, SlotChanges, Slots, slots_are_full, Some, State, state_of, status_of, subst, sym, true, unless, view_now, view_of, with_a0, with_answer, with_saved}
+use Rattle.kcall_core.proofs.Prelude.{word}
 use Rattle.kcall_core.proofs.processes.HandedDown.{IsHanded}
-use Rattle.kcall_core.specs.declared.kernel.Kernel.{Kernel}
 use Rattle.kcall_core.proofs.memory.Changes.{some-inside}
-use Rattle.kernel_spec.proofs.steps.MapsAfterChange.{get_same, get_other}
 use Rattle.kcall_core.proofs.files.Namings.{named-seen}
 use Rattle.kcall_core.proofs.table.States.{Running, running, not-this, slot-born, slot-anew, current-beside}
 use Rattle.kcall_core.proofs.table.OnePlace.{ItsPlace, changed-place, place-counted, in-call-lives}
@@ -48,8 +19,7 @@ use Rattle.kcall_core.proofs.making.CallAnswers.{IsDone}
 use Rattle.kcall_core.proofs.processes.FreeSlot.{IsForNew, no-slot}
 use Rattle.kcall_core.proofs.processes.ForkMakes.{IsBorn}
 use Rattle.kcall_core.proofs.processes.Handing.{apart}
-use Rattle.kernel_spec.proofs.rows.RowParts.{forked, cannot_fork, slots_are_full, unless}
-use Rattle.kernel_spec.proofs.rows.RowsByParts.{fork_same}
+use Rattle.file_table.specs.OpenFiles as files
 
 -- ---- no child
 

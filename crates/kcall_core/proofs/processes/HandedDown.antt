@@ -1,18 +1,7 @@
 -- What a fork's loop over the descriptors keeps true.
-use Rattle.std.specs.Prelude.{◌≡◌, ◌≢◌, ℕ, ◌+◌, if◌then◌else◌, nat_lt, None, Some, length, set}
-use Rattle.xk_base.specs.Image.{price}
-use Rattle.rv64i_core.specs.Registers.{fresh}
-use Rattle.hart_core.specs.declared.hart.Hart.{Hart}
-use Rattle.file_table.specs.Named.{named_by}
+use Rattle.kcall_core.proofs.Prelude.{ℕ, ◌+◌, ◌≡◌, ◌≢◌, AreCounted, descriptors_at, each_of, free_of, fresh, Hart, held_at, if◌then◌else◌, IsSound, Kernel, length, live_now, more_on_all, named_by}
+use Rattle.kcall_core.proofs.Prelude.{nat_lt, None, open_file_at, pid_now, pipes_of, price, set, slot_now, Some, state_of, with_new, with_saved}
 use Rattle.file_table.specs.OpenFiles as files
-use Rattle.file_table.specs.OpenFiles.{open_file_at}
-use Rattle.proc_table.specs.Slots.{descriptors_at, with_new}
-use Rattle.kernel_spec.specs.steps.Updates.{more_on_all}
-use Rattle.kcall_core.specs.Holdings.{held_at, with_saved}
-use Rattle.kcall_core.specs.Memories.{each_of, pipes_of, free_of}
-use Rattle.kcall_core.specs.Kernel.{state_of, IsSound, slot_now, pid_now, live_now}
-use Rattle.kcall_core.specs.Whole.{AreCounted}
-use Rattle.kcall_core.specs.declared.kernel.Kernel.{Kernel}
 
 -- the child in a slot has the first n descriptors of the process that runs
 pub record IsHanded (k : Kernel) (h : Hart) (child n : ℕ) (k' : Kernel) : Type 0 where

@@ -1,56 +1,24 @@
 -- The child gets the descriptors of the process that runs, one after another.
-use Rattle.std.proofs.Common.{◌≡◌, ◌≢◌, ℕ, suc, ◌+◌, ◌^◌, ◌<◌, ◌≤◌, true, cond, length, get_or, subst, Option, Some, None, IsSome, inl, inr, refl, sym, ap, ◌∙◌, arith}
-use Rattle.std.specs.Prelude.{ℤ, nat_lt, option_map}
-use Rattle.std.specs.FinMap.{get}
-use Rattle.std.proofs.lemmas.Bool.{cases_eq, cases_lt, lt-ltb, le-ltb, both_ways}
-use Rattle.std.proofs.lemmas.List.{get_or-set_same, get_or-set_other, length-map, length-set}
-use Rattle.std.proofs.lemmas.Option.{none-some}
-use Rattle.xk_base.specs.declared.limits.TheConstants.{NPROC, NOFILE, OPEN_FILES, PID_MAX}
-use Rattle.rv64i_core.specs.Registers.{fresh}
-use Rattle.hart_core.specs.declared.hart.Hart.{Hart}
-use Rattle.pipe_core.specs.Pipe.{Pipe}
-use Rattle.pipe_core.specs.declared.TheConstants.{END_COUNT_MAX}
-use Rattle.file_table.specs.Named.{named_by, with_named, none_named}
-use Rattle.file_table.specs.OpenFiles as files
-use Rattle.file_table.specs.OpenFiles.{entry_at, open_file_at}
-use Rattle.file_table.specs.declared.open_file.CountedFile.{CountedFile}
-use Rattle.file_table.specs.declared.open_file.End.{End}
-use Rattle.file_table.specs.declared.open_file.End.TheVariants.{Reading, Writing}
-use Rattle.file_table.specs.declared.open_file.OpenFile.{OpenFile}
-use Rattle.file_table.specs.declared.open_file.Target.{Target}
-use Rattle.file_table.specs.declared.open_file.Target.TheVariants.{Console as Terminal, Program as File, Pipe as Pipe_end}
-use Rattle.proc_table.specs.Processes.{status_of, newborn}
-use Rattle.proc_table.specs.Slots.{Slots, place_at, place_is_live, descriptors_at, with_new, IsTable}
-use Rattle.proc_table.specs.declared.process.Process.{Process}
-use Rattle.proc_table.proofs.Pids.{table_new}
-use Rattle.kernel_spec.specs.views.Words.{or_zero}
-use Rattle.kernel_spec.specs.views.State.{State}
-use Rattle.kernel_spec.specs.views.PipeEnds.{count_on}
-use Rattle.kernel_spec.specs.views.Processes.{Live}
-use Rattle.kernel_spec.specs.steps.Updates.{more_on, more_at, more_on_all, end_of, target_of_open}
-use Rattle.kcall_core.specs.Holdings.{held_cost, pipe_cost, or_new, pipe_named, held_at, HasMemory, with_saved}
-use Rattle.kcall_core.specs.Memories as memories
-use Rattle.kcall_core.specs.Memories.{each_of, pipes_of, free_of}
-use Rattle.kcall_core.specs.Kernel.{state_of, IsSound, IsRunning, slot_now, pid_now, live_now}
-use Rattle.kcall_core.specs.Whole.{IsWhole, AreCounted, named_in}
-use Rattle.kcall_core.specs.Closings.{IsClosing}
-use Rattle.kcall_core.specs.Sharings.{Joins, MayShare, IsShared}
-use Rattle.kcall_core.specs.Forks.{Bears}
+use Rattle.kcall_core.proofs.Prelude.{ℕ, ℤ, ◌+◌, ◌<◌, ◌^◌, ◌∙◌, ◌≡◌, ◌≢◌, ◌≤◌, among, ap, AreCounted, arith, Bears, both_ways, cases_eq, cases_lt, cond, count_on, CountedFile, descriptors_at, each_of}
+use Rattle.kcall_core.proofs.Prelude.{End, END_COUNT_MAX, end_of, File, free_of, fresh, get, get-more_on_all, get_or, get_or-set_other, get_or-set_same, Hart, HasMemory, HasRoom, held_at, held_cost}
+use Rattle.kcall_core.proofs.Prelude.{inl, inr, IsClosing, IsRunning, IsShared, IsSome, IsSound, IsTable, IsWhole, Joins, Kernel, le-ltb, length, length-map, length-set, Live, live_now, lt-ltb}
+use Rattle.kcall_core.proofs.Prelude.{MayShare, Memories, more_at, more_on, more_on_all, named_by, named_in, nat_lt, newborn, NOFILE, None, none-some, none_named, NPROC, open_file_at, OPEN_FILES}
+use Rattle.kcall_core.proofs.Prelude.{OpenFile, Option, option_map, or_new, or_zero, PID_MAX, pid_now, Pipe, pipe_cost, Pipe_end, pipe_named, pipes_of, place_at, place_is_live, plus, Process, Reading}
+use Rattle.kcall_core.proofs.Prelude.{refl, slot_now, Slots, Some, State, state_of, status_of, subst, suc, sum_same, sym, table_new, Target, target_of_open, Terminal, true, with_named, with_new}
+use Rattle.kcall_core.proofs.Prelude.{with_saved, Writing}
+use Rattle.file_table.specs.OpenFiles.{entry_at}
 use Rattle.kcall_core.proofs.processes.HandedDown.{IsHanded}
-use Rattle.kcall_core.specs.declared.kernel.Kernel.{Kernel}
-use Rattle.kcall_core.specs.declared.memories.Memories.{Memories}
 use Rattle.kcall_core.proofs.memory.Births.{get_or-same}
-use Rattle.kernel_spec.proofs.steps.EndsAreCounted.{plus, among, get-more_on_all}
 use Rattle.kcall_core.proofs.files.Namings.{named-seen, file-seen, file-inside, named-counts, counted-entry}
 use Rattle.kcall_core.proofs.memory.PipeEdges.{there-is}
-use Rattle.kcall_core.specs.Room.{HasRoom}
 use Rattle.kcall_core.proofs.files.OpenRoom.{has-room}
 use Rattle.kcall_core.proofs.files.Room.{file-room, ends-few, count-few}
-use Rattle.kernel_spec.proofs.well.Sums.{sum_same}
 use Rattle.kcall_core.proofs.files.Sharing.{more-file, more-table, shared-counted}
 use Rattle.kcall_core.proofs.table.States.{Running, running}
 use Rattle.kcall_core.proofs.files.Taking.{Shares}
 use Rattle.kcall_core.proofs.processes.FreeSlot.{IsForNew}
+use Rattle.file_table.specs.OpenFiles as files
+use Rattle.kcall_core.specs.Memories as memories
 
 -- between calls each open file may have one descriptor more
 pub closing-may : (k : Kernel) (h : Hart) (file : ℕ) → IsClosing k h → IsSome (entry_at k.files file) → MayShare k file

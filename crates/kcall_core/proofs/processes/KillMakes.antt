@@ -1,76 +1,36 @@
 -- The row kill, as the code goes through it: the process of a pid is marked and awake, whatever it slept on, and the call is done.
-use Rattle.std.proofs.Common.{◌≡◌, ◌≢◌, ℕ, ◌<◌, ◌||◌, not, Bool, true, false, cond, List, set, length, subst, Option, Some, None, inl, inr, refl, sym, ap, ◌∙◌, arith}
-use Rattle.std.specs.Prelude.{ℤ, pos, negsuc, is_some, is_none, option_map, nat_eq}
-use Rattle.std.specs.Ordering.{nat_cmp}
-use Rattle.std.specs.Cmp.{nat_cmp_total}
-use Rattle.std.specs.List.{list_any}
-use Rattle.std.specs.FinMap.{FinMap, get, insert, keys, same_map, nat_cmp-IsAntisymmetric}
-use Rattle.std.proofs.lemmas.Bool.{cases_eq, eq-eqb, false_from_ne_true, or_right, eqb-true}
-use Rattle.std.proofs.lemmas.Bool.Decides.{eqb_tells}
-use Rattle.std.proofs.lemmas.List.{get_or-set_same, get_or-set_other}
-use Rattle.std.proofs.lemmas.Option.{none-some, same_Some}
-use Rattle.xk_base.specs.declared.limits.TheConstants.{NPROC}
+use Rattle.kcall_core.proofs.Prelude.{ℕ, ℤ, ◌<◌, ◌||◌, ◌∙◌, ◌≡◌, ◌≢◌, After, Alive, ap, AreCounted, arith, Blocked, Bool, by_pid, c_int, Call, Called, cases_eq, change, changed_at, Channel}
+use Rattle.kcall_core.proofs.Prelude.{channel_of, cond, descriptors_at, done, each_of, entry_at, entry_of, eq-eqb, eqb-true, eqb_tells, false, false_from_ne_true, FinMap, frame_count, get, get-change}
+use Rattle.kcall_core.proofs.Prelude.{get_at, get_or-set_other, get_or-set_same, Hart, Held, held_at, in_call, inl, inr, insert, is_none, is_open, is_some, is_this, IsBlocked, IsLive, IsRunning}
+use Rattle.kcall_core.proofs.Prelude.{IsSound, IsTable, IsWhole, Kernel, keys, kill, kill_pid, kill_same, kill_state, killed, killed_by, killer, length, List, list_any, listed, Live, live, live_now}
+use Rattle.kcall_core.proofs.Prelude.{Live_state, Makes, mark, marked, marked_again, nat_cmp, nat_cmp-IsAntisymmetric, nat_cmp_total, nat_eq, negsuc, None, none-some, not, NPROC, opens_marked}
+use Rattle.kcall_core.proofs.Prelude.{opens_nothing, Option, option_map, or_false, or_nobody, or_right, OthersWaitOn, Own, own_state, pid_now, place_at, place_is_live, place_now, pos, Process}
+use Rattle.kcall_core.proofs.Prelude.{process_of, process_pid, refl, refused, Registers, regs_at, same_map, same_Some, set, slot_now, slot_of, slots_of, Some, State, state_channel, state_killed}
+use Rattle.kcall_core.proofs.Prelude.{state_of, state_status, status_of, subst, sym, table_at, true, turn, unless, unless_woken, View, view_now, view_of, waits_for, waits_stay, WellFormed}
+use Rattle.kcall_core.proofs.Prelude.{with_answer, Zombie_state}
 use Rattle.xk_base.proofs.Options.{some_chosen}
-use Rattle.rv64i_core.specs.Registers.{Registers}
-use Rattle.hart_core.specs.declared.hart.Hart.{Hart}
-use Rattle.file_table.specs.OpenFiles as files
-use Rattle.proc_table.specs.Processes.{status_of, channel_of, state_status, state_channel, state_killed, killed, in_call}
-use Rattle.proc_table.specs.Slots.{place_at, place_is_live, descriptors_at, process_pid, slot_of, IsTable, changed_at}
-use Rattle.proc_table.specs.declared.channel.Channel.{Channel}
-use Rattle.proc_table.specs.declared.process.Call.{Call}
-use Rattle.proc_table.specs.declared.process.State as table
-use Rattle.proc_table.specs.declared.process.State.TheVariants.{Live as Live_state, Zombie as Zombie_state}
-use Rattle.proc_table.specs.declared.process.Process.{Process}
-use Rattle.proc_table.proofs.Pids.{table_at}
-use Rattle.kernel_spec.specs.views.Words.{c_int, is_this}
-use Rattle.kernel_spec.specs.views.Processes as meaning
-use Rattle.kernel_spec.specs.views.Processes.{Live, Alive}
-use Rattle.kernel_spec.specs.views.State.{State, live}
-use Rattle.kernel_spec.specs.views.View.{View, view_of}
-use Rattle.kernel_spec.specs.steps.Own.{Own, Called, Blocked}
-use Rattle.kernel_spec.specs.rows.Calls.{kill, refused, done}
 use Rattle.kcall_core.specs.Kills.{asked_pid}
-use Rattle.kernel_spec.specs.views.ByPid.{by_pid}
-use Rattle.kernel_spec.specs.runs.Run.{IsBlocked}
-use Rattle.kernel_spec.specs.steps.Updates.{mark, marked, change, kill_state, killer, own_state, with_answer}
-use Rattle.kernel_spec.specs.views.WellFormed.{WellFormed}
-use Rattle.kernel_spec.specs.steps.Cases.{IsLive, After}
-use Rattle.kcall_core.specs.Closings.{unless_woken}
-use Rattle.kernel_spec.specs.waking.Conditions.{is_open, waits_for, OthersWaitOn}
-use Rattle.kcall_core.specs.Holdings.{Held, held_at}
-use Rattle.kcall_core.specs.Memories.{each_of}
-use Rattle.kcall_core.specs.Kernel.{frame_count, process_of, regs_at, entry_of, entry_at, state_of, IsSound, IsRunning, or_nobody, slot_now, place_now, pid_now, live_now}
-use Rattle.kcall_core.specs.Machine.{slots_of}
-use Rattle.kcall_core.specs.Whole.{IsWhole, AreCounted}
-use Rattle.kcall_core.specs.Makes.{Makes, view_now}
-use Rattle.kcall_core.specs.declared.kernel.Kernel.{Kernel}
-use Rattle.kernel_spec.proofs.steps.MapsAfterChange.{get_at}
 use Rattle.kernel_spec.proofs.steps.ViewsAfterSetLive.{live-set_live_there}
-use Rattle.kernel_spec.proofs.steps.OrphansKeepKeys.{get-change}
 use Rattle.kcall_core.proofs.table.ByPid.{by_pid-insert}
 use Rattle.kcall_core.proofs.table.States.{entry-pid, slot-inside, running}
 use Rattle.kcall_core.proofs.table.Stops.{read-some}
 use Rattle.kcall_core.proofs.turns.Chosen.{noted}
 use Rattle.kcall_core.proofs.table.Observed.{slot-found, entry-held, pid-missing}
-use Rattle.kernel_spec.proofs.turns.KeepsSlots.{listed}
 use Rattle.kcall_core.proofs.turns.Turned.{slots-same, live-is}
 use Rattle.kcall_core.proofs.table.OnePlace.{ItsPlace, changed-place, place-counted, place-slots, in-call-lives, in-call-channel}
 use Rattle.kcall_core.proofs.turns.WhoRuns.{place-is, place-lives, now-is}
 use Rattle.kcall_core.proofs.turns.StepSlots.{KeepsAll, same-pid, slots-kept}
-use Rattle.kernel_spec.proofs.steps.GoneIsItsRow.{turn}
-use Rattle.kernel_spec.proofs.steps.KillIsItsRow as step
-use Rattle.kernel_spec.proofs.steps.FamilyLawsHold as family
-use Rattle.kernel_spec.proofs.waking.Openings.{opens_nothing, opens_marked}
-use Rattle.kernel_spec.proofs.waking.WaitsOn.{waits_stay}
-use Rattle.kernel_spec.proofs.well.WellLaws as well
-use Rattle.kernel_spec.proofs.well.WellSteps as steps
 use Rattle.kcall_core.proofs.making.CallAnswers.{IsDone}
 use Rattle.kcall_core.proofs.making.Sleepers.{changed-stays, changed-slept}
 use Rattle.kcall_core.proofs.making.Buffers.{is_in_no_call, ended-buffers}
 use Rattle.kcall_core.proofs.making.Making.{Itself, Others, made}
-use Rattle.kernel_spec.proofs.rows.RowParts.{killed_by, unless, kill_pid}
-use Rattle.kernel_spec.proofs.rows.RowsByParts.{kill_same}
-use Rattle.kernel_spec.proofs.Common.{marked_again, or_false}
+use Rattle.file_table.specs.OpenFiles as files
+use Rattle.proc_table.specs.declared.process.State as table
+use Rattle.kernel_spec.specs.views.Processes as meaning
+use Rattle.kernel_spec.proofs.steps.KillIsItsRow as step
+use Rattle.kernel_spec.proofs.steps.FamilyLawsHold as family
+use Rattle.kernel_spec.proofs.well.WellLaws as well
+use Rattle.kernel_spec.proofs.well.WellSteps as steps
 
 -- ---- the row
 

@@ -1,21 +1,7 @@
 -- The row sbrklazy, as the code goes through it.
-use Rattle.std.proofs.Common.{◌≡◌, ℕ, Some, None, sym, ap, ◌∙◌, arith}
-use Rattle.std.specs.Prelude.{ℤ, pos, Option}
-use Rattle.addr_space.specs.Absent.{grown_lazily}
-use Rattle.hart_core.specs.declared.hart.Hart.{Hart}
-use Rattle.proc_table.specs.declared.process.Call.{Call}
-use Rattle.kernel_spec.specs.views.Words.{c_int}
-use Rattle.kernel_spec.specs.views.View.{view_of}
-use Rattle.kernel_spec.specs.rows.Calls.{done, refused, sbrklazy}
-use Rattle.kcall_core.specs.Kernel.{state_of, slot_now, live_now, IsSound, HasImage}
-use Rattle.kernel_spec.specs.rows.Sizes.{resized_lazily}
-use Rattle.kcall_core.specs.Holdings.{held_at}
-use Rattle.kcall_core.specs.Memories.{each_of}
-use Rattle.kcall_core.specs.Makes.{view_now}
-use Rattle.kcall_core.specs.declared.kernel.Kernel.{Kernel}
+use Rattle.kcall_core.proofs.Prelude.{ℕ, ℤ, ◌∙◌, ◌≡◌, ap, arith, c_int, Call, done, each_of, grown_lazily, Hart, HasImage, held_at, IsSound, Kernel, lazily-price, lazy-inside, lazy-outside, live_now}
+use Rattle.kcall_core.proofs.Prelude.{None, Option, pos, refused, resized_lazily, sbrklazy, sbrklazy_same, slot_now, Some, state_of, sym, view_now, view_of}
 use Rattle.kcall_core.proofs.table.Stops.{now-slot}
-use Rattle.kernel_spec.proofs.rows.Resized.{lazily-price, lazy-outside, lazy-inside}
-use Rattle.kernel_spec.proofs.rows.RowsByParts.{sbrklazy_same}
 
 -- the size that the code comes to
 pub lazy-size : (k : Kernel) (h : Hart) (sound : IsSound k h) (i : ℕ) → k.current ≡ Some i → (c : Call) (old : ℕ)

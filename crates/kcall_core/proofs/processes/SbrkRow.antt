@@ -1,23 +1,8 @@
 -- The row sbrk, as the code goes through it.
-use Rattle.std.proofs.Common.{◌≡◌, ℕ, ◌≤◌, Some, None, sym, ap, ◌∙◌, arith, to_z, w64}
-use Rattle.std.proofs.lemmas.Int.{to_z_pos}
-use Rattle.std.specs.Prelude.{ℤ, pos, Option}
-use Rattle.xk_base.specs.declared.limits.TheConstants.{SIZE_LIMIT}
-use Rattle.hart_core.specs.declared.hart.Hart.{Hart}
-use Rattle.proc_table.specs.declared.process.Call.{Call}
-use Rattle.kernel_spec.specs.views.Words.{c_int, minus_one}
+use Rattle.kcall_core.proofs.Prelude.{ℕ, ℤ, ◌∙◌, ◌≡◌, ◌≤◌, ap, arith, at_size, c_int, Call, done, each_of, Hart, HasImage, held_at, IsSound, IsTooDear, Kernel, live_now, minus_one, None, Option, pos}
+use Rattle.kcall_core.proofs.Prelude.{refused, resized, sbrk, sbrk-outside, sbrk-resized, sbrk-too-dear, sbrk_same, SIZE_LIMIT, slot_now, Some, state_of, sym, to_z, to_z_pos, view_now, view_of, w64}
 use Rattle.kernel_spec.specs.rows.Buffers.{grown}
-use Rattle.kernel_spec.specs.views.View.{view_of}
-use Rattle.kernel_spec.specs.rows.Calls.{done, refused, sbrk}
-use Rattle.kcall_core.specs.Kernel.{state_of, slot_now, live_now, IsSound, IsTooDear, HasImage}
-use Rattle.kernel_spec.specs.rows.Sizes.{resized, at_size}
-use Rattle.kcall_core.specs.Holdings.{held_at}
-use Rattle.kcall_core.specs.Memories.{each_of}
-use Rattle.kcall_core.specs.Makes.{view_now}
-use Rattle.kcall_core.specs.declared.kernel.Kernel.{Kernel}
 use Rattle.kcall_core.proofs.table.Stops.{now-slot}
-use Rattle.kernel_spec.proofs.rows.Resized.{sbrk-outside, sbrk-resized, sbrk-too-dear}
-use Rattle.kernel_spec.proofs.rows.RowsByParts.{sbrk_same}
 
 -- the size that the code comes to
 pub row-size : (k : Kernel) (h : Hart) (sound : IsSound k h) (i : ℕ) → k.current ≡ Some i → (c : Call) (old : ℕ)

@@ -1,29 +1,13 @@
 -- The row sleep, as the code goes through it.
-use Rattle.std.proofs.Common.{◌≡◌, ℕ, Bool, true, false, cond, Some, None, refl, sym, ap, ◌∙◌, not}
-use Rattle.std.specs.Prelude.{ℤ, pos, negsuc}
-use Rattle.hart_core.specs.declared.hart.Hart.{Hart}
-use Rattle.proc_table.specs.declared.channel.Channel.TheVariants as on
-use Rattle.proc_table.specs.Processes.{asleep}
-use Rattle.proc_table.specs.Processes as process
-use Rattle.proc_table.specs.Slots.{changed_at}
-use Rattle.proc_table.specs.declared.process.Call.{Call}
-use Rattle.kernel_spec.specs.views.Words.{c_int}
-use Rattle.kernel_spec.specs.views.Processes.{Live}
-use Rattle.kernel_spec.specs.views.State.{State}
-use Rattle.kernel_spec.specs.views.View.{view_of}
-use Rattle.kernel_spec.specs.rows.Calls.{row_of, done, waits, sleep}
-use Rattle.kernel_spec.specs.waking.Ready.{ready, row_ready}
-use Rattle.kernel_spec.specs.waking.Conditions.{row_waits_for, sleep_waits_for, waits_for}
+use Rattle.kcall_core.proofs.Prelude.{ℕ, ℤ, ◌∙◌, ◌≡◌, ap, asleep, Bool, c_int, Call, changed_at, cond, done, false, frame_count, Hart, is_for, IsRunning, IsSound, IsWhole, Kernel, Live, live_now}
+use Rattle.kcall_core.proofs.Prelude.{Makes, negsuc, None, not, own_state, pid_now, pos, ready, refl, row_of, row_ready, row_waits_for, sleep, sleep_same, sleep_waits_for, slot_now, Some, State}
+use Rattle.kcall_core.proofs.Prelude.{state_of, sym, true, view_now, view_of, waits, waits_for}
 use Rattle.kernel_spec.specs.steps.Ticks.{has_passed, ticks_since}
-use Rattle.kernel_spec.specs.steps.Updates.{own_state, in_call}
-use Rattle.kcall_core.specs.Kernel.{frame_count, state_of, slot_now, pid_now, live_now, IsSound, IsRunning}
-use Rattle.kcall_core.specs.Whole.{IsWhole}
-use Rattle.kernel_spec.specs.waking.SleepsOn.{is_for}
-use Rattle.kcall_core.specs.Makes.{Makes, view_now}
-use Rattle.kcall_core.specs.declared.kernel.Kernel.{Kernel}
+use Rattle.kernel_spec.specs.steps.Updates.{in_call}
 use Rattle.kcall_core.proofs.making.Buffers.{unmoved-keeps}
 use Rattle.kcall_core.proofs.making.AloneMakes.{wait-makes}
-use Rattle.kernel_spec.proofs.rows.RowsByParts.{sleep_same}
+use Rattle.proc_table.specs.declared.channel.Channel.TheVariants as on
+use Rattle.proc_table.specs.Processes as process
 
 -- how many ticks have passed since the call began
 abbrev pub passed : ℕ → Call → ℕ

@@ -1,66 +1,31 @@
 -- A wait that takes an ended child makes the step that its row tells.
-use Rattle.std.proofs.Common.{◌≡◌, ◌≢◌, ℕ, ◌+◌, ◌<◌, ◌||◌, ◌&&◌, not, Bool, true, false, cond, length, get_or, subst, Option, Some, None, inl, inr, refl, sym, ap, ◌∙◌, arith}
-use Rattle.std.specs.Prelude.{ℤ, pos, is_some, is_none, nat_eq, Contains}
-use Rattle.std.specs.Int.{cast_unsigned, w32}
-use Rattle.std.specs.Ordering.{nat_cmp}
-use Rattle.std.specs.Cmp.{nat_cmp_total}
-use Rattle.std.specs.FinMap.{FinMap, get, insert, remove, keys, same_map, nat_cmp-IsAntisymmetric}
-use Rattle.std.proofs.lemmas.Bool.{cases_eq, eq-eqb, false_from_ne_true, eqb-true}
-use Rattle.std.proofs.lemmas.Bool.Decides.{eqb_tells}
-use Rattle.std.proofs.lemmas.List.{get_or-set_same, get_or-set_other}
+use Rattle.kcall_core.proofs.Prelude.{ℕ, ℤ, ◌&&◌, ◌+◌, ◌<◌, ◌||◌, ◌∙◌, ◌≡◌, ◌≢◌, After, Alive, ap, AreCounted, arith, Blocked, Bool, by_pid, Call, Called, cases_eq, cast_unsigned, changed_at, cond}
+use Rattle.kcall_core.proofs.Prelude.{Contains, descriptors_at, each_of, emptied_at, entry_at, entry_of, eq-eqb, eqb-true, eqb_tells, false, false_from_ne_true, FinMap, frame_count, get, get_at}
+use Rattle.kcall_core.proofs.Prelude.{get_or, get_or-set_other, get_or-set_same, get_other, get_without, goes_on, gone_with, halts_with, Hart, HasImage, held_at, Image, in_call, inl, inr, insert}
+use Rattle.kcall_core.proofs.Prelude.{is_listed, is_none, is_open, is_some, IsBlocked, IsLive, IsRunning, IsSound, IsTable, IsWhole, Kernel, keys, le_bytes, least_zombie, length, Live, live, live_now}
+use Rattle.kcall_core.proofs.Prelude.{live_of, Makes, nat_cmp, nat_cmp-IsAntisymmetric, nat_cmp_total, nat_eq, None, none-some, not, not_listed, NPROC, opens_reaped, Option, or_nobody, OthersWaitOn}
+use Rattle.kcall_core.proofs.Prelude.{Own, own_state, pid_now, pids_emptied, place_at, place_is_live, place_now, pos, price, Process, refl, remove, remove_zombie, same_map, same_Some, set_live}
+use Rattle.kcall_core.proofs.Prelude.{slot_entry, slot_now, Slots, slots_of, Some, State, state_of, status_of, subst, sym, TakesLeast, told_image, true, turns_of, view_now, view_of, wait, waited}
+use Rattle.kcall_core.proofs.Prelude.{waited_state, waits_for, waits_stay, WellFormed, with_answer, writable_now, write_image, Zombie}
+use Rattle.std.specs.Int.{w32}
 use Rattle.std.proofs.Math.ListN.{length-set}
-use Rattle.std.proofs.lemmas.Option.{none-some, same_Some}
-use Rattle.xk_base.specs.declared.limits.TheConstants.{NPROC}
-use Rattle.xk_base.specs.Words.{le_bytes}
-use Rattle.xk_base.specs.Image.{Image, price}
-use Rattle.xk_base.specs.Bytes.{write_image}
-use Rattle.hart_core.specs.declared.hart.Hart.{Hart}
-use Rattle.file_table.specs.OpenFiles as files
-use Rattle.proc_table.specs.Processes.{status_of, in_call}
-use Rattle.proc_table.specs.Slots.{Slots, place_at, place_is_live, descriptors_at, IsTable, emptied_at, changed_at}
-use Rattle.proc_table.specs.Reaping.{TakesLeast}
-use Rattle.proc_table.specs.declared.process.Call.{Call}
-use Rattle.proc_table.specs.declared.process.Process.{Process}
-use Rattle.proc_table.proofs.Pids.{pids_emptied}
-use Rattle.kernel_spec.specs.rows.Buffers.{writable_now}
-use Rattle.kernel_spec.specs.views.Processes as meaning
-use Rattle.kernel_spec.specs.views.Processes.{Live, Alive, Zombie}
-use Rattle.kernel_spec.specs.views.State.{State, live}
-use Rattle.kernel_spec.specs.views.View.{view_of}
-use Rattle.kernel_spec.specs.steps.Own.{Own, Called, Blocked, goes_on, gone_with}
-use Rattle.kernel_spec.specs.rows.Calls.{wait, least_zombie}
-use Rattle.kernel_spec.specs.views.ByPid.{by_pid}
-use Rattle.kernel_spec.specs.runs.Run.{IsBlocked, halts_with}
-use Rattle.kernel_spec.specs.steps.Updates.{remove_zombie, told_image, waited, waited_state, own_state, set_live, with_answer}
-use Rattle.kernel_spec.specs.views.WellFormed.{WellFormed}
-use Rattle.kernel_spec.specs.steps.Cases.{IsLive, After}
-use Rattle.kernel_spec.specs.waking.Conditions.{is_open, waits_for, OthersWaitOn}
-use Rattle.kcall_core.specs.Holdings.{held_at}
-use Rattle.kcall_core.specs.Memories.{each_of}
-use Rattle.kcall_core.specs.Kernel.{live_of, frame_count, entry_of, entry_at, state_of, IsSound, IsRunning, or_nobody, slot_now, place_now, pid_now, live_now, HasImage}
-use Rattle.kcall_core.specs.Machine.{slot_entry, slots_of, turns_of}
-use Rattle.kcall_core.specs.Whole.{IsWhole, AreCounted}
-use Rattle.kcall_core.specs.Makes.{Makes, view_now}
-use Rattle.kcall_core.specs.declared.kernel.Kernel.{Kernel}
-use Rattle.kernel_spec.proofs.steps.MapsAfterChange.{get_at, get_other, get_without}
 use Rattle.kcall_core.proofs.table.ByPid.{by_pid-remove}
 use Rattle.kcall_core.proofs.table.States.{entry-pid, slot-inside, running}
 use Rattle.kcall_core.proofs.turns.Chosen.{noted}
-use Rattle.kernel_spec.proofs.turns.KeepsSlots.{is_listed, not_listed}
 use Rattle.kcall_core.proofs.turns.Turned.{sleeper-lives, live-is}
 use Rattle.kcall_core.proofs.table.OnePlace.{ItsPlace, changed-place, place-counted, place-slots, in-call-lives, in-call-channel}
 use Rattle.kcall_core.proofs.turns.WhoRuns.{place-is, place-lives}
 use Rattle.kcall_core.proofs.turns.StepSlots.{SlotsAfter, none-born, has-entry}
-use Rattle.kernel_spec.proofs.steps.WaitIsItsRow as step
-use Rattle.kernel_spec.proofs.steps.FamilyLawsHold as family
-use Rattle.kernel_spec.proofs.waking.Openings.{opens_reaped}
 use Rattle.kernel_spec.proofs.waking.ChildWaits.{waits-for-child}
-use Rattle.kernel_spec.proofs.waking.WaitsOn.{waits_stay}
-use Rattle.kernel_spec.proofs.well.WellLaws as well
 use Rattle.kcall_core.proofs.making.CallAnswers.{IsDone}
 use Rattle.kcall_core.proofs.making.Buffers.{is_in_no_call, ended-buffers}
 use Rattle.kcall_core.proofs.making.Making.{Itself, Others, made}
 use Rattle.kcall_core.proofs.table.Zombies.{zombie-is, least-is}
+use Rattle.file_table.specs.OpenFiles as files
+use Rattle.kernel_spec.specs.views.Processes as meaning
+use Rattle.kernel_spec.proofs.steps.WaitIsItsRow as step
+use Rattle.kernel_spec.proofs.steps.FamilyLawsHold as family
+use Rattle.kernel_spec.proofs.well.WellLaws as well
 
 -- ---- the ended child is gone
 

@@ -1,37 +1,14 @@
 -- The row wait, as the code goes through it: the status is stored, and which way the row goes.
-use Rattle.std.proofs.Common.{◌≡◌, ◌≢◌, ℕ, ◌||◌, ◌&&◌, not, Bool, true, false, cond, List, subst, Some, inl, inr, refl, sym, ap, ◌∙◌, arith}
-use Rattle.std.specs.Prelude.{ℤ, is_some, nat_eq}
-use Rattle.std.specs.Int.{cast_unsigned, w32}
-use Rattle.std.specs.FinMap.{get, keys}
-use Rattle.std.proofs.lemmas.Bool.{eq-eqb, true≢false}
-use Rattle.std.proofs.lemmas.Bool.Decides.{eqb_tells}
-use Rattle.xk_base.specs.Words.{le_bytes}
-use Rattle.xk_base.specs.Image.{Image}
-use Rattle.xk_base.specs.Bytes.{write_image}
-use Rattle.hart_core.specs.declared.hart.Hart.{Hart}
-use Rattle.proc_table.specs.Reaping.{HasChild, HasNoChild, HasNoneEnded}
-use Rattle.proc_table.specs.declared.process.Call.{Call}
-use Rattle.kernel_spec.specs.rows.Buffers.{writable, writable_now, reaches_touching}
-use Rattle.kernel_spec.specs.views.State.{State}
-use Rattle.kernel_spec.specs.views.View.{View, view_of, child_of}
-use Rattle.kernel_spec.specs.rows.Calls.{wait, least_zombie, refused, waits}
-use Rattle.kernel_spec.specs.steps.Updates.{told_image}
-use Rattle.kcall_core.specs.Holdings.{held_at, with_image}
-use Rattle.kcall_core.specs.Memories.{each_of, RunsIn, SlotChanges}
-use Rattle.kcall_core.specs.Kernel.{state_of, IsSound, IsRunning, slot_now, pid_now, live_now, HasImage}
-use Rattle.kcall_core.specs.Makes.{view_now}
-use Rattle.kcall_core.specs.declared.kernel.Kernel.{Kernel}
-use Rattle.kcall_core.specs.declared.memories.Memories.{Memories}
+use Rattle.kcall_core.proofs.Prelude.{ℕ, ℤ, ◌&&◌, ◌||◌, ◌∙◌, ◌≡◌, ◌≢◌, ap, arith, Bool, Call, cast_unsigned, child_of, cond, each_of, eq-eqb, eqb_tells, false, get, Hart, has_status, HasChild}
+use Rattle.kcall_core.proofs.Prelude.{HasImage, HasNoChild, HasNoneEnded, held_at, Image, inl, inr, is_some, IsReady, IsRunning, IsSound, IsUnready, Kernel, keys, le_bytes, least_zombie, List}
+use Rattle.kcall_core.proofs.Prelude.{live_now, Memories, nat_eq, not, pages_at, pid_now, reaches_touching, reaped, refl, refused, RunsIn, slot_now, SlotChanges, Some, State, state_of, subst, sym}
+use Rattle.kcall_core.proofs.Prelude.{told-ready, told_bytes, told_image, touch-dear, true, true≢false, unless, View, view_now, view_of, wait, wait_childless, wait_none, wait_ready, wait_same}
+use Rattle.kcall_core.proofs.Prelude.{wait_unwritable, waits, with_image, writable, writable_now, write_image}
+use Rattle.std.specs.Int.{w32}
 use Rattle.kcall_core.proofs.table.States.{running}
 use Rattle.kcall_core.proofs.table.Stops.{now-slot}
 use Rattle.kcall_core.proofs.making.Imaged.{image-changed, image-same}
 use Rattle.kcall_core.proofs.table.Zombies.{find-none, any-none, none-seen, none-ended, some-child}
-use Rattle.kernel_spec.specs.views.Processes.{has_status}
-use Rattle.kernel_spec.proofs.rows.RowParts.{reaped, told_bytes, unless}
-use Rattle.kernel_spec.proofs.rows.RowsByParts.{wait_same, wait_childless, wait_unwritable, wait_none, wait_ready}
-use Rattle.kernel_spec.proofs.rows.Settled.{told-ready, touch-dear}
-use Rattle.addr_space.specs.Absent.{pages_at}
-use Rattle.kcall_core.specs.Touched.{IsReady, IsUnready}
 
 -- ---- the status is stored
 

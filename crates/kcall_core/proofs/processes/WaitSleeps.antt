@@ -1,33 +1,14 @@
 -- A wait where all children live: the process sleeps on its children's channel.
-use Rattle.std.proofs.Common.{◌≡◌, ℕ, true, false, subst, Some, refl, sym, ap, ◌∙◌}
-use Rattle.std.specs.Prelude.{pos}
-use Rattle.std.proofs.lemmas.Bool.{eq-eqb}
-use Rattle.hart_core.specs.declared.hart.Hart.{Hart}
-use Rattle.proc_table.specs.declared.channel.Channel.TheVariants as on
-use Rattle.proc_table.specs.declared.process.Call.{Call}
-use Rattle.kernel_spec.specs.views.Processes.{Live, Alive}
-use Rattle.kernel_spec.specs.views.State.{State, live_part}
-use Rattle.kernel_spec.specs.views.View.{view_of}
-use Rattle.kernel_spec.specs.steps.Own.{Own, Blocked}
-use Rattle.kernel_spec.specs.rows.Calls.{wait, waits, row_of}
-use Rattle.kernel_spec.specs.waking.Ready.{ready}
-use Rattle.kernel_spec.specs.steps.Updates.{changed_state}
-use Rattle.kernel_spec.specs.steps.Updates as update
-use Rattle.kernel_spec.specs.steps.Cases.{After}
-use Rattle.kernel_spec.specs.waking.Conditions.{row_waits_for, waits_for}
-use Rattle.kcall_core.specs.Kernel.{state_of, IsRunning, pid_now, live_now}
-use Rattle.kcall_core.specs.Whole.{IsWhole}
-use Rattle.kernel_spec.specs.waking.SleepsOn.{is_for}
-use Rattle.kcall_core.specs.Makes.{Makes, view_now}
-use Rattle.kcall_core.specs.declared.kernel.Kernel.{Kernel}
-use Rattle.kernel_spec.proofs.steps.MapsAfterChange.{get_same}
+use Rattle.kcall_core.proofs.Prelude.{ℕ, ◌∙◌, ◌≡◌, After, Alive, ap, Blocked, Call, changed_state, eq-eqb, false, get_same, Hart, is_for, is_wait, IsRunning, IsWhole, Kernel, Live, live_now}
+use Rattle.kcall_core.proofs.Prelude.{live_part, Makes, Own, pid_now, pos, ready, refl, row_of, row_waits_for, Some, State, state_of, subst, sym, true, view_now, view_of, wait, waits, waits_for}
 use Rattle.kcall_core.proofs.turns.Turned.{live-is}
-use Rattle.kernel_spec.proofs.steps.AloneLawsHold as law
-use Rattle.kernel_spec.proofs.rows.Decoding.{is_wait}
 use Rattle.kcall_core.proofs.turns.StepSlots.{KeepsAll}
 use Rattle.kcall_core.proofs.making.Buffers.{unmoved-keeps}
 use Rattle.kcall_core.proofs.making.Midway.{IsAsleep, midway-sleeps}
 use Rattle.kcall_core.proofs.making.Moved.{still, sleeps-unready}
+use Rattle.proc_table.specs.declared.channel.Channel.TheVariants as on
+use Rattle.kernel_spec.specs.steps.Updates as update
+use Rattle.kernel_spec.proofs.steps.AloneLawsHold as law
 
 -- ---- it sleeps
 

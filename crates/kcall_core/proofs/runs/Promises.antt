@@ -1,25 +1,8 @@
 -- Each event keeps all that is promised of it: a step, a turn, nothing to do, a tick, a key, a byte that is sent, and nothing after the end.
-use Rattle.std.proofs.Common.{◌≡◌, ℕ, Some, None, inl, inr, ◌⊎◌, refl, sym, ap, ◌∙◌, subst}
-use Rattle.std.specs.Prelude.{ℤ, option_map, true}
-use Rattle.std.specs.Ordering.{nat_cmp}
-use Rattle.std.specs.FinSet.{FinSet, contains}
-use Rattle.std.proofs.lemmas.Bool.{true≢false}
-use Rattle.std.proofs.lemmas.Option.{none-some}
-use Rattle.hart_core.specs.declared.hart.Hart.{Hart}
-use Rattle.kernel_spec.specs.views.State.{live_part}
-use Rattle.kernel_spec.specs.views.View.{view, view_of}
-use Rattle.kernel_spec.specs.steps.Own.{Answer}
-use Rattle.kernel_spec.specs.waking.Ready.{ready}
-use Rattle.kernel_spec.specs.steps.Step.{own}
-use Rattle.kernel_spec.specs.runs.Run.{World, Event, Run, Tick, Key, Send, Outcome, Step_of, Turn, Idle}
-use Rattle.kernel_spec.specs.runs.Run.{Ticked, Halted, Happens, RunHappens, TickHappens, KeyHappens, SendHappens, TurnTaken, StepOf, halts_with}
-use Rattle.kernel_spec.specs.waking.Wakes.{IsRunnable, IsNearest, NoReadySleeper, IsInCall, IsEnd, WakesWhereDue, Promised}
-use Rattle.kernel_spec.specs.views.WellFormed.{AreShown}
-use Rattle.kcall_core.specs.Kernel.{state_of, IsSound, IsRunning, pid_now}
-use Rattle.kcall_core.specs.Machine.{turns_of, world_of}
-use Rattle.kcall_core.specs.Whole.{IsWhole}
-use Rattle.kcall_core.specs.Makes.{Makes, view_now}
-use Rattle.kcall_core.specs.declared.kernel.Kernel.{Kernel}
+use Rattle.kcall_core.proofs.Prelude.{ℕ, ℤ, ◌∙◌, ◌≡◌, ◌⊎◌, Answer, ap, AreShown, contains, Event, FinSet, Halted, halts_with, Happens, Hart, Idle, inl, inr, IsEnd, IsInCall, IsNearest, IsRunnable}
+use Rattle.kcall_core.proofs.Prelude.{IsRunning, IsSound, IsWhole, Kernel, Key, KeyHappens, live_part, Makes, nat_cmp, None, none-some, NoReadySleeper, option_map, Outcome, own, pid_now, Promised}
+use Rattle.kcall_core.proofs.Prelude.{ready, refl, Run, RunHappens, Send, SendHappens, Some, state_of, Step_of, StepOf, subst, sym, Tick, Ticked, TickHappens, true, true≢false, Turn, turns_of}
+use Rattle.kcall_core.proofs.Prelude.{TurnTaken, view, view_now, view_of, WakesWhereDue, World, world_of}
 use Rattle.kcall_core.proofs.table.States.{running}
 use Rattle.kcall_core.proofs.turns.Turned.{live-is}
 

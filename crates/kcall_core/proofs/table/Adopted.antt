@@ -1,38 +1,14 @@
 -- Changes of all processes of the table: the children of one become children of pid 1, and those that sleep on a channel wake.
-use Rattle.std.proofs.Common.{◌≡◌, ℕ, zero, suc, Bool, true, false, cond, List, map, length, Option, Some, None, inl, inr, refl, sym, ap, ◌∙◌, subst, arith}
-use Rattle.std.specs.Prelude.{ℤ, option_map, if◌then◌else◌}
-use Rattle.std.specs.Ordering.{nat_cmp}
-use Rattle.std.specs.Cmp.{nat_cmp_total}
-use Rattle.std.specs.FinMap.{FinMap, get, get-empty, insert, same_map, nat_cmp-IsAntisymmetric}
-use Rattle.std.proofs.lemmas.Bool.{cases_eq, cases_lt}
-use Rattle.std.proofs.lemmas.List.{get_or_past, get_or-map, length-map}
-use Rattle.std.proofs.lemmas.Iterator.Adapters.{option_map_id}
-use Rattle.std.proofs.lemmas.Option.{none-some}
-use Rattle.xk_base.specs.Gathered.{gathered}
-use Rattle.xk_base.specs.declared.limits.TheConstants.{NPROC, OPEN_FILES}
-use Rattle.rv64i_core.specs.Registers.{Registers}
-use Rattle.hart_core.specs.declared.hart.Hart.{Hart}
-use Rattle.file_table.specs.OpenFiles.{open_file_at}
-use Rattle.proc_table.specs.declared.channel.Channel.{Channel}
-use Rattle.proc_table.specs.declared.process.State as table
-use Rattle.proc_table.specs.declared.process.State.TheVariants.{Live as Live_state, Zombie as Zombie_state}
-use Rattle.proc_table.specs.Processes.{status_of, state_status, given, is_parent, woken, state_woken}
-use Rattle.proc_table.specs.Slots.{Slots, place_at, descriptors_at, each_changed, IsTable}
-use Rattle.proc_table.specs.declared.process.Process.{Process}
-use Rattle.proc_table.proofs.Pids.{table_each}
-use Rattle.kernel_spec.specs.views.State.{named_file}
-use Rattle.kernel_spec.specs.views.Words.{is_this, or_zero}
-use Rattle.kernel_spec.specs.views.Processes as meaning
-use Rattle.kernel_spec.specs.views.Processes.{Live, parent_of}
-use Rattle.kernel_spec.specs.views.ByPid.{by_pid, put}
-use Rattle.kernel_spec.specs.steps.Updates.{orphan, orphans, given_to}
-use Rattle.kcall_core.specs.Holdings.{Held, held_at}
-use Rattle.kcall_core.specs.Memories.{each_of, pipes_of, free_of}
-use Rattle.kcall_core.specs.Kernel.{live_of, by_status, process_of, regs_at, entry_of, entry_at, state_of, IsSound, IsRunning, or_nobody, slot_now, pid_now}
-use Rattle.kcall_core.specs.declared.kernel.Kernel.{Kernel}
-use Rattle.kernel_spec.proofs.steps.MapsAfterChange.{get_same, get_other}
-use Rattle.kernel_spec.proofs.steps.OrphansKeepKeys.{get-orphans}
+use Rattle.kcall_core.proofs.Prelude.{ℕ, ℤ, ◌∙◌, ◌≡◌, ap, arith, Bool, by_pid, by_status, cases_eq, cases_lt, Channel, cond, descriptors_at, each_changed, each_of, entry_at, entry_of, false, FinMap}
+use Rattle.kcall_core.proofs.Prelude.{free_of, gathered, get, get-empty, get-orphans, get_or_past, get_other, get_same, given, given_to, Hart, Held, held_at, if◌then◌else◌, inl, inr, insert}
+use Rattle.kcall_core.proofs.Prelude.{is_parent, is_this, IsRunning, IsSound, IsTable, Kernel, length, length-map, List, Live, live_of, Live_state, map, named_file, nat_cmp, nat_cmp-IsAntisymmetric}
+use Rattle.kcall_core.proofs.Prelude.{nat_cmp_total, None, none-some, NPROC, open_file_at, OPEN_FILES, Option, option_map, option_map_id, or_nobody, or_zero, orphan, orphans, parent_of, pid_now}
+use Rattle.kcall_core.proofs.Prelude.{pipes_of, place_at, Process, process_of, put, refl, Registers, regs_at, same_map, slot_now, Slots, Some, state_of, state_status, state_woken, status_of, subst}
+use Rattle.kcall_core.proofs.Prelude.{suc, sym, table_each, true, woken, zero, Zombie_state}
+use Rattle.std.proofs.lemmas.List.{get_or-map}
 use Rattle.kcall_core.proofs.table.States.{running}
+use Rattle.proc_table.specs.declared.process.State as table
+use Rattle.kernel_spec.specs.views.Processes as meaning
 
 -- each entry is changed by one function
 module _ {X : Type 0} (F : X → X) where

@@ -1,13 +1,6 @@
 -- One slot changes: one pid's entry changes.
-use Rattle.std.proofs.Common.{◌≡◌, ◌≢◌, ℕ, zero, suc, ◌<◌, cond, Option, Some, None, inl, inr, refl, sym, ap, ◌∙◌, arith}
-use Rattle.std.proofs.lemmas.Bool.{cases_eq}
-use Rattle.std.specs.Ordering.{nat_cmp}
-use Rattle.std.specs.FinMap.{FinMap, insert, remove, get, get-empty}
-use Rattle.xk_base.proofs.Gathered.{same_pages}
-use Rattle.kernel_spec.specs.views.ByPid.{by_pid, put}
-use Rattle.std.proofs.lemmas.Bool.{eq-eqb}
-use Rattle.std.proofs.lemmas.Bool.Decides.{eqb_tells}
-use Rattle.kernel_spec.proofs.steps.MapsAfterChange.{get_same, get_other, get_without}
+use Rattle.kcall_core.proofs.Prelude.{ℕ, ◌<◌, ◌∙◌, ◌≡◌, ◌≢◌, ap, arith, by_pid, cases_eq, cond, eq-eqb, eqb_tells, FinMap, get, get-empty, get_other, get_same, get_without, inl, inr, insert, nat_cmp}
+use Rattle.kcall_core.proofs.Prelude.{None, Option, put, refl, remove, same_pages, Some, suc, sym, zero}
 
 gone_same : {X : Type 0} (m : FinMap nat_cmp X) (k : ℕ) → get (remove m k) k ≡ None
 gone_same m k = get_without m k k ∙ ap (λ b. cond b None (get m k)) (eq-eqb k k refl)

@@ -1,40 +1,15 @@
 -- A kernel without a process is whole: nothing is open, nobody sleeps, and all frames are free. A tick leaves it so.
-use Rattle.std.proofs.Common.{◌≡◌, ℕ, zero, suc, ◌∷◌, false, length, replicate, map, Some, None, refl, sym, ap, ◌∙◌, subst, arith}
-use Rattle.std.specs.Prelude.{List, Option, option_map, IsSome, is_some}
-use Rattle.std.specs.FinMap.{get, get-empty, len-empty}
-use Rattle.std.specs.FinSet as set
-use Rattle.std.specs.FinSet.{contains, contains-empty}
-use Rattle.std.specs.Ordering.{nat_cmp}
-use Rattle.std.proofs.lemmas.Bool.{false≢true}
-use Rattle.std.proofs.lemmas.Option.{none-some}
-use Rattle.hart_core.specs.declared.hart.Hart.{Hart}
-use Rattle.console_core.specs.Lists.{Console, held_bytes, empty_console, IsWithinLimits}
-use Rattle.pipe_core.specs.Pipe.{Pipe}
-use Rattle.file_table.specs.Named.{none_named}
-use Rattle.file_table.specs.OpenFiles as files
-use Rattle.file_table.specs.declared.open_file.OpenFile.{OpenFile}
-use Rattle.xk_base.specs.declared.limits.TheConstants.{NPROC}
-use Rattle.proc_table.specs.Slots.{Slots, place_at, descriptors_at, no_process, each_changed}
-use Rattle.proc_table.specs.Processes.{woken}
-use Rattle.proc_table.specs.declared.channel.Channel.{Channel}
-use Rattle.proc_table.specs.declared.process.Process.{Process}
-use Rattle.kernel_spec.specs.views.Processes as meaning
-use Rattle.kernel_spec.specs.views.State.{ProgramFile, State, live_part, named_file}
-use Rattle.kernel_spec.specs.views.NewKernel.{empty_state}
-use Rattle.kcall_core.specs.Starts.{HasNoProcess}
-use Rattle.kernel_spec.specs.others.Quiet.{file_at}
-use Rattle.kernel_spec.proofs.steps.SeenByParts.{file_of}
-use Rattle.kernel_spec.specs.views.WellFormed.{WellFormed, over_all, cost, sum_below}
-use Rattle.kernel_spec.specs.waking.Wakes.{NoReadySleeper}
-use Rattle.kcall_core.specs.Memories.{pipes_of, free_of}
-use Rattle.kcall_core.specs.Kernel.{frame_count, state_of, IsSound}
-use Rattle.kcall_core.specs.Machine.{sleeper_in, sleepers_below, turns_of, world_of}
-use Rattle.kcall_core.specs.Whole.{AreCounted, IsWhole}
-use Rattle.kcall_core.specs.Buffers.{KeepBuffers}
-use Rattle.kcall_core.specs.declared.kernel.Kernel.{Kernel}
+use Rattle.kcall_core.proofs.Prelude.{ℕ, ◌∙◌, ◌∷◌, ◌≡◌, ap, AreCounted, arith, Channel, Console, contains, contains-empty, cost, descriptors_at, each_changed, empty_console, empty_state, false}
+use Rattle.kcall_core.proofs.Prelude.{false≢true, file_at, file_of, frame_count, free_of, get, get-empty, Hart, HasNoProcess, held_bytes, is_some, IsSome, IsSound, IsWhole, IsWithinLimits}
+use Rattle.kcall_core.proofs.Prelude.{KeepBuffers, Kernel, len-empty, length, List, live_part, map, named_file, nat_cmp, no_process, None, none-some, none_named, NoReadySleeper, NPROC, OpenFile}
+use Rattle.kcall_core.proofs.Prelude.{Option, option_map, over_all, Pipe, pipes_of, place_at, Process, ProgramFile, refl, replicate, sleeper_in, sleepers_below, Slots, Some, State, state_of, subst}
+use Rattle.kcall_core.proofs.Prelude.{suc, sum_below, sym, turns_of, WellFormed, woken, world_of, zero}
 use Rattle.kcall_core.proofs.memory.Births.{get_or-same}
 use Rattle.kcall_core.proofs.table.FirstWhole.{none-asleep, none-counted, none-open-table}
 use Rattle.kcall_core.proofs.table.NoProcess.{no-process-state}
+use Rattle.std.specs.FinSet as set
+use Rattle.file_table.specs.OpenFiles as files
+use Rattle.kernel_spec.specs.views.Processes as meaning
 
 -- a place that nobody has
 abbrev no-one : Option Process

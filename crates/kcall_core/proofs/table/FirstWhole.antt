@@ -1,46 +1,19 @@
 -- The kernel of the first process is whole, and stands for the first world.
-use Rattle.std.proofs.Common.{◌≡◌, ◌≢◌, ℕ, zero, suc, ◌+◌, ◌-◌, ◌≤◌, true, false, length, replicate, Some, None, inl, inr, refl, sym, ap, ◌∙◌, subst, arith}
-use Rattle.std.specs.Prelude.{List, Option, Ok, option_map, map, if◌then◌else◌}
-use Rattle.std.specs.FinMap.{insert, empty, get-empty}
-use Rattle.std.specs.FinSet as set
-use Rattle.std.specs.FinSet.{contains, contains-empty}
-use Rattle.std.specs.Ordering.{nat_cmp}
-use Rattle.std.proofs.lemmas.Bool.{cases_eq}
-use Rattle.std.proofs.lemmas.List.{get_or-set_same, get_or-set_other, length-replicate}
-use Rattle.std.proofs.lemmas.Option.{none-some}
-use Rattle.xk_base.specs.Words.{count_below}
-use Rattle.xk_base.specs.Image.{price}
-use Rattle.xk_base.specs.Loaded.{Loaded}
-use Rattle.xk_base.specs.declared.limits.TheConstants.{NPROC, NOFILE, OPEN_FILES}
-use Rattle.hart_core.specs.declared.hart.Hart.{Hart}
-use Rattle.console_core.specs.Lists.{Console, IsWithinLimits}
-use Rattle.file_table.specs.Named.{named_by, none_named}
-use Rattle.file_table.specs.OpenFiles as files
-use Rattle.file_table.specs.OpenFiles.{none_open, entry_count}
-use Rattle.file_table.specs.declared.open_file.CountedFile.{CountedFile}
-use Rattle.proc_table.specs.Processes.{channel_of, newborn}
-use Rattle.proc_table.specs.Slots.{Slots, place_at, descriptors_at, no_process, with_new}
-use Rattle.proc_table.specs.declared.process.Process.{Process}
-use Rattle.kernel_spec.specs.views.Words.{or_zero}
-use Rattle.kernel_spec.specs.views.Words.{is_this}
-use Rattle.kernel_spec.specs.views.State.{State, ProgramFile, named_file, live_part}
-use Rattle.kernel_spec.specs.runs.First.{first_process, first_state, first_turns}
-use Rattle.kernel_spec.specs.views.WellFormed.{WellFormed, sum_below}
-use Rattle.kcall_core.specs.Machine.{slot_entry, slots_of, sleeper_in, with_sleeper, sleepers_below, turns_of, world_of}
-use Rattle.kernel_spec.specs.runs.Run.{World}
-use Rattle.kcall_core.specs.Starts.{HasNoProcess, init_loaded, started_world}
-use Rattle.kcall_core.specs.Memories.{free_of}
-use Rattle.kernel_spec.specs.waking.Wakes.{NoReadySleeper}
-use Rattle.kcall_core.specs.Kernel.{state_of, pid_now, IsSound}
-use Rattle.kcall_core.specs.Whole.{named_in, AreCounted, IsWhole}
-use Rattle.kcall_core.specs.declared.kernel.Kernel.{Kernel}
+use Rattle.kcall_core.proofs.Prelude.{ℕ, ◌+◌, ◌-◌, ◌∙◌, ◌≡◌, ◌≢◌, ◌≤◌, ap, AreCounted, arith, cases_eq, channel_of, Console, contains, contains-empty, count_below, CountedFile, descriptors_at, empty}
+use Rattle.kcall_core.proofs.Prelude.{entry_count, false, first_process, first_state, first_turns, free_of, get-empty, get_or-set_other, get_or-set_same, Hart, HasNoProcess, if◌then◌else◌}
+use Rattle.kcall_core.proofs.Prelude.{init_loaded, inl, inr, insert, is_this, IsSound, IsWhole, IsWithinLimits, Kernel, length, length-replicate, List, live_part, Loaded, map, named_by, named_file}
+use Rattle.kcall_core.proofs.Prelude.{named_in, nat_cmp, newborn, no_process, NOFILE, None, none-some, none_named, none_open, NoReadySleeper, NPROC, Ok, OPEN_FILES, Option, option_map, or_zero}
+use Rattle.kcall_core.proofs.Prelude.{pid_now, place_at, price, Process, ProgramFile, refl, replicate, sleeper_in, sleepers_below, slot_entry, Slots, slots_of, Some, started_world, State, state_of}
+use Rattle.kcall_core.proofs.Prelude.{subst, suc, sum_below, sym, true, turns_of, WellFormed, with_new, with_sleeper, World, world_of, zero}
 use Rattle.kcall_core.proofs.memory.Births.{get_or-same}
 use Rattle.kcall_core.proofs.table.ByPid.{by_pid-insert}
 use Rattle.kernel_spec.proofs.well.FirstWell.{state_well}
-use Rattle.kernel_spec.proofs.well.WellLaws as well
 use Rattle.kcall_core.proofs.table.NoProcess.{none-by-pid}
 use Rattle.kcall_core.proofs.table.Starting.{Begins}
 use Rattle.kcall_core.proofs.making.Buffers.{no-call-keeps, changed-buffers}
+use Rattle.std.specs.FinSet as set
+use Rattle.file_table.specs.OpenFiles as files
+use Rattle.kernel_spec.proofs.well.WellLaws as well
 
 -- a place that nobody has, a descriptor that isn't in use, and a place without an open file
 abbrev no-one : Option Process

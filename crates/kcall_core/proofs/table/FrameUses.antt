@@ -1,41 +1,18 @@
 -- Each frame of RAM has one use, and one owner at most.
-use Rattle.std.proofs.Common.{◌≡◌, ℕ, ◌+◌, ◌<◌, ◌≤◌, true, false, [], length, get_or, map, Option, Some, None, inl, inr, refl, sym, ap, ◌∙◌, subst, arith}
-use Rattle.std.specs.Prelude.{ℤ, is_some, option_map, ◌⊎◌, ◌↔◌}
-use Rattle.std.specs.FinMap.{get}
-use Rattle.std.proofs.lemmas.Bool.{cases_lt, cases_eq}
-use Rattle.std.proofs.lemmas.Option.{none-some, same_Some}
-use Rattle.xk_base.specs.Frames.{copies}
-use Rattle.xk_base.specs.declared.limits.TheConstants.{FRAMES_MAX}
-use Rattle.xk_base.proofs.Frames.{copies-nil}
-use Rattle.sv39_core.specs.Sv39.{page_entry}
-use Rattle.sv39_core.specs.Tree.{frame_of}
-use Rattle.frame_list.specs.Pool.{free_in}
-use Rattle.hart_core.specs.declared.hart.Hart.{Hart}
-use Rattle.pipe_core.specs.Pipe as pipe
-use Rattle.proc_table.specs.Processes.{status_of}
-use Rattle.proc_table.specs.Slots.{place_at}
-use Rattle.proc_table.specs.declared.process.Process.{Process}
-use Rattle.kernel_spec.specs.views.Words.{count_if}
-use Rattle.kernel_spec.specs.views.State.{live}
-use Rattle.kcall_core.specs.Kernel.{frame_count, state_of, IsSound}
-use Rattle.kcall_core.specs.Memories.{held_in, each_of, pipes_of, keeps_pipe, slot_frames, process_frames, owners}
-use Rattle.kcall_core.specs.ObservedFrames.{IsUsedBy, IsUsedIn, page_frame_of, page_frame_in, IsOwned, IsUsed, use_of}
-use Rattle.kcall_core.specs.ObservedPipes.{counts_of}
-use Rattle.kcall_core.specs.Observers.{IsLiveIn}
-use Rattle.kcall_core.specs.declared.memories.Memory.{Memory}
-use Rattle.kcall_core.specs.declared.memories.Memories.{Memories}
+use Rattle.kcall_core.proofs.Prelude.{[], ℕ, ℤ, ◌+◌, ◌<◌, ◌↔◌, ◌∙◌, ◌≡◌, ◌≤◌, ◌⊎◌, ap, arith, cases_eq, cases_lt, copies, copies-nil, count_if, counts_of, each_of, false, frame_count, frame_of}
+use Rattle.kcall_core.proofs.Prelude.{FrameRole, FRAMES_MAX, FrameUse, Free, free_in, get, get_or, Hart, held_in, inl, inr, is_some, IsLiveIn, IsOwned, IsSound, IsUsed, IsUsedBy, IsUsedIn, keeps_pipe}
+use Rattle.kcall_core.proofs.Prelude.{Kernel, length, live, Lower, map, Memories, Memory, None, none-some, Option, option_map, owners, page_entry, page_frame_in, page_frame_of, pipes_of, place_at}
+use Rattle.kcall_core.proofs.Prelude.{Process, process_frames, refl, Root, same_Some, slot_frames, Some, state_of, status_of, subst, sym, Trapframe, true, Upper, use_of}
 use Rattle.kcall_core.specs.declared.memories.piping.PipeCounts.{PipeCounts}
-use Rattle.kcall_core.specs.declared.memories.frame_roles.FrameRole.{FrameRole}
-use Rattle.kcall_core.specs.declared.memories.frame_roles.FrameRole.TheVariants as role
-use Rattle.kcall_core.specs.declared.kernel.Kernel.{Kernel}
-use Rattle.kcall_core.specs.declared.kernel.observers.frame_uses.FrameUse.{FrameUse}
-use Rattle.kcall_core.specs.declared.kernel.observers.frame_uses.FrameUse.TheVariants.{Free, Trapframe, Root, Upper, Lower, Page, Pipe}
+use Rattle.kcall_core.specs.declared.kernel.observers.frame_uses.FrameUse.TheVariants.{Page, Pipe}
 use Rattle.kcall_core.proofs.memory.Changes.{each-at}
 use Rattle.kcall_core.proofs.memory.Frames.{frames-at}
 use Rattle.kcall_core.proofs.memory.Joined.{joined-has, joined-two, joined-none}
 use Rattle.kcall_core.proofs.memory.PipesTold.{keeps-told}
 use Rattle.kcall_core.proofs.memory.Roles.{unused-none, used-has, one-role}
 use Rattle.kcall_core.proofs.table.Observed.{live-held}
+use Rattle.pipe_core.specs.Pipe as pipe
+use Rattle.kcall_core.specs.declared.memories.frame_roles.FrameRole.TheVariants as role
 
 module _ (k : Kernel) (h : Hart) (sound : IsSound k h) where
   -- a slot with a memory has a process

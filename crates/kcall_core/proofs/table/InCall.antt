@@ -1,25 +1,9 @@
 -- The process that runs is in another call from now on, or in none, and has other registers.
-use Rattle.std.proofs.Common.{◌≡◌, ◌≢◌, ℕ, Bool, cond, List, set, Option, Some, None, inl, inr, refl, sym, ap, ◌∙◌, subst, arith}
-use Rattle.std.specs.Prelude.{option_map}
-use Rattle.std.proofs.lemmas.Bool.{cases_eq, eq-eqb}
-use Rattle.std.proofs.lemmas.List.{get_or-set_same, get_or-set_other}
-use Rattle.std.proofs.lemmas.Option.{none-some, same_Some}
-use Rattle.rv64i_core.specs.Registers.{Registers}
-use Rattle.hart_core.specs.declared.hart.Hart.{Hart}
-use Rattle.proc_table.specs.Processes.{state_status, state_in_call, status_of, is_marked, call_of, in_call}
-use Rattle.proc_table.specs.Slots.{Slots, place_at, descriptors_at, IsTable, changed_at, mark_at, call_at}
-use Rattle.proc_table.specs.declared.process.Call.{Call}
+use Rattle.kcall_core.proofs.Prelude.{ℕ, ◌∙◌, ◌≡◌, ◌≢◌, Alive, ap, arith, Bool, by_status, Call, call_at, call_of, cases_eq, changed_at, cond, descriptors_at, each_of, entry_at, entry_of, eq-eqb}
+use Rattle.kcall_core.proofs.Prelude.{get_or-set_other, get_or-set_same, Hart, Held, held_at, in_call, inl, inr, is_marked, is_this, IsCurrent, IsRunning, IsSound, IsTable, Kernel, List, live_now}
+use Rattle.kcall_core.proofs.Prelude.{live_of, Live_state as Live, mark_at, None, none-some, Option, option_map, or_nobody, or_zero, own_state, pid_now, place_at, place_now, Process, process_of, refl}
+use Rattle.kcall_core.proofs.Prelude.{Registers, same_Some, set, slot_now, Slots, Some, state_in_call, state_of, state_status, status_of, subst, sym, table_at, Zombie_state as Zombie}
 use Rattle.proc_table.specs.declared.process.State.{State}
-use Rattle.proc_table.specs.declared.process.State.TheVariants.{Live, Zombie}
-use Rattle.proc_table.specs.declared.process.Process.{Process}
-use Rattle.proc_table.proofs.Pids.{table_at}
-use Rattle.kernel_spec.specs.views.Words.{is_this, or_zero}
-use Rattle.kernel_spec.specs.views.Processes.{Alive}
-use Rattle.kernel_spec.specs.steps.Updates.{own_state}
-use Rattle.kcall_core.specs.Holdings.{Held, held_at}
-use Rattle.kcall_core.specs.Memories.{each_of}
-use Rattle.kcall_core.specs.Kernel.{live_of, by_status, process_of, entry_of, entry_at, state_of, IsSound, IsRunning, IsCurrent, or_nobody, slot_now, place_now, pid_now, live_now}
-use Rattle.kcall_core.specs.declared.kernel.Kernel.{Kernel}
 use Rattle.kcall_core.proofs.table.States.{Alone, Running, running, slot-state, not-this, runs-regs, not-over}
 use Rattle.kcall_core.proofs.table.Stops.{read-some}
 use Rattle.kcall_core.proofs.turns.Chosen.{noted}

@@ -1,28 +1,10 @@
 -- A kernel without processes: what it stands for, and that it is sound.
-use Rattle.std.proofs.Common.{◌≡◌, ℕ, zero, suc, map, replicate, get_or, subst, Option, None, inl, refl, sym, ap, ◌∙◌, arith}
-use Rattle.std.specs.Prelude.{option_map}
-use Rattle.std.proofs.lemmas.List.{length-replicate}
-use Rattle.std.specs.FinMap.{empty}
-use Rattle.std.proofs.lemmas.Option.{none-some}
-use Rattle.xk_base.specs.Gathered.{gathered}
-use Rattle.xk_base.specs.declared.limits.TheConstants.{NPROC, OPEN_FILES}
-use Rattle.hart_core.specs.Translations.{nothing_kept}
-use Rattle.hart_core.specs.declared.hart.Hart.{Hart}
-use Rattle.console_core.specs.Lists.{empty_console}
-use Rattle.file_table.specs.Named.{none_named}
-use Rattle.file_table.specs.OpenFiles.{none_open, open_file_at, entry_file}
-use Rattle.file_table.specs.declared.open_file.CountedFile.{CountedFile}
-use Rattle.proc_table.specs.Slots.{Slots, place_at, no_process, IsTable}
-use Rattle.proc_table.specs.declared.process.Process.{Process}
-use Rattle.kernel_spec.specs.views.State.{named_file}
-use Rattle.kernel_spec.specs.views.ByPid.{by_pid, put}
-use Rattle.kcall_core.specs.Memories as memories
-use Rattle.kcall_core.specs.Memories.{each_of, pipes_of, free_of}
-use Rattle.kernel_spec.specs.views.NewKernel.{empty_state}
-use Rattle.kcall_core.specs.Kernel.{entry_of, entry_at, state_of, IsSound}
-use Rattle.kcall_core.specs.declared.kernel.Kernel.{Kernel}
+use Rattle.kcall_core.proofs.Prelude.{ℕ, ◌∙◌, ◌≡◌, ap, arith, by_pid, CountedFile, each_of, empty, empty_console, empty_state, entry_at, entry_file, entry_of, free_of, gathered, get_or, Hart, inl}
+use Rattle.kcall_core.proofs.Prelude.{IsSound, IsTable, Kernel, length-replicate, map, named_file, no_process, None, none-some, none_named, none_open, nothing_kept, NPROC, open_file_at, OPEN_FILES}
+use Rattle.kcall_core.proofs.Prelude.{Option, option_map, pipes_of, place_at, Process, put, refl, replicate, Slots, state_of, subst, suc, sym, zero}
 use Rattle.kcall_core.proofs.memory.Births.{get_or-same}
 use Rattle.addr_space.proofs.Empties.{gathered-none}
+use Rattle.kcall_core.specs.Memories as memories
 
 -- an empty place
 abbrev no-one : Option Process

@@ -1,27 +1,10 @@
 -- What stands in a slot is what the state has under its pid.
-use Rattle.std.proofs.Common.{◌≡◌, ℕ, ◌<◌, ◌≤◌, true, false, cond, length, Option, Some, None, inl, inr, refl, sym, ap, ◌∙◌, arith, nat_lt}
-use Rattle.std.specs.Prelude.{ℤ, option_map, is_some}
-use Rattle.std.specs.List.{position_or_len}
-use Rattle.std.specs.FinMap.{get}
-use Rattle.std.proofs.lemmas.Bool.{cases_lt, eq-eqb, both_ways}
-use Rattle.std.proofs.lemmas.Bool.Decides.{eqb_tells, nat_tests}
-use Rattle.std.proofs.lemmas.List.{get_or_past}
-use Rattle.std.proofs.lemmas.List.Sums.{fails_before_first}
+use Rattle.kcall_core.proofs.Prelude.{ℕ, ℤ, ◌<◌, ◌∙◌, ◌≡◌, ◌≤◌, ap, arith, both_ways, by_status, byte_at, byte_in, byte_of, cases_lt, child_at, child_of, child_seen, cond, descriptors_at, each_of}
+use Rattle.kcall_core.proofs.Prelude.{entry_at, entry_of, eq-eqb, eqb_tells, fails_before_first, false, get, get_or_past, Hart, HasMemory, held_at, if_live, inl, inr, is_some, is_this, IsLiveIn}
+use Rattle.kcall_core.proofs.Prelude.{IsSound, IsTable, Kernel, length, Live, live, live_of, live_part, nat_lt, nat_tests, None, none-some, Option, option_map, parent_at, place_at, place_has_pid}
+use Rattle.kcall_core.proofs.Prelude.{position_or_len, Process, process_of, process_parent, refl, registers_of, regs_at, rights_at, rights_in, rights_of, Running, size_of, slot_of, Slots, Some}
+use Rattle.kcall_core.proofs.Prelude.{state_of, Status, status_at, status_of, sym, true}
 use Rattle.std.proofs.lemmas.List.Quantifiers.{position-Some}
-use Rattle.std.proofs.lemmas.Option.{none-some}
-use Rattle.hart_core.specs.declared.hart.Hart.{Hart}
-use Rattle.proc_table.specs.Processes.{status_of}
-use Rattle.proc_table.specs.Slots.{Slots, place_at, descriptors_at, place_has_pid, slot_of, status_at, parent_at, process_parent, IsTable}
-use Rattle.proc_table.specs.declared.process.Process.{Process}
-use Rattle.kernel_spec.specs.views.Processes.{Live, Running, Status}
-use Rattle.kernel_spec.specs.views.State.{live, live_part}
-use Rattle.kcall_core.specs.Holdings.{held_at, HasMemory, byte_of, rights_of}
-use Rattle.kcall_core.specs.Memories.{each_of}
-use Rattle.kernel_spec.specs.views.View.{child_of}
-use Rattle.kernel_spec.specs.views.Words.{is_this}
-use Rattle.kcall_core.specs.Observers.{IsLiveIn, registers_of, size_of, byte_in, byte_at, rights_in, rights_at, if_live, child_at, child_seen}
-use Rattle.kcall_core.specs.Kernel.{live_of, by_status, process_of, regs_at, entry_of, entry_at, state_of, IsSound}
-use Rattle.kcall_core.specs.declared.kernel.Kernel.{Kernel}
 use Rattle.kcall_core.proofs.table.ByPid.{found, none}
 use Rattle.kcall_core.proofs.table.States.{entry-pid}
 

@@ -1,23 +1,10 @@
 -- Two process tables that differ in the process of one place, which has the same pid.
-use Rattle.std.proofs.Common.{◌≡◌, ◌≢◌, ℕ, ◌<◌, List, length, get_or, Option, Some, None, inl, inr, refl, sym, ap, ◌∙◌, arith}
-use Rattle.std.specs.Prelude.{option_map, is_none}
-use Rattle.std.proofs.lemmas.Bool.{cases_eq}
-use Rattle.std.proofs.lemmas.List.{get_or-set_same, get_or-set_other}
-use Rattle.std.proofs.lemmas.Option.{none-some}
-use Rattle.xk_base.specs.declared.limits.TheConstants.{NPROC}
-use Rattle.file_table.specs.Named.{none_named}
-use Rattle.proc_table.specs.Processes.{status_of, channel_of, state_channel, state_status, in_call, asleep, state_in_call, state_asleep}
-use Rattle.proc_table.specs.Slots.{Slots, place_at, place_is_live, descriptors_at, process_pid, changed_at}
-use Rattle.proc_table.specs.declared.channel.Channel.{Channel}
-use Rattle.proc_table.specs.declared.process.Call.{Call}
-use Rattle.proc_table.specs.declared.process.Process.{Process}
+use Rattle.kcall_core.proofs.Prelude.{ℕ, ◌<◌, ◌∙◌, ◌≡◌, ◌≢◌, ap, AreCounted, arith, asleep, Call, cases_eq, changed_at, Channel, channel_of, CountedFile, descriptors_at, get_or, get_or-set_other}
+use Rattle.kcall_core.proofs.Prelude.{get_or-set_same, in_call, inl, inr, is_none, length, List, named_in, None, none-some, none_named, NPROC, Option, option_map, place_at, place_is_live, Process}
+use Rattle.kcall_core.proofs.Prelude.{process_pid, refl, sleeper_in, sleepers_below, Slots, slots_of, Some, state_asleep, state_channel, state_in_call, state_status, status_of, sum_below, sym}
+use Rattle.kcall_core.proofs.turns.Turned.{slots-same, sleepers-same, sleeper-same}
 use Rattle.proc_table.specs.declared.process.State as table
 use Rattle.proc_table.specs.declared.process.State.TheVariants as table_state
-use Rattle.file_table.specs.declared.open_file.CountedFile.{CountedFile}
-use Rattle.kernel_spec.specs.views.WellFormed.{sum_below}
-use Rattle.kcall_core.specs.Machine.{slots_of, sleeper_in, sleepers_below}
-use Rattle.kcall_core.specs.Whole.{AreCounted, named_in}
-use Rattle.kcall_core.proofs.turns.Turned.{slots-same, sleepers-same, sleeper-same}
 
 -- one place has another process of the same pid, and nothing else of the table is another
 pub record ItsPlace (t u : Slots) (slot : ℕ) (before after : Process) : Type 0 where

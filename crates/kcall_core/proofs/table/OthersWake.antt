@@ -1,21 +1,12 @@
 -- Changes of the table that wake some of the others, one after another.
-use Rattle.std.proofs.Common.{◌≡◌, ℕ, ◌<◌, Bool, true, false, cond, ◌||◌, length, Option, Some, None, refl, sym, ap, ◌∙◌, arith}
-use Rattle.std.specs.Prelude.{ℤ, option_map, nat_eq}
-use Rattle.std.proofs.lemmas.List.{get_or-set_same, get_or-set_other, length-map}
-use Rattle.proc_table.specs.Channels.{same_channel, without}
-use Rattle.proc_table.specs.Processes.{status_of, state_status, channel_of, state_channel, given, woken, state_woken, ended}
-use Rattle.proc_table.specs.Slots.{Slots, place_at, each_changed, changed_at}
-use Rattle.proc_table.specs.declared.channel.Channel.{Channel}
-use Rattle.proc_table.specs.declared.channel.Channel.TheVariants as on
-use Rattle.proc_table.specs.declared.process.State as table
-use Rattle.proc_table.specs.declared.process.State.TheVariants.{Live as Live_state, Zombie as Zombie_state}
-use Rattle.proc_table.specs.declared.process.Process.{Process}
-pub use Rattle.kcall_core.specs.Closings.{parent_woken}
+use Rattle.kcall_core.proofs.Prelude.{ℕ, ℤ, ◌<◌, ◌||◌, ◌∙◌, ◌≡◌, ap, arith, Bool, changed_at, Channel, channel_of, cond, each_changed, ended, false, family_wakes, get_or-set_other, get_or-set_same}
+use Rattle.kcall_core.proofs.Prelude.{given, length, length-map, Live_state, nat_eq, None, Option, option_map, place_at, Process, refl, same_channel, Slots, Some, state_channel, state_status}
+use Rattle.kcall_core.proofs.Prelude.{state_woken, status_of, sym, true, turn, unless_woken, without, woken, Zombie_state}
 use Rattle.kcall_core.proofs.table.Woken.{place-each}
 use Rattle.kcall_core.proofs.processes.Departs.{seat, seat_woken, OthersWake}
-use Rattle.kcall_core.specs.Closings.{unless_woken}
-use Rattle.kernel_spec.specs.waking.SleepsOn.{family_wakes}
-use Rattle.kernel_spec.proofs.steps.GoneIsItsRow.{turn}
+use Rattle.proc_table.specs.declared.channel.Channel.TheVariants as on
+use Rattle.proc_table.specs.declared.process.State as table
+pub use Rattle.kcall_core.specs.Closings.{parent_woken}
 
 -- ---- one process
 

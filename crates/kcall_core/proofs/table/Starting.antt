@@ -1,42 +1,16 @@
 -- The first process comes into slot 0.
-use Rattle.std.proofs.Common.{◌≡◌, ◌≢◌, ℕ, ◌+◌, ◌-◌, ◌<◌, cond, length, map, set, subst, get_or, Some, None, IsSome, inl, inr, refl, sym, ap, ◌∙◌, arith}
-use Rattle.std.specs.Prelude.{ℤ}
-use Rattle.std.specs.FinMap.{insert, empty}
-use Rattle.std.proofs.lemmas.Bool.{cases_eq}
-use Rattle.std.proofs.lemmas.List.{get_or-set_same, get_or-set_other, length-map}
-use Rattle.std.proofs.lemmas.Option.{none-some, same_Some}
-use Rattle.xk_base.specs.Gathered.{gathered}
-use Rattle.xk_base.specs.Image.{price}
-use Rattle.xk_base.specs.Loaded.{Loaded}
-use Rattle.xk_base.specs.declared.limits.TheConstants.{NPROC, OPEN_FILES}
-use Rattle.rv64i_core.specs.Registers.{Registers, fresh}
-use Rattle.hart_core.specs.declared.hart.Hart.{Hart}
-use Rattle.file_table.specs.Named.{none_named}
-use Rattle.file_table.specs.OpenFiles.{open_file_at, none_open}
-use Rattle.proc_table.specs.Processes.{status_of, newborn}
-use Rattle.proc_table.specs.Slots.{Slots, place_at, descriptors_at, IsTable, no_process, with_new, slot_for_new}
-use Rattle.proc_table.specs.declared.process.Process.{Process}
-use Rattle.proc_table.proofs.Pids.{table_new}
-use Rattle.kernel_spec.specs.views.Words.{is_this}
-use Rattle.kernel_spec.specs.views.Processes.{Alive}
-use Rattle.kernel_spec.specs.views.State.{State, named_file}
-use Rattle.kernel_spec.specs.views.ByPid.{by_pid}
-use Rattle.kernel_spec.specs.runs.First.{first_regs, first_process, first_state}
-use Rattle.kernel_spec.specs.views.NewKernel.{empty_state}
-use Rattle.kcall_core.specs.Starts.{HasNoProcess}
-use Rattle.kcall_core.specs.Holdings.{Held, or_nothing, held_at, HasMemory, IsVacant, with_saved, held_cost}
-use Rattle.kcall_core.specs.Memories as memories
-use Rattle.kcall_core.specs.Memories.{held_in, each_of, pipes_of, free_of, SlotChanges, Same}
-use Rattle.kcall_core.specs.declared.memories.Memories.{Memories}
-use Rattle.kcall_core.specs.declared.memories.Memory.{Memory}
-use Rattle.kcall_core.specs.Kernel.{process_of, descriptor_map, entry_of, entry_at, state_of, IsSound}
-use Rattle.kcall_core.specs.declared.kernel.Kernel.{Kernel}
+use Rattle.kcall_core.proofs.Prelude.{ℕ, ℤ, ◌+◌, ◌-◌, ◌<◌, ◌∙◌, ◌≡◌, ◌≢◌, Alive, ap, arith, by_pid, cases_eq, cond, descriptor_map, descriptors_at, each_of, empty, empty_state, entry_at, entry_of}
+use Rattle.kcall_core.proofs.Prelude.{first_process, first_regs, first_state, free_of, fresh, gathered, get_or, get_or-set_other, get_or-set_same, Hart, HasMemory, HasNoProcess, Held, held_at}
+use Rattle.kcall_core.proofs.Prelude.{held_cost, held_in, inl, inr, insert, is_this, IsSome, IsSound, IsTable, IsVacant, Kernel, length, length-map, Loaded, map, Memories, Memory, named_file, newborn}
+use Rattle.kcall_core.proofs.Prelude.{no_process, None, none-some, none_named, none_open, NPROC, open_file_at, OPEN_FILES, or_nothing, pipes_of, place_at, price, Process, process_of, refl, Registers}
+use Rattle.kcall_core.proofs.Prelude.{Same, same_Some, set, slot_for_new, SlotChanges, Slots, Some, State, state_of, status_of, subst, sym, table_new, with_new, with_saved}
 use Rattle.kcall_core.proofs.table.ByPid.{by_pid-insert}
 use Rattle.kcall_core.proofs.memory.Births.{get_or-same}
 use Rattle.kcall_core.proofs.memory.Changes.{each-at}
 use Rattle.kcall_core.proofs.memory.Lists.{set-twice}
 use Rattle.kcall_core.proofs.table.NoProcess.{no-process-state}
 use Rattle.kcall_core.proofs.table.Stops.{Rest}
+use Rattle.kcall_core.specs.Memories as memories
 
 -- pid 1 is there, and its frames are taken
 abbrev pub started_state : Loaded → State → State

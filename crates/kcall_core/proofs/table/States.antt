@@ -1,33 +1,13 @@
 -- How a change of one slot shows in the state.
-use Rattle.std.proofs.Common.{◌≡◌, ◌≢◌, ℕ, ◌<◌, false, cond, List, length, subst, get_or, Option, Some, None, IsSome, inl, inr, refl, sym, ap, ◌∙◌, arith}
-use Rattle.std.specs.Prelude.{map, ℤ}
-use Rattle.std.specs.FinMap.{insert}
-use Rattle.std.proofs.lemmas.Bool.{cases_eq, cases_lt, eq-eqb, false≢true}
-use Rattle.std.proofs.lemmas.Bool.Decides.{eqb_tells}
-use Rattle.std.proofs.lemmas.List.{get_or_past, get_or-set_same, get_or-set_other}
-use Rattle.std.proofs.lemmas.Option.{none-some, same_Some}
-use Rattle.xk_base.specs.declared.limits.TheConstants.{NPROC, OPEN_FILES}
-use Rattle.xk_base.specs.Gathered.{gathered}
-use Rattle.file_table.specs.OpenFiles.{open_file_at}
-use Rattle.rv64i_core.specs.Registers.{Registers}
-use Rattle.hart_core.specs.declared.hart.Hart.{Hart}
-use Rattle.proc_table.specs.Processes.{status_of}
-use Rattle.proc_table.specs.Slots.{Slots, place_at, descriptors_at, IsTable}
-use Rattle.proc_table.specs.declared.process.Process.{Process}
-use Rattle.kernel_spec.specs.views.State.{named_file}
-use Rattle.kernel_spec.specs.views.Words.{is_this, or_zero}
-use Rattle.kernel_spec.specs.views.Processes as meaning
-use Rattle.kernel_spec.specs.views.Processes.{Alive}
-use Rattle.kernel_spec.specs.views.ByPid.{by_pid}
-use Rattle.kernel_spec.specs.steps.Updates.{set_live}
-use Rattle.kcall_core.specs.Holdings.{Held, or_nothing, held_at, HasMemory}
-use Rattle.kcall_core.specs.Memories as memories
-use Rattle.kcall_core.specs.Memories.{each_of, pipes_of, free_of, RunsIn, SlotChanges}
-use Rattle.kcall_core.specs.Kernel.{live_of, by_status, process_of, regs_at, entry_of, entry_at, state_of, IsRunning, or_nobody, slot_now, place_now, pid_now, IsCurrent, IsSound}
-use Rattle.kcall_core.specs.declared.kernel.Kernel.{Kernel}
-use Rattle.kcall_core.specs.declared.memories.Memories.{Memories}
+use Rattle.kcall_core.proofs.Prelude.{ℕ, ℤ, ◌<◌, ◌∙◌, ◌≡◌, ◌≢◌, Alive, ap, arith, by_pid, by_status, cases_eq, cases_lt, cond, descriptors_at, each_of, entry_at, entry_of, eq-eqb, eqb_tells, false}
+use Rattle.kcall_core.proofs.Prelude.{false≢true, free_of, gathered, get_or, get_or-set_other, get_or-set_same, get_or_past, Hart, HasMemory, Held, held_at, inl, inr, insert, is_this, IsCurrent}
+use Rattle.kcall_core.proofs.Prelude.{IsRunning, IsSome, IsSound, IsTable, Kernel, length, List, live_of, map, Memories, named_file, None, none-some, NPROC, open_file_at, OPEN_FILES, Option}
+use Rattle.kcall_core.proofs.Prelude.{or_nobody, or_nothing, or_zero, pid_now, pipes_of, place_at, place_now, Process, process_of, refl, Registers, regs_at, RunsIn, same_Some, set_live, slot_now}
+use Rattle.kcall_core.proofs.Prelude.{SlotChanges, Slots, Some, state_of, status_of, subst, sym}
 use Rattle.kcall_core.proofs.table.ByPid.{by_pid-insert}
 use Rattle.kcall_core.proofs.memory.Changes.{some-inside}
+use Rattle.kernel_spec.specs.views.Processes as meaning
+use Rattle.kcall_core.specs.Memories as memories
 
 -- the pid of an entry
 pub entry-pid : (k : Kernel) (h : Hart) (j : ℕ) (o : Option Process) (e : ℕ × meaning.Process) → entry_of k h j o ≡ Some e → (p : Process) × (o ≡ Some p) × (e.0 ≡ p.pid)

@@ -1,33 +1,10 @@
 -- The process that runs stops running, a process begins to run, and a process ends.
-use Rattle.std.proofs.Common.{◌≡◌, ◌≢◌, ℕ, zero, suc, ◌+◌, ◌<◌, cond, List, [], ◌∷◌, length, set, subst, get_or, Option, Some, None, IsSome, inl, inr, ◌⊎◌, refl, sym, ap, ◌∙◌, arith}
-use Rattle.std.specs.Prelude.{map, ℤ, option_map, is_none, IsTrue}
-use Rattle.std.specs.FinMap.{insert}
-use Rattle.std.proofs.lemmas.Bool.{cases_eq, eq-eqb, false≢true}
-use Rattle.std.proofs.lemmas.List.{get_or-set_same, get_or-set_other}
-use Rattle.std.proofs.lemmas.Option.{none-some}
-use Rattle.xk_base.specs.Gathered.{gathered}
-use Rattle.xk_base.specs.Image.{price}
-use Rattle.xk_base.specs.declared.limits.TheConstants.{NPROC, OPEN_FILES}
-use Rattle.rv64i_core.specs.Registers.{Registers}
-use Rattle.hart_core.specs.Steps.{FitsHart}
-use Rattle.hart_core.specs.Translations.{nothing_kept}
-use Rattle.hart_core.specs.declared.hart.Hart.{Hart}
-use Rattle.hart_core.proofs.Caches.{fits_hart}
-use Rattle.file_table.specs.OpenFiles.{open_file_at}
-use Rattle.proc_table.specs.Processes.{status_of, ended}
-use Rattle.proc_table.specs.Slots.{Slots, place_at, descriptors_at, place_is_live, IsLiveAt, IsTable, changed_at}
-use Rattle.proc_table.specs.declared.process.Process.{Process}
-use Rattle.proc_table.proofs.Pids.{table_at}
-use Rattle.kernel_spec.specs.views.State.{named_file}
-use Rattle.kernel_spec.specs.views.Words.{is_this, or_zero}
-use Rattle.kernel_spec.specs.views.Processes.{Zombie}
-use Rattle.kernel_spec.specs.views.ByPid.{by_pid}
-use Rattle.kernel_spec.specs.steps.Updates.{give_frames, end_process}
-use Rattle.kcall_core.specs.Holdings.{Held, or_nothing, held_at, HasMemory, with_saved, held_cost}
-use Rattle.kcall_core.specs.Memories.{each_of, pipes_of, free_of, SlotChanges}
-use Rattle.kcall_core.specs.Kernel.{process_of, regs_at, entry_of, entry_at, state_of, or_nobody, slot_now, place_now, pid_now, live_now, IsIdle, IsParked, IsCurrent, IsSound}
-use Rattle.kcall_core.specs.declared.kernel.Kernel.{Kernel}
-use Rattle.kcall_core.specs.declared.memories.Memories.{Memories}
+use Rattle.kcall_core.proofs.Prelude.{[], ℕ, ℤ, ◌+◌, ◌<◌, ◌∙◌, ◌∷◌, ◌≡◌, ◌≢◌, ◌⊎◌, ap, arith, by_pid, cases_eq, changed_at, cond, descriptors_at, each_of, end_process, ended, entry_at, entry_of}
+use Rattle.kcall_core.proofs.Prelude.{eq-eqb, false≢true, fits_hart, FitsHart, free_of, gathered, get_or, get_or-set_other, get_or-set_same, give_frames, Hart, HasMemory, Held, held_at, held_cost}
+use Rattle.kcall_core.proofs.Prelude.{inl, inr, insert, is_none, is_this, IsCurrent, IsIdle, IsLiveAt, IsParked, IsSome, IsSound, IsTable, IsTrue, Kernel, length, List, live_now, map, Memories}
+use Rattle.kcall_core.proofs.Prelude.{named_file, None, none-some, nothing_kept, NPROC, open_file_at, OPEN_FILES, Option, option_map, or_nobody, or_nothing, or_zero, pid_now, pipes_of, place_at}
+use Rattle.kcall_core.proofs.Prelude.{place_is_live, place_now, price, Process, process_of, refl, Registers, regs_at, set, slot_now, SlotChanges, Slots, Some, state_of, status_of, subst, suc, sym}
+use Rattle.kcall_core.proofs.Prelude.{table_at, with_saved, zero, Zombie}
 use Rattle.kcall_core.proofs.table.ByPid.{by_pid-same}
 use Rattle.kcall_core.proofs.memory.Changes.{some-inside}
 use Rattle.kcall_core.proofs.table.States.{Alone, alone-entries, slot-inside, slot-state, not-this, not-over}

@@ -1,26 +1,11 @@
 -- What is told of a process and of a slot, by what the table keeps.
-use Rattle.std.proofs.Common.{◌≡◌, ◌≤◌, ℕ, Bool, Option, Some, None, refl, sym, ap, ◌∙◌, subst, arith}
-use Rattle.std.specs.Prelude.{ℤ, IfSome, IfNone, is_some, option_map}
-use Rattle.std.specs.FinMap.{get}
-use Rattle.std.specs.FinSet.{contains}
-use Rattle.std.proofs.lemmas.Option.{none-some, same_Some}
-use Rattle.xk_base.specs.declared.limits.TheConstants.{NPROC}
-use Rattle.hart_core.specs.declared.hart.Hart.{Hart}
-use Rattle.proc_table.specs.Processes.{is_marked, is_asleep, call_of, channel_of}
-use Rattle.proc_table.specs.Slots.{Slots, IsTable, place_at, pid_at, process_pid, descriptors_at, parent_at, mark_at, status_at, call_at, sleep_at}
-use Rattle.proc_table.specs.declared.channel.Channel.{Channel}
-use Rattle.proc_table.specs.declared.process.Call.{Call}
-use Rattle.proc_table.specs.declared.process.Process.{Process}
-use Rattle.kernel_spec.specs.waking.Turns.{HasSlot, IsFreeSlot}
-use Rattle.kcall_core.specs.Observers.{told, process_at}
-use Rattle.kcall_core.specs.Holdings.{held_at}
-use Rattle.kcall_core.specs.Memories.{each_of}
-use Rattle.kcall_core.specs.Kernel.{live_of, by_status, process_of, regs_at, state_of}
-use Rattle.kcall_core.specs.Machine.{sleepers_below, turns_of, world_of}
-use Rattle.kcall_core.specs.declared.kernel.Kernel.{Kernel}
-use Rattle.kcall_core.specs.declared.kernel.observers.ProcessState.TheVariants as state
+use Rattle.kcall_core.proofs.Prelude.{ℕ, ℤ, ◌∙◌, ◌≡◌, ◌≤◌, ap, arith, Bool, by_status, Call, call_at, call_of, Channel, channel_of, contains, descriptors_at, each_of, get, Hart, HasSlot, held_at}
+use Rattle.kcall_core.proofs.Prelude.{IfNone, IfSome, is_asleep, is_marked, is_some, IsFreeSlot, IsTable, Kernel, live_of, mark_at, None, none-some, NPROC, Option, option_map, parent_at, pid_at}
+use Rattle.kcall_core.proofs.Prelude.{place_at, Process, process_at, process_of, process_pid, refl, regs_at, same_Some, sleep_at, sleepers_below, Slots, Some, state_of, status_at, subst, sym, told}
+use Rattle.kcall_core.proofs.Prelude.{turns_of, world_of}
 use Rattle.kcall_core.proofs.table.Observed.{entry-held, parent-told, status-told}
 use Rattle.kcall_core.proofs.turns.Turned.{slot-is, slot-from, sleeps-is, awake-is}
+use Rattle.kcall_core.specs.declared.kernel.observers.ProcessState.TheVariants as state
 
 asleep-is : (t : Slots) → IsTable t → (i : ℕ) (p : Process) → place_at t i ≡ Some p → contains (sleepers_below t NPROC) p.pid ≡ is_asleep p
 asleep-is t table i p is = by (channel_of p) refl

@@ -1,27 +1,11 @@
 -- Sleepers wake.
-use Rattle.std.proofs.Common.{◌≡◌, ℕ, Bool, true, false, cond, ◌||◌, List, [], ◌∷◌, map, length, Option, Some, None, inl, inr, refl, sym, ap, ◌∙◌, arith}
-use Rattle.std.specs.Prelude.{option_map}
-use Rattle.std.specs.FinMap.{get}
-use Rattle.std.proofs.Math.Path.{fun_ext}
-use Rattle.std.proofs.lemmas.Bool.{cases_lt}
-use Rattle.std.proofs.lemmas.List.{get_or_past, get_or-map, length-map}
-use Rattle.std.proofs.lemmas.Iterator.Adapters.{option_map_id}
-use Rattle.xk_base.specs.declared.limits.TheConstants.{NPROC}
-use Rattle.rv64i_core.specs.Registers.{Registers}
-use Rattle.hart_core.specs.declared.hart.Hart.{Hart}
-use Rattle.proc_table.specs.Channels.{same_channel, without}
-use Rattle.proc_table.specs.declared.channel.Channel.{Channel}
-use Rattle.proc_table.specs.declared.process.Process.{Process}
-use Rattle.proc_table.specs.declared.process.State as table
-use Rattle.proc_table.specs.declared.process.State.TheVariants.{Live as Live_state, Zombie as Zombie_state}
-use Rattle.proc_table.specs.Processes.{status_of, state_status, channel_of, state_channel, woken, state_woken}
-use Rattle.proc_table.specs.Slots.{Slots, place_at, place_is_live, each_changed}
-use Rattle.kernel_spec.specs.views.ByPid.{by_pid}
-use Rattle.kcall_core.specs.Closings.{unless_woken, state_woken_by, woken_by}
-use Rattle.kcall_core.specs.Holdings.{Held}
-use Rattle.kcall_core.specs.Kernel.{process_of, entry_at, state_of, IsSound}
-use Rattle.kcall_core.specs.declared.kernel.Kernel.{Kernel}
+use Rattle.kcall_core.proofs.Prelude.{[], ℕ, ◌||◌, ◌∙◌, ◌∷◌, ◌≡◌, ap, arith, Bool, by_pid, cases_lt, Channel, channel_of, cond, each_changed, entry_at, false, fun_ext, get, get_or_past, Hart, Held}
+use Rattle.kcall_core.proofs.Prelude.{inl, inr, IsSound, Kernel, length, length-map, List, Live_state, map, None, NPROC, Option, option_map, option_map_id, place_at, place_is_live, Process}
+use Rattle.kcall_core.proofs.Prelude.{process_of, refl, Registers, same_channel, Slots, Some, state_channel, state_of, state_status, state_woken, state_woken_by, status_of, sym, true, unless_woken}
+use Rattle.kcall_core.proofs.Prelude.{without, woken, woken_by, Zombie_state}
+use Rattle.std.proofs.lemmas.List.{get_or-map}
 use Rattle.kcall_core.proofs.table.Adopted.{changed-state, changed-sound}
+use Rattle.proc_table.specs.declared.process.State as table
 
 -- ---- one process
 

@@ -1,33 +1,12 @@
 -- The children that a table has are those that its process sees; the ended child of least pid is the one that wait takes.
-use Rattle.std.proofs.Common.{◌≡◌, ◌≢◌, ℕ, suc, ◌<◌, ◌≤◌, T, ◌||◌, Bool, true, false, cond, List, [], ◌∷◌, map, get_or, Option, Some, None, inl, inr, ◌⊎◌, refl, sym, ap, ◌∙◌, subst, arith}
-use Rattle.std.specs.Prelude.{ℤ, is_some, nat_eq, find}
-use Rattle.std.specs.Ordering.{nat_cmp, is_lt}
+use Rattle.kcall_core.proofs.Prelude.{[], ℕ, ℤ, ◌<◌, ◌||◌, ◌∙◌, ◌∷◌, ◌≡◌, ◌≢◌, ◌≤◌, ◌⊎◌, ap, arith, Bool, both_ways, by_status, cases_eq, cases_lt, Child, child_of, child_seen, cond, descriptors_at}
+use Rattle.kcall_core.proofs.Prelude.{each_of, entries, entries_sorted, eqb_tells, false, find, first, get, get_or, Hart, has_status, HasChild, HasNoChild, HasNoneEnded, Held, held_at, inl, inr}
+use Rattle.kcall_core.proofs.Prelude.{is_lt, is_parent, is_some, is_this, IsTable, Kernel, keys, List, list_any, listed, live_of, map, nat_cmp, nat_cmp_is, nat_eq, None, none_from_is_some, Option}
+use Rattle.kcall_core.proofs.Prelude.{or_right, place_at, place_is_child, Process, process_of, refl, Registers, regs_at, second, slot_of, Slots, Some, State, state_of, status_of, subst, suc, sym, T}
+use Rattle.kcall_core.proofs.Prelude.{TakesLeast, true, Zombie}
 use Rattle.std.specs.declared.cmp.Ordering.TheVariants.{Equal, Greater}
-use Rattle.std.specs.Cmp.{nat_cmp_is}
-use Rattle.std.specs.List.{list_any}
-use Rattle.std.specs.FinMap.{get, keys, entries, entries_sorted}
 use Rattle.std.specs.FinMap.Entries.{is_sorted, below_all}
-use Rattle.std.proofs.lemmas.Bool.{cases_eq, cases_lt, both_ways, or_right}
-use Rattle.std.proofs.lemmas.Bool.Decides.{eqb_tells}
-use Rattle.hart_core.specs.declared.hart.Hart.{Hart}
-use Rattle.rv64i_core.specs.Registers.{Registers}
-use Rattle.proc_table.specs.Processes.{is_parent, status_of}
-use Rattle.proc_table.specs.Slots.{Slots, place_at, descriptors_at, slot_of, IsTable}
-use Rattle.proc_table.specs.Reaping.{HasChild, HasNoChild, HasNoneEnded, TakesLeast, place_is_child}
-use Rattle.proc_table.specs.declared.process.Process.{Process}
-use Rattle.kernel_spec.specs.views.Words.{is_this}
-use Rattle.kernel_spec.specs.views.Processes.{Zombie, Child, has_status}
-use Rattle.kernel_spec.specs.views.State.{State}
-use Rattle.kernel_spec.specs.views.View.{child_of}
-use Rattle.kcall_core.specs.Observers.{child_seen}
-use Rattle.kcall_core.specs.Holdings.{Held, held_at}
-use Rattle.kcall_core.specs.Memories.{each_of}
-use Rattle.kcall_core.specs.Kernel.{live_of, by_status, process_of, regs_at, state_of}
-use Rattle.kcall_core.specs.declared.kernel.Kernel.{Kernel}
-use Rattle.kernel_spec.proofs.steps.MapsAfterChange.{first, second}
 use Rattle.kcall_core.proofs.table.Observed.{slot-found, entry-held, pid-missing}
-use Rattle.kernel_spec.proofs.turns.KeepsSlots.{listed}
-use Rattle.kernel_spec.proofs.Common.{none_from_is_some}
 
 -- ---- lists of pids
 

@@ -1,18 +1,7 @@
 -- A turn: the slot that runs next is noted, and nothing else of the state is another.
-use Rattle.std.proofs.Common.{◌≡◌, ℕ, ◌<◌, true, Option, Some, None, refl, sym, ap, ◌∙◌, subst}
-use Rattle.std.specs.Prelude.{option_map}
-use Rattle.std.proofs.lemmas.Option.{none-some}
-use Rattle.std.proofs.lemmas.Bool.{false≢true}
-use Rattle.xk_base.specs.declared.limits.TheConstants.{NPROC}
-use Rattle.hart_core.specs.declared.hart.Hart.{Hart}
+use Rattle.kcall_core.proofs.Prelude.{ℕ, ◌<◌, ◌∙◌, ◌≡◌, ap, false≢true, Hart, IsSound, Kernel, Live_state as Live, None, none-some, NPROC, Option, option_map, or_nobody, pid_at, pid_now, place_at}
+use Rattle.kcall_core.proofs.Prelude.{place_is_runnable, Process, process_pid, refl, slot_now, Slots, Some, state_of, state_runnable, state_status, status_of, subst, sym, true, Zombie_state as Zombie}
 use Rattle.proc_table.specs.declared.process.State.{State}
-use Rattle.proc_table.specs.declared.process.State.TheVariants.{Live, Zombie}
-use Rattle.proc_table.specs.declared.process.Process.{Process}
-use Rattle.proc_table.specs.Processes.{state_runnable, state_status, status_of}
-use Rattle.proc_table.specs.Slots.{Slots, place_at, pid_at, process_pid}
-use Rattle.proc_table.specs.Turns.{place_is_runnable}
-use Rattle.kcall_core.specs.Kernel.{or_nobody, slot_now, pid_now, state_of, IsSound}
-use Rattle.kcall_core.specs.declared.kernel.Kernel.{Kernel}
 
 pub live-state : (s : State) → state_runnable s ≡ true → state_status s ≡ None
 live-state (Live life) e = refl

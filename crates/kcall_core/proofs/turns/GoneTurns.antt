@@ -1,35 +1,14 @@
 -- Who has a slot and who sleeps once the process that ran is gone.
-use Rattle.std.proofs.Common.{◌≡◌, ◌≢◌, ℕ, Bool, true, cond, Option, Some, None, inl, inr, refl, sym, ap, ◌∙◌}
-use Rattle.std.specs.Prelude.{ℤ, option_map}
-use Rattle.std.specs.FinMap.{FinMap, get}
-use Rattle.std.specs.FinSet.{contains}
-use Rattle.std.specs.Ordering.{nat_cmp}
-use Rattle.std.proofs.lemmas.Bool.{cases_eq}
-use Rattle.std.proofs.lemmas.Option.{none-some}
-use Rattle.xk_base.specs.declared.limits.TheConstants.{NPROC}
-use Rattle.hart_core.specs.declared.hart.Hart.{Hart}
-use Rattle.file_table.specs.declared.open_file.OpenFile.{OpenFile}
-use Rattle.proc_table.specs.declared.channel.Channel.{Channel}
-use Rattle.proc_table.specs.declared.process.State as table
-use Rattle.proc_table.specs.declared.process.State.TheVariants.{Live as Live_state, Zombie as Zombie_state}
-use Rattle.proc_table.specs.declared.process.Process.{Process}
-use Rattle.proc_table.specs.Processes.{status_of, state_status, channel_of, state_channel}
-use Rattle.proc_table.specs.Slots.{place_at, process_pid, pid_at}
-use Rattle.kernel_spec.specs.steps.Own.{Answer, Stepped, Called, Blocked, Exited, Faulted, gone_with}
-use Rattle.kernel_spec.specs.rows.Calls.{gone}
-use Rattle.kernel_spec.specs.runs.Run.{TurnsAfter, IsBlocked, stays_current, halts_with}
-use Rattle.kcall_core.specs.Kernel.{IsRunning, or_nobody, slot_now, pid_now}
-use Rattle.kcall_core.specs.Machine.{slots_of, sleepers_below, turns_of}
-use Rattle.kcall_core.specs.Whole.{IsWhole}
-use Rattle.kcall_core.specs.Makes.{view_now}
-use Rattle.kernel_spec.specs.views.View.{view_of}
-use Rattle.kcall_core.specs.declared.kernel.Kernel.{Kernel}
+use Rattle.kcall_core.proofs.Prelude.{ℕ, ℤ, ◌∙◌, ◌≡◌, ◌≢◌, Answer, ap, Blocked, Bool, Called, cases_eq, Channel, channel_of, cond, contains, Exited, Faulted, FinMap, get, gone, gone_with, halts_with}
+use Rattle.kcall_core.proofs.Prelude.{Hart, inl, inr, IsBlocked, IsRunning, IsWhole, Kernel, Live_state, nat_cmp, None, none-some, NPROC, OpenFile, Option, option_map, or_nobody, pid_at, pid_now}
+use Rattle.kcall_core.proofs.Prelude.{place_at, Process, process_pid, refl, sleepers_below, slot_now, slots_of, Some, state_channel, state_status, status_of, stays_current, Stepped, sym, true}
+use Rattle.kcall_core.proofs.Prelude.{turns_of, TurnsAfter, unless_woken, view_now, view_of, Zombie_state}
 use Rattle.kcall_core.proofs.table.States.{Running, running}
 use Rattle.kcall_core.proofs.turns.Turned.{slots-same}
 use Rattle.kcall_core.proofs.turns.StepSlots.{no-slot}
 use Rattle.kcall_core.proofs.making.Sleepers.{elsewhere, on-it-still}
 use Rattle.kcall_core.proofs.processes.Departs.{seat, seat_woken, Departs}
-use Rattle.kcall_core.specs.Closings.{unless_woken}
+use Rattle.proc_table.specs.declared.process.State as table
 
 -- ---- a process of the table
 

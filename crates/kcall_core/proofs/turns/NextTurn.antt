@@ -1,39 +1,15 @@
 -- A turn: whoever runs next may run and is the nearest, and the kernel is whole again.
-use Rattle.std.proofs.Common.{◌≡◌, ℕ, ◌<◌, ◌≤◌, true, false, length, Option, Some, None, refl, sym, ap, ◌∙◌, subst}
-use Rattle.std.specs.Prelude.{IsSome, option_map, is_some, is_none, ℤ}
-use Rattle.std.specs.Ordering.{nat_cmp}
-use Rattle.std.specs.FinMap.{get}
-use Rattle.std.specs.FinSet.{FinSet, contains}
-use Rattle.std.proofs.lemmas.Option.{none-some, same_Some}
-use Rattle.std.proofs.lemmas.Bool.{true≢false}
-use Rattle.xk_base.specs.declared.limits.TheConstants.{NPROC}
-use Rattle.hart_core.specs.declared.hart.Hart.{Hart}
-use Rattle.proc_table.specs.declared.channel.Channel.{Channel}
+use Rattle.kcall_core.proofs.Prelude.{ℕ, ℤ, ◌<◌, ◌∙◌, ◌≡◌, ◌≤◌, ap, Channel, channel_of, contains, distance, false, FinSet, get, Hart, Holds, is_for, is_none, is_runnable, is_some, IsNearest}
+use Rattle.kcall_core.proofs.Prelude.{IsRunnable, IsSome, IsSound, IsTable, IsWhole, KeepBuffers, Kernel, length, live, Live_state as Live, nat_cmp, None, none-some, none_from_is_none, NPROC, Option}
+use Rattle.kcall_core.proofs.Prelude.{option_map, pid_at, place_at, place_is_runnable, Process, process_pid, refl, same_Some, sleepers_below, Sleeps, slot_of, Slots, slots_of, Some, state_channel}
+use Rattle.kcall_core.proofs.Prelude.{state_of, state_runnable, state_status, status_of, subst, sym, true, true≢false, Turn, turns_of, TurnTaken, view, view_of, waits_for, WellFormed, world_of}
+use Rattle.kcall_core.proofs.Prelude.{Zombie_state as Zombie}
 use Rattle.proc_table.specs.declared.process.State.{State}
-use Rattle.proc_table.specs.declared.process.State.TheVariants.{Live, Zombie}
-use Rattle.proc_table.specs.declared.process.Process.{Process}
-use Rattle.proc_table.specs.Processes.{state_runnable, state_status, state_channel, is_runnable, status_of, channel_of}
-use Rattle.proc_table.specs.Slots.{Slots, Holds, place_at, pid_at, process_pid, slot_of, IsTable}
-use Rattle.proc_table.specs.Turns.{place_is_runnable, distance}
-use Rattle.kernel_spec.specs.views.Processes as meaning
-use Rattle.kernel_spec.specs.views.State as states
-use Rattle.kernel_spec.specs.views.State.{live}
-use Rattle.kernel_spec.specs.views.View.{view, view_of}
-use Rattle.kernel_spec.specs.views.WellFormed.{WellFormed}
-use Rattle.kernel_spec.specs.waking.Turns.{Sleeps}
-use Rattle.kernel_spec.specs.runs.Run.{Turn, TurnTaken}
-use Rattle.kernel_spec.specs.waking.Wakes.{IsRunnable, IsNearest}
-use Rattle.kernel_spec.specs.waking.Conditions.{waits_for}
-use Rattle.kcall_core.specs.Kernel.{state_of, IsSound}
-use Rattle.kcall_core.specs.Machine.{slots_of, sleepers_below, turns_of, world_of}
-use Rattle.kcall_core.specs.Buffers.{KeepBuffers}
-use Rattle.kcall_core.specs.Whole.{IsWhole}
-use Rattle.kernel_spec.specs.waking.SleepsOn.{is_for}
-use Rattle.kernel_spec.proofs.Common.{none_from_is_none}
-use Rattle.kcall_core.specs.declared.kernel.Kernel.{Kernel}
 use Rattle.kcall_core.proofs.turns.Chosen.{pid-told, live-state}
 use Rattle.kcall_core.proofs.table.Observed.{slot-found, live-held, ended-held, missing-live}
 use Rattle.kcall_core.proofs.turns.Turned.{slot-is, slot-from, sleeps-is, awake-is, sleepers-same}
+use Rattle.kernel_spec.specs.views.Processes as meaning
+use Rattle.kernel_spec.specs.views.State as states
 
 -- ---- who may run
 

@@ -1,21 +1,7 @@
 -- Who has a slot after a step: where it makes no process and takes none away, whoever had it before.
-use Rattle.std.proofs.Common.{◌≡◌, ℕ, true, subst, Option, Some, None, refl, sym, ap, ◌∙◌}
-use Rattle.std.specs.Prelude.{IsSome, is_some, option_map, Contains, MatchOption}
-use Rattle.std.specs.FinMap.{get, keys}
-use Rattle.std.proofs.lemmas.Option.{none-some}
-use Rattle.hart_core.specs.declared.hart.Hart.{Hart}
-use Rattle.proc_table.specs.Slots.{IsTable, process_pid}
-use Rattle.proc_table.specs.declared.process.Process.{Process}
-use Rattle.kernel_spec.specs.views.State.{State}
-use Rattle.kernel_spec.specs.views.View.{View}
-use Rattle.kernel_spec.specs.steps.Own.{Own, gone_with}
-use Rattle.kernel_spec.specs.waking.Turns.{Turns, Sleeps, HasSlot, IsLowestFree}
-use Rattle.kernel_spec.specs.runs.Run.{halts_with}
-use Rattle.kcall_core.specs.Kernel.{state_of, pid_now}
-use Rattle.kcall_core.specs.Machine.{slots_of, turns_of}
-use Rattle.kcall_core.specs.declared.kernel.Kernel.{Kernel}
+use Rattle.kcall_core.proofs.Prelude.{ℕ, ◌∙◌, ◌≡◌, ap, Contains, get, gone_with, halts_with, Hart, HasSlot, is_listed, is_some, IsLowestFree, IsSome, IsTable, Kernel, keys, MatchOption, None}
+use Rattle.kcall_core.proofs.Prelude.{none-some, Option, option_map, Own, pid_now, Process, process_pid, refl, Sleeps, slots_of, Some, State, state_of, subst, sym, true, Turns, turns_of, View}
 use Rattle.kcall_core.proofs.table.Observed.{entry-held}
-use Rattle.kernel_spec.proofs.turns.KeepsSlots.{is_listed}
 use Rattle.kcall_core.proofs.turns.Turned.{slot-from}
 
 -- who has a slot after the step

@@ -1,39 +1,17 @@
 -- The turn part that a kernel stands for: the slots of its processes, and those that sleep.
-use Rattle.std.proofs.Common.{◌≡◌, ℕ, zero, suc, ◌<◌, Bool, true, false, cond, ◌||◌, Option, Some, None, inl, inr, ◌⊎◌, refl, sym, ap, ◌∙◌, arith}
-use Rattle.std.specs.Prelude.{ℤ, IsSome, is_some, option_map, nat_eq}
-use Rattle.std.specs.Ordering.{nat_cmp}
-use Rattle.std.specs.Cmp.{nat_cmp_total, unsigned_tied}
-use Rattle.std.specs.FinMap.{get, get-empty}
-use Rattle.std.specs.FinSet.{FinSet, contains, insert, contains-empty, contains-insert}
-use Rattle.std.proofs.lemmas.Bool.{cases_eq, cases_lt, eq-eqb, false≢true, both_ways}
-use Rattle.std.proofs.lemmas.Bool.Decides.{eqb_tells}
-use Rattle.std.proofs.lemmas.List.{get_or_past}
-use Rattle.std.proofs.lemmas.Option.{none-some, same_Some}
-use Rattle.xk_base.specs.declared.limits.TheConstants.{NPROC}
-use Rattle.hart_core.specs.declared.hart.Hart.{Hart}
-use Rattle.proc_table.specs.Processes.{status_of, state_status, channel_of, state_channel}
-use Rattle.proc_table.specs.Slots.{Slots, place_at, descriptors_at, process_pid, pid_at, IsTable}
-use Rattle.proc_table.specs.declared.channel.Channel.{Channel}
-use Rattle.proc_table.specs.declared.process.Process.{Process}
-use Rattle.proc_table.specs.declared.process.State as table
-use Rattle.proc_table.specs.declared.process.State.TheVariants as table_state
-use Rattle.kernel_spec.specs.views.Processes as meaning
-use Rattle.kernel_spec.specs.views.Processes.{Alive}
-use Rattle.kernel_spec.specs.views.State.{live}
-use Rattle.kernel_spec.specs.views.Words.{is_this, or_zero}
-use Rattle.kernel_spec.specs.steps.Cases.{IsLive}
-use Rattle.kernel_spec.specs.views.ByPid.{by_pid, put}
-use Rattle.kcall_core.specs.Holdings.{held_at}
-use Rattle.kcall_core.specs.Memories.{each_of}
-use Rattle.kernel_spec.specs.views.WellFormed.{HasSlots}
-use Rattle.kcall_core.specs.Kernel.{live_of, by_status, process_of, entry_at, state_of, or_nobody, slot_now, place_now, pid_now, live_now, IsSound, IsRunning}
-use Rattle.kcall_core.specs.Machine.{slot_entry, slots_of, sleeper_in, with_sleeper, sleepers_below, turns_of}
-use Rattle.kcall_core.specs.Whole.{IsWhole}
-use Rattle.kcall_core.specs.declared.kernel.Kernel.{Kernel}
-use Rattle.kernel_spec.proofs.steps.MapsAfterChange.{get_same, get_other}
+use Rattle.kcall_core.proofs.Prelude.{ℕ, ℤ, ◌<◌, ◌||◌, ◌∙◌, ◌≡◌, ◌⊎◌, Alive, ap, arith, Bool, both_ways, by_pid, by_status, cases_eq, cases_lt, Channel, channel_of, cond, contains, contains-empty}
+use Rattle.kcall_core.proofs.Prelude.{contains-insert, descriptors_at, each_of, entry_at, eq-eqb, eqb_tells, false, false≢true, FinSet, get, get-empty, get_or_past, get_other, get_same, Hart}
+use Rattle.kcall_core.proofs.Prelude.{HasSlots, held_at, inl, inr, is_some, is_this, IsLive, IsRunning, IsSome, IsSound, IsTable, IsWhole, Kernel, live, live_now, live_of, nat_cmp, nat_cmp_total}
+use Rattle.kcall_core.proofs.Prelude.{nat_eq, None, none-some, NPROC, Option, option_map, or_nobody, or_zero, pid_at, pid_now, place_at, place_now, Process, process_of, process_pid, put, refl}
+use Rattle.kcall_core.proofs.Prelude.{same_Some, sleeper_in, sleepers_below, slot_entry, slot_now, Slots, slots_of, Some, state_channel, state_of, state_status, status_of, suc, sym, true, turns_of}
+use Rattle.kcall_core.proofs.Prelude.{unsigned_tied, with_sleeper, zero}
+use Rattle.std.specs.FinSet.{insert}
 use Rattle.kcall_core.proofs.table.ByPid.{found, by_pid-same}
 use Rattle.kcall_core.proofs.table.States.{entry-pid, running}
 use Rattle.kcall_core.proofs.table.Observed.{entry-held, live-held}
+use Rattle.proc_table.specs.declared.process.State as table
+use Rattle.proc_table.specs.declared.process.State.TheVariants as table_state
+use Rattle.kernel_spec.specs.views.Processes as meaning
 
 -- ---- entries by pid
 

@@ -1,12 +1,6 @@
 -- The process that runs: its place in the table, and what it is by the state.
-use Rattle.std.proofs.Common.{◌≡◌, Some, None, sym, ap, ◌∙◌}
-use Rattle.hart_core.specs.declared.hart.Hart.{Hart}
-use Rattle.proc_table.specs.Processes.{status_of}
-use Rattle.proc_table.specs.Slots.{place_at}
-use Rattle.kernel_spec.specs.views.Processes.{Live, Alive}
-use Rattle.kernel_spec.specs.steps.Cases.{IsLive}
-use Rattle.kcall_core.specs.Kernel.{state_of, IsSound, IsRunning, or_nobody, slot_now, place_now, pid_now, live_now}
-use Rattle.kcall_core.specs.declared.kernel.Kernel.{Kernel}
+use Rattle.kcall_core.proofs.Prelude.{◌∙◌, ◌≡◌, Alive, ap, Hart, IsLive, IsRunning, IsSound, Kernel, Live, live_now, None, or_nobody, pid_now, place_at, place_now, slot_now, Some, state_of, status_of}
+use Rattle.kcall_core.proofs.Prelude.{sym}
 use Rattle.kcall_core.proofs.table.States.{running}
 use Rattle.kcall_core.proofs.turns.Turned.{live-is}
 

@@ -1,14 +1,8 @@
 -- Worked cases of what an open asks for.
-use Rattle.std.proofs.Common.{◌≡◌, ℕ, true, false, List, [], ◌∷◌, Some, None, refl}
-use Rattle.std.specs.Prelude.{pos, negsuc, codes}
-use Rattle.file_table.specs.declared.open_file.Target.TheVariants as on
-use Rattle.kernel_spec.specs.rows.Buffers.{no_slashes}
-use Rattle.kernel_spec.specs.views.State.{ProgramFile}
-use Rattle.file_table.specs.declared.open_file.End.TheVariants.{Reading}
-use Rattle.pipe_core.specs.Pipe.{new_pipe}
-use Rattle.kernel_spec.specs.views.View.{Shown_terminal, Shown_file, Shown_pipe}
-use Rattle.kcall_core.specs.Opens.{asked_in, name_asked, file_asked}
+use Rattle.kcall_core.proofs.Prelude.{[], ℕ, ◌∷◌, ◌≡◌, asked_in, codes, false, file_asked, List, name_asked, negsuc, new_pipe, no_slashes, None, pos, ProgramFile, Reading, refl, Shown_file}
+use Rattle.kcall_core.proofs.Prelude.{Shown_pipe, Shown_terminal, Some, true}
 use Rattle.kcall_core.specs.declared.kernel.opening.Asked.TheVariants.{Terminal, Program}
+use Rattle.file_table.specs.declared.open_file.Target.TheVariants as on
 
 abbrev file_of : List ℕ → ProgramFile
 file_of name = record { name = name; bytes = [] }

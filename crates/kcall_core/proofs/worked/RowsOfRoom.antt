@@ -1,18 +1,6 @@
 -- Worked cases of the bounds on what counts descriptors.
-use Rattle.std.proofs.Common.{◌≡◌, ◌+◌, ◌-◌, ◌<◌, None, Some, arith}
-use Rattle.std.specs.FinMap.{get}
-use Rattle.xk_base.specs.declared.limits.TheConstants.{NPROC, NOFILE, OPEN_FILES}
-use Rattle.hart_core.specs.declared.hart.Hart.{Hart}
-use Rattle.pipe_core.specs.Pipe.{Pipe}
-use Rattle.pipe_core.specs.declared.TheConstants.{END_COUNT_MAX}
-use Rattle.file_table.specs.Named.{named_by}
-use Rattle.file_table.specs.OpenFiles.{count_at, open_count}
-use Rattle.file_table.specs.declared.open_file.End.TheVariants.{Reading, Writing}
-use Rattle.file_table.specs.declared.open_file.TheConstants.{SHARERS_MAX}
-use Rattle.proc_table.specs.Slots.{descriptors_at}
-use Rattle.kcall_core.specs.Kernel.{state_of}
-use Rattle.kcall_core.specs.Room.{HasRoom}
-use Rattle.kcall_core.specs.declared.kernel.Kernel.{Kernel}
+use Rattle.kcall_core.proofs.Prelude.{◌+◌, ◌-◌, ◌<◌, ◌≡◌, arith, count_at, descriptors_at, END_COUNT_MAX, get, Hart, HasRoom, Kernel, named_by, NOFILE, None, NPROC, open_count, OPEN_FILES, Pipe}
+use Rattle.kcall_core.proofs.Prelude.{Reading, SHARERS_MAX, Some, state_of, Writing}
 
 module _ (k : Kernel) (h : Hart) (room : HasRoom k h) where
   -- no open file has as many descriptors as it can count

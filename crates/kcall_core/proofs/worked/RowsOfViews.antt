@@ -1,25 +1,9 @@
 -- Worked cases of what a view holds, of what of it is shared with others, and of what the step of another process may change in it.
 -- If two things differ in one part alone, what shows this part tells them apart, and what doesn't show it is the same.
-use Rattle.std.proofs.Common.{◌≡◌, ◌≢◌, ℕ, Bool, true, false, ◌||◌, List, [], ◌∷◌, refl, ap, ◌∙◌}
-use Rattle.std.specs.Prelude.{Option, None, Some, zero, suc, pos, negsuc}
-use Rattle.std.specs.FinMap.{get, keys}
-use Rattle.xk_base.specs.Image.{Image}
-use Rattle.xk_base.specs.Words.{least_below}
-use Rattle.rv64i_core.specs.Registers.{Registers, with_pc}
-use Rattle.pipe_core.specs.Pipe.{Pipe}
-use Rattle.console_core.specs.Lists.{Console}
-use Rattle.file_table.specs.declared.open_file.End.{End}
-use Rattle.file_table.specs.declared.open_file.End.TheVariants.{Reading, Writing}
-use Rattle.file_table.specs.declared.open_file.Target.TheVariants.{Console as Terminal, Program as File, Pipe as Pipe_end}
-use Rattle.proc_table.specs.declared.process.Call.{Call}
-use Rattle.kernel_spec.specs.views.Processes.{Live, Alive, Zombie, Child, Running, Status}
-use Rattle.kernel_spec.specs.views.State.{State, ProgramFile, live}
-use Rattle.kcall_core.specs.Observers.{if_live, child_at}
-use Rattle.kernel_spec.specs.views.View.{View, Descriptors, Descriptor, Shown, Shown_terminal, Shown_file, Shown_pipe, view_of, child_of, named, or_gone}
-use Rattle.kernel_spec.specs.views.Words.{is_this}
-use Rattle.kernel_spec.specs.steps.Own.{Own}
-use Rattle.kernel_spec.specs.others.Quiet.{seen, seen_children}
-use Rattle.kernel_spec.proofs.steps.SeenByParts.{seen_descriptor, descriptor_on}
+use Rattle.kcall_core.proofs.Prelude.{[], ℕ, ◌||◌, ◌∙◌, ◌∷◌, ◌≡◌, ◌≢◌, Alive, ap, Bool, Call, Child, child_at, child_of, Console, Descriptor, descriptor_on, Descriptors, End, false, File, get}
+use Rattle.kcall_core.proofs.Prelude.{if_live, Image, is_this, keys, least_below, List, Live, live, named, negsuc, None, Option, or_gone, Own, Pipe, Pipe_end, pos, ProgramFile, Reading, refl}
+use Rattle.kcall_core.proofs.Prelude.{Registers, Running, seen, seen_children, seen_descriptor, Shown, Shown_file, Shown_pipe, Shown_terminal, Some, State, Status, suc, Terminal, true, View, view_of}
+use Rattle.kcall_core.proofs.Prelude.{with_pc, Writing, zero, Zombie}
 use Rattle.kernel_spec.specs.views.Shared.{Nothing_shared, Offset, Content, shared_part, Shared, shared}
 
 -- ---- what is shared

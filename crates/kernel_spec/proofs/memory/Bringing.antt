@@ -1,18 +1,7 @@
 -- What may be read and written once pages are touched is what may be in the whole image.
-use Rattle.std.proofs.Common.{◌≡◌, ℕ, zero, suc, ◌+◌, ◌-◌, ◌*◌, ◌/◌, ◌^◌, ◌≤◌, Bool, true, false, ◌&&◌, ◌||◌, cond, Some, inl, inr, refl, sym, ap, ◌∙◌, arith}
-use Rattle.std.specs.Prelude.{is_some, not, option_map}
-use Rattle.std.specs.List.{list_all, range_with_len}
-use Rattle.std.specs.FinMap.{get}
-use Rattle.std.proofs.lemmas.Bool.{cases_lt, and_from, and_parts, le-ltb}
-use Rattle.xk_base.specs.Image.{Image}
-use Rattle.xk_base.specs.declared.limits.TheConstants.{SIZE_LIMIT}
-use Rattle.xk_base.specs.declared.access.Access.{Access}
-use Rattle.addr_space.specs.Absent.{is_absent, whole}
-use Rattle.xk_base.specs.Access.{data_rights}
-use Rattle.addr_space.specs.Changes.{zeroed, perm_of_page}
-use Rattle.addr_space.proofs.Touching.{whole-get, whole-past}
-use Rattle.user_copy.specs.Reach.{allows, may, reaches}
-use Rattle.kernel_spec.specs.rows.Buffers.{may_touching, reaches_touching}
+use Rattle.kernel_spec.proofs.Prelude.{ℕ, ◌&&◌, ◌*◌, ◌+◌, ◌-◌, ◌/◌, ◌^◌, ◌||◌, ◌∙◌, ◌≡◌, ◌≤◌, Access, allows, and_from, and_parts, ap, arith, Bool, cases_lt, cond, data_rights, false, get, Image, inl}
+use Rattle.kernel_spec.proofs.Prelude.{inr, is_absent, is_some, le-ltb, list_all, may, may_touching, not, option_map, perm_of_page, range_with_len, reaches, reaches_touching, refl, SIZE_LIMIT, Some}
+use Rattle.kernel_spec.proofs.Prelude.{suc, sym, true, whole, whole-get, whole-past, zero, zeroed}
 
 -- no page of the upper half is absent
 pub high-present : (i : Image) (v : ℕ) → i.size ≤ SIZE_LIMIT → 2 ^ 26 ≤ v → is_absent i v ≡ false

@@ -1,37 +1,19 @@
 -- Instructions and touched pages, over plain images: what an instruction finds is the same once some pages are touched,
 -- and one that is on an absent page is done once that page is there.
-use Rattle.std.proofs.Common.{◌≡◌, ℕ, zero, suc, ◌+◌, ◌*◌, ◌/◌, ◌%◌, ◌^◌, ◌<◌, ◌≤◌, Bool, true, false, cond, eqb, ◌&&◌, ◌||◌, List, [], ◌∷◌, Option, Some, None, refl, sym, ap, subst, ◌∙◌, arith}
-use Rattle.std.specs.Prelude.{Result, Ok, Err, slice_index, if◌then◌else◌, unwrap_or}
-use Rattle.std.proofs.lemmas.Bool.{and_parts, false≢true, eqb-true, and_right}
-use Rattle.std.specs.FinMap.{get}
-use Rattle.xk_base.specs.Image.{Page, Image, with_page}
-use Rattle.xk_base.specs.Words.{le, le_bytes}
-use Rattle.xk_base.specs.declared.access.Cause.{Cause}
-use Rattle.xk_base.specs.declared.access.Cause.TheVariants.{FetchPageFault, LoadPageFault, StorePageFault, LoadMisaligned, StoreMisaligned, TargetMisaligned}
-use Rattle.phys_ram.specs.Ram.{zero_frame}
-use Rattle.rv64i_core.specs.Registers.{Registers, reg, add, put, with_pc, after}
-use Rattle.rv64i_core.specs.Table.{decoded}
-use Rattle.rv64i_core.specs.Memory.{Cell, Memory, Store, cell_byte, bytes_at, or_fault, bytes_of_width, fetched, loaded, storing}
-use Rattle.rv64i_core.specs.Step.{Step, Next, Ecall, Fault, instr, row, row_of, step_of_word}
-use Rattle.rv64i_core.specs.Step.{load_step, load_width, store_step, store_width, jump, branch, is_taken, extended}
-use Rattle.rv64i_core.specs.Step.{address_used, data_address, data_address_of, instruction_of, or_pc, is_data_page_fault, stop_of}
-use Rattle.rv64i_core.specs.declared.execution.Stop.TheVariants as stops
-use Rattle.rv64i_core.specs.declared.access_width.Width.{Width}
-use Rattle.rv64i_core.specs.declared.instruction.Instr.{Instr}
-use Rattle.rv64i_core.specs.declared.instruction.Instr.TheVariants.{Lui, Auipc, Jal, Jalr, Branch, Load, Store as StoreInstr, OpImm}
-use Rattle.rv64i_core.specs.declared.instruction.Instr.TheVariants.{ShiftImm, Op, AddImmW, ShiftImmW, OpW, Fence, Ecall as EcallInstr, Ebreak}
-use Rattle.rv64i_core.specs.declared.instruction.LoadOp.{LoadOp}
+use Rattle.kernel_spec.proofs.Prelude.{[], ℕ, ◌%◌, ◌&&◌, ◌*◌, ◌+◌, ◌/◌, ◌<◌, ◌^◌, ◌||◌, ◌∙◌, ◌∷◌, ◌≡◌, ◌≤◌, add, AddImmW, address_used, after, and_parts, and_right, ap, arith, Auipc}
+use Rattle.kernel_spec.proofs.Prelude.{before_instruction, before_step, Bool, Branch, branch, brought, bytes_at, bytes_of_width, Cause, Cell, cell_byte, cell_in, cond, data_address, data_address_of}
+use Rattle.kernel_spec.proofs.Prelude.{data_rights, decoded, Ebreak, Ecall, EcallInstr, eqb, eqb-true, Err, extended, false, false≢true, Fault, Fence, fetched, FetchPageFault, get, if◌then◌else◌}
+use Rattle.kernel_spec.proofs.Prelude.{Image, Instr, instr, instruction_of as row_of, instruction_row as row, is_absent, is_data_page_fault, is_taken, Jal, Jalr, jump, le, le_bytes, List, Load}
+use Rattle.kernel_spec.proofs.Prelude.{load_step, load_width, LoadMisaligned, LoadOp, LoadPageFault, Lui, Memory, Next, next_instruction, None, Ok, Op, OpImm, Option, OpW, or_fault, or_pc, Page}
+use Rattle.kernel_spec.proofs.Prelude.{page_used, put, refl, reg, Registers, Result, ShiftImm, ShiftImmW, slice_index, Some, Step, step_of_word, stop_of, Store, store_step, store_width, StoreInstr}
+use Rattle.kernel_spec.proofs.Prelude.{StoreMisaligned, StorePageFault, storing, subst, suc, sym, TargetMisaligned, touch, true, unwrap_or, user, View, Width, with_page, with_pc, within-page, zero}
+use Rattle.kernel_spec.proofs.Prelude.{zero_frame, zeroed}
+use Rattle.rv64i_core.specs.Memory.{loaded}
+use Rattle.rv64i_core.specs.Step.{instruction_of}
 use Rattle.rv64i_core.specs.declared.instruction.StoreOp.{StoreOp}
-use Rattle.rv64i_core.specs.UserImage.{user, cell_in}
-use Rattle.rv64i_core.proofs.Aligned.{within-page}
-use Rattle.addr_space.specs.Absent.{is_absent, brought}
-use Rattle.xk_base.specs.Access.{data_rights}
-use Rattle.addr_space.specs.Changes.{zeroed}
-use Rattle.kernel_spec.specs.steps.Instruction.{next_instruction}
-use Rattle.kernel_spec.specs.rows.Touches.{before_step, touch, page_used, before_instruction}
-use Rattle.kernel_spec.specs.views.View.{View}
 use Rattle.kernel_spec.proofs.rows.Settled.{there-not-absent, brought-there, touch-none}
 use Rattle.kernel_spec.proofs.steps.MapsAfterChange.{get_same}
+use Rattle.rv64i_core.specs.declared.execution.Stop.TheVariants as stops
 
 -- a load or a store faults for its page
 abbrev pub faults_on_data : Step → Bool

@@ -1,5 +1,5 @@
 -- The texts that pointers lead to, taken apart: a word for each part of `texts_at`, for lemmas to speak of.
-use Rattle.std.specs.Prelude.{ℕ, if◌then◌else◌, List, [], ◌∷◌, Option, Some, nat_eq, option_map}
+use Rattle.kernel_spec.proofs.Prelude.{[], ℕ, ◌∷◌, if◌then◌else◌, List, nat_eq, Option, option_map, Some}
 use Rattle.kernel_spec.specs.views.Words.{◌>>=◌}
 
 abbrev pub with_text : Option (List ℕ) → Option (List (List ℕ)) → Option (List (List ℕ))

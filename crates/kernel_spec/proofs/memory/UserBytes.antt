@@ -1,26 +1,10 @@
 -- What the kernel may read and write for a process is what user code may; and numbers and texts, byte by byte. Absent pages read as zeros.
-use Rattle.std.proofs.Common.{◌≡◌, ◌≢◌, ℕ, zero, suc, ◌+◌, ◌-◌, ◌/◌, ◌%◌, ◌^◌, ◌<◌, ◌≤◌, Bool, true, false, cond}
-use Rattle.std.proofs.Common.{◌&&◌, List, take, ◌++◌, [], ◌∷◌, Option, Some, None, inl, inr, refl, sym, ap, ◌∙◌, arith}
-use Rattle.std.specs.Prelude.{option_map, if◌then◌else◌, ◌==◌}
-use Rattle.std.proofs.lemmas.Bool.{cases_lt, cases_eq, and_from, and_parts, eq-eqb, ne_eqb, false≢true}
-use Rattle.std.proofs.Math.Seq.{take-append_seam}
-use Rattle.std.proofs.lemmas.List.FromFn.{length-map-range_with_len}
-use Rattle.std.specs.FinMap.{get}
-use Rattle.xk_base.specs.Image.{Page, Image}
-use Rattle.xk_base.specs.Bytes.{image_byte, image_bytes, byte_in}
-use Rattle.xk_base.specs.Words.{le}
-use Rattle.xk_base.specs.declared.limits.TheConstants.{SIZE_LIMIT}
-use Rattle.xk_base.specs.declared.access.Access.TheVariants.{Load, Store}
-use Rattle.xk_base.proofs.Least.{none_below}
-use Rattle.addr_space.specs.Changes.{perm_of_page}
-use Rattle.addr_space.specs.Absent.{whole}
-use Rattle.addr_space.proofs.Touching.{LowPages, whole-byte, whole-bytes}
-use Rattle.rv64i_core.specs.Memory.{Cell}
-use Rattle.rv64i_core.specs.UserImage.{cell_in, user}
-use Rattle.user_copy.specs.Reach.{allows, may, reaches, ends_after, text_length}
-use Rattle.user_copy.proofs.Ranges.{reaches-none, reaches-not, reaches-fewer, may-past}
+use Rattle.kernel_spec.proofs.Prelude.{[], ℕ, ◌%◌, ◌&&◌, ◌++◌, ◌+◌, ◌-◌, ◌/◌, ◌<◌, ◌==◌, ◌^◌, ◌∙◌, ◌∷◌, ◌≡◌, ◌≢◌, ◌≤◌, allows, and_from, and_parts, ap, arith, Bool, byte_in, cases_eq, cases_lt, Cell}
+use Rattle.kernel_spec.proofs.Prelude.{cell_in, cond, ends_after, eq-eqb, false, false≢true, get, if◌then◌else◌, Image, image_byte, image_bytes, inl, inr, le, length-map-range_with_len, List}
+use Rattle.kernel_spec.proofs.Prelude.{LowPages, may, may-past, ne_eqb, None, none_below, Option, option_map, Page, perm_of_page, pointer_at, reaches, reaches-fewer, reaches-none, reaches-not, refl}
+use Rattle.kernel_spec.proofs.Prelude.{SIZE_LIMIT, Some, Storing as Store, suc, sym, take, take-append_seam, text_at, text_from, text_length, true, user, whole, whole-byte, whole-bytes, zero}
+use Rattle.xk_base.specs.declared.access.Access.TheVariants.{Load}
 use Rattle.user_copy.proofs.Texts.{text-readable}
-use Rattle.kernel_spec.specs.rows.Buffers.{text_from, text_at, pointer_at}
 use Rattle.kernel_spec.proofs.memory.Bringing.{may-whole, reaches-whole}
 use Rattle.kernel_spec.proofs.steps.LeastPasses.{least_passes, least_least}
 

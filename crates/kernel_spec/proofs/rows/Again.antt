@@ -1,42 +1,18 @@
 -- A process that waits, and isn't ready, waits again and changes nothing.
-use Rattle.std.proofs.Common.{◌≡◌, ℕ, ◌<◌, ◌≤◌, ◌+◌, ◌-◌, ◌++◌, Bool, true, false, cond, not, ◌&&◌, ◌||◌, List, [], length, refl, ap, sym, ◌∙◌, subst, arith, inl, inr, lt-ltb}
-use Rattle.std.specs.Prelude.{Option, None, Some, ℤ, pos, negsuc, nat_eq, nat_lt, nat_le, is_some, min, slice_get, take, drop, option_map}
-use Rattle.std.proofs.lemmas.Bool.{ltb-true, or_parts, cond-false, cond-true, ltb-false, not-false}
-use Rattle.std.proofs.lemmas.Bool.Decides.{leb_tells}
-use Rattle.std.proofs.lemmas.List.{append-nil, length-take}
-use Rattle.std.proofs.lemmas.Option.{same_Some}
-use Rattle.std.proofs.Math.Nat.{add-zero}
-use Rattle.xk_base.specs.declared.limits.TheConstants.{PIPE_BYTES, SEND_BYTES}
-use Rattle.xk_base.specs.Image.{Image}
-use Rattle.xk_base.specs.Bytes.{write_image}
-use Rattle.pipe_core.specs.Pipe.{Pipe, with_more, without_first}
-use Rattle.console_core.specs.Reads.{Pulled, pulled, up_to, first_bytes, line_length}
-use Rattle.file_table.specs.declared.open_file.End.{End}
-use Rattle.proc_table.specs.declared.process.Call.{Call}
-use Rattle.kernel_spec.specs.views.Words.{c_int, minus_one}
-use Rattle.kernel_spec.specs.rows.Buffers.{writable, readable}
-use Rattle.kernel_spec.specs.views.PipeEnds.{fit, there as there_in, has_bytes}
-use Rattle.kernel_spec.specs.views.Programs.{program_bytes}
-use Rattle.kernel_spec.specs.views.Processes.{Live, child_status}
-use Rattle.kernel_spec.specs.views.State.{State, live}
-use Rattle.kernel_spec.specs.views.View.{View, Descriptor, Shown, Shown_terminal, Shown_file, Shown_pipe, view, view_of, in_use}
-use Rattle.kernel_spec.specs.steps.Own.{Blocked, goes_on}
-use Rattle.kernel_spec.specs.rows.Tables.{advance, change_pipe}
-use Rattle.kernel_spec.specs.rows.Calls.{Row, Wait, Read, Write, Sleep, row_of, refused, done, waits, least_zombie, has_child, done_at, next_bytes}
-use Rattle.kernel_spec.specs.steps.Step.{own, unless_killed, going_on}
-use Rattle.kernel_spec.specs.waking.Ready.{ready, call_ready, row_ready, on_shown, can_read, can_write}
-use Rattle.kernel_spec.specs.laws.Worlds.{UnreadyWaits}
-use Rattle.kernel_spec.specs.views.Shared.{SameRest, SameDescriptors, bare, bare_shown}
+use Rattle.kernel_spec.proofs.Prelude.{[], ℕ, ℤ, ◌&&◌, ◌++◌, ◌+◌, ◌-◌, ◌<◌, ◌||◌, ◌∙◌, ◌≡◌, ◌≤◌, add-zero, advance, ap, append-nil, arith, bare, bare_shown, Blocked, Bool, c_int, Call, call_ready}
+use Rattle.kernel_spec.proofs.Prelude.{can_read, can_write, change_pipe, child_status, cond, cond-false, cond-true, Descriptor, done, done_at, drop, End, false, first_bytes, fit, goes_on, going_on}
+use Rattle.kernel_spec.proofs.Prelude.{has_bytes, has_child, has_passed, Image, in_use, inl, inr, is_some, least_zombie, leb_tells, length, length-take, line_length, List, Live, live, lt-ltb}
+use Rattle.kernel_spec.proofs.Prelude.{ltb-false, ltb-true, min, minus_one, nat_eq, nat_le, nat_lt, negsuc, next_bytes, None, not, not-false, on_shown, Option, option_map, or_parts, own, Pipe}
+use Rattle.kernel_spec.proofs.Prelude.{PIPE_BYTES, pos, program_bytes, Pulled, pulled, Read, readable, ready, refl, refused, room_for, Row, row_of, row_ready, same_Some, SameDescriptors, SameRest}
+use Rattle.kernel_spec.proofs.Prelude.{SEND_BYTES, Shown, Shown_file, Shown_pipe, Shown_terminal, Sleep, slice_get, Some, State, subst, sym, take, there as there_in, ticks_since, true, unless_killed}
+use Rattle.kernel_spec.proofs.Prelude.{UnreadyWaits, up_to, View, view, view_of, Wait, waits, with_more, without_first, writable, Write, write_image}
 use Rattle.kernel_spec.proofs.rows.Falls.{Falls, falls_done, falls_unless, falls_moving, falls_cond, own_falls}
 use Rattle.kernel_spec.proofs.steps.OneNameOnePipe.{shown_of, unchanged_by}
 use Rattle.kernel_spec.proofs.steps.WritesKeepRights.{writable_written}
-use Rattle.kernel_spec.proofs.rows.RowParts.{IsSettled, perform_parts, perform_row, unless, reaped, wait_parts, read_parts, read_on}
-use Rattle.kernel_spec.proofs.rows.RowParts.{read_from, read_line, moving, unless_nothing, write_parts, write_on, write_to, write_terminal}
-use Rattle.kernel_spec.proofs.rows.RowParts.{write_pipe, length_of_int, sleep_parts, sleep_for, told, without_child}
-use Rattle.kernel_spec.specs.rows.Terminal.{room_for}
+use Rattle.kernel_spec.proofs.rows.RowParts.{IsSettled, perform_parts, perform_row, unless, reaped, wait_parts, read_parts, read_on, read_from, read_line, moving, unless_nothing, write_parts}
+use Rattle.kernel_spec.proofs.rows.RowParts.{write_on, write_to, write_terminal, write_pipe, length_of_int, sleep_parts, sleep_for, told, without_child}
 use Rattle.kernel_spec.proofs.rows.RowsByParts.{perform_same}
 use Rattle.kernel_spec.proofs.rows.SettledWaits.{still_settled, settled_written}
-use Rattle.kernel_spec.specs.steps.Ticks.{ticks_since, has_passed}
 use Rattle.kernel_spec.proofs.rows.BareDescriptors.{bare_alike, bare_changed, in_use_bare}
 use Rattle.kernel_spec.proofs.Common.{no_bytes}
 

@@ -1,18 +1,8 @@
 -- What the answer of a step tells of what the step leaves.
-use Rattle.std.proofs.Common.{◌≡◌, ℕ, ◌<◌, arith, get_or, Bool, true, false, Option, None, Some, inl, inr, refl, ap, sym, ◌∙◌, subst}
-use Rattle.std.specs.Prelude.{ℤ, pos, IsSome, Contains}
-use Rattle.std.proofs.lemmas.Option.{same_Some}
-use Rattle.proc_table.specs.declared.process.Call.{Call}
-use Rattle.kernel_spec.specs.views.Words.{minus_one}
-use Rattle.kernel_spec.specs.views.View.{View}
-use Rattle.kernel_spec.specs.steps.Own.{Own, Answer, Stepped, Called, Blocked, gone_with, goes_on}
-use Rattle.kernel_spec.specs.rows.Calls.{Row, Wait, Read, Sleep, Write, row_of, refused, waits}
-use Rattle.kernel_spec.specs.steps.Step.{own, call_or_begun}
-use Rattle.kernel_spec.specs.runs.Run.{IsBlocked}
+use Rattle.kernel_spec.proofs.Prelude.{ℕ, ℤ, ◌<◌, ◌∙◌, ◌≡◌, Answer, ap, arith, Blocked, Bool, Call, call_or_begun, Called, Contains, false, get_or, goes_on, gone_with, inl, inr, IsBlocked, IsSome}
+use Rattle.kernel_spec.proofs.Prelude.{minus_one, None, Option, Own, own, pos, Read, refl, refused, regs_in_call, Row, row_of, same_Some, Sleep, Some, Stepped, subst, sym, true, View, Wait}
+use Rattle.kernel_spec.proofs.Prelude.{waiting_calls, waits, with_a0, word, Write}
 use Rattle.kernel_spec.specs.laws.StepLaws.{RefusalsChangeNothing, InCallWhereBlocked, BlockedIsInCall}
-use Rattle.kernel_spec.specs.steps.Waiting.{waiting_calls, regs_in_call}
-use Rattle.kernel_spec.specs.rows.Calls.{with_a0}
-use Rattle.kernel_spec.specs.views.Words.{word}
 use Rattle.kernel_spec.proofs.rows.Outcomes.{StepComes, in_call, may_wait, own_comes}
 use Rattle.kernel_spec.proofs.rows.RowNumbers.{row-number}
 use Rattle.kernel_spec.proofs.Common.{none_has_no_value}

@@ -1,32 +1,12 @@
 -- A process that falls asleep isn't ready.
-use Rattle.std.proofs.Common.{◌≡◌, ℕ, suc, ◌<◌, ◌≤◌, ◌+◌, ◌-◌, ◌++◌, Bool, true, false, cond, not, ◌&&◌, ◌||◌, List, [], ◌∷◌, length, refl, ap, sym, ◌∙◌, subst, inl, inr, arith}
-use Rattle.std.specs.Prelude.{Option, None, Some, ℤ, pos, negsuc, nat_eq, nat_lt, nat_le, is_some, min, slice_get, take, drop}
-use Rattle.std.proofs.lemmas.Bool.{eq-eqb, le-ltb, not-true}
-use Rattle.std.proofs.lemmas.Bool.Decides.{leb_tells}
-use Rattle.xk_base.specs.declared.limits.TheConstants.{PIPE_BYTES, SEND_BYTES}
-use Rattle.kernel_spec.specs.views.Words.{c_int, minus_one}
-use Rattle.xk_base.specs.Bytes.{write_image, image_byte}
-use Rattle.kernel_spec.specs.rows.Buffers.{writable, readable}
-use Rattle.kernel_spec.specs.rows.Tables.{advance, change_pipe, changed, change_shown}
-use Rattle.pipe_core.specs.Pipe.{Pipe, without_first, with_more}
-use Rattle.kernel_spec.specs.views.PipeEnds.{fit, there, has_bytes}
-use Rattle.console_core.specs.Reads.{Pulled, pulled, up_to, first_bytes, line_length}
-use Rattle.std.proofs.lemmas.Option.{slice_get_cases, none-some, same_Some}
-use Rattle.std.proofs.lemmas.List.{drop_all}
-use Rattle.std.proofs.lemmas.List.FromFn.{length-map-range_with_len}
-use Rattle.kernel_spec.specs.rows.Calls.{Row, Wait, Read, Sleep, Write, row_of, refused, done, waits, least_zombie, has_child, done_at, next_bytes}
-use Rattle.proc_table.specs.declared.process.Call.{Call}
-use Rattle.kernel_spec.specs.views.View.{View, Descriptor, Shown, Shown_terminal, Shown_file, Shown_pipe, in_use}
-use Rattle.kernel_spec.specs.steps.Own.{Own}
-use Rattle.kernel_spec.specs.laws.WakeLaws.{BlocksUnready}
-use Rattle.kernel_spec.specs.steps.Step.{own}
-use Rattle.kernel_spec.specs.views.Programs.{program_bytes}
+use Rattle.kernel_spec.proofs.Prelude.{[], ℕ, ℤ, ◌&&◌, ◌++◌, ◌+◌, ◌-◌, ◌<◌, ◌||◌, ◌∙◌, ◌∷◌, ◌≡◌, ◌≤◌, advance, ap, arith, BlocksUnready, Bool, c_int, Call, can_read, can_write, change_pipe}
+use Rattle.kernel_spec.proofs.Prelude.{change_shown, changed, child_status, cond, Descriptor, done, done_at, drop, drop_all, eq-eqb, false, first_bytes, fit, has_bytes, has_child, has_passed}
+use Rattle.kernel_spec.proofs.Prelude.{image_byte, in_use, inl, inr, is_some, le-ltb, least_zombie, leb_tells, length, length-map-range_with_len, line_length, List, min, minus_one, nat_eq, nat_le}
+use Rattle.kernel_spec.proofs.Prelude.{nat_lt, negsuc, next_bytes, None, none-some, not, not-true, on_shown, Option, Own, own, Pipe, PIPE_BYTES, pos, program_bytes, Pulled, pulled, Read, readable}
+use Rattle.kernel_spec.proofs.Prelude.{ready, refl, refused, room_for, Row, row_of, row_ready, same_Some, SEND_BYTES, Shown, Shown_file, Shown_pipe, Shown_terminal, Sleep, slice_get, slice_get_cases}
+use Rattle.kernel_spec.proofs.Prelude.{Some, subst, suc, sym, take, there, ticks_since, true, up_to, View, Wait, waits, with_more, without_first, writable, Write, write_image}
 use Rattle.kernel_spec.proofs.rows.Falls.{Falls, falls_done, falls_unless, falls_moving, falls_cond, own_falls}
-use Rattle.kernel_spec.specs.waking.Ready.{ready, row_ready, on_shown, can_read, can_write}
-use Rattle.kernel_spec.specs.views.Processes.{child_status}
 use Rattle.kernel_spec.proofs.rows.RowParts.{reaped, wait_parts, read_parts, read_on, read_from, read_line, moving, write_parts, write_on, write_to, length_of_int, sleep_for, told, without_child}
-use Rattle.kernel_spec.specs.rows.Terminal.{room_for}
-use Rattle.kernel_spec.specs.steps.Ticks.{ticks_since, has_passed}
 
 -- a step that ends in sleep ends in a view that isn't ready
 abbrev Unready : View → ℤ → Type 0

@@ -1,10 +1,6 @@
 -- Descriptors that are the same but for what their pipes hold.
-use Rattle.std.proofs.Common.{◌≡◌, ℕ, Bool, true, refl, ap}
-use Rattle.std.specs.Prelude.{Option, None, Some, ℤ, pos, negsuc}
-use Rattle.pipe_core.specs.Pipe.{Pipe}
-use Rattle.kernel_spec.specs.views.View.{View, Descriptor, Shown, Shown_terminal, Shown_file, Shown_pipe, in_use}
-use Rattle.kernel_spec.specs.rows.Tables.{changed, change_shown}
-use Rattle.kernel_spec.specs.views.Shared.{SameDescriptors, bare, bare_shown}
+use Rattle.kernel_spec.proofs.Prelude.{ℕ, ℤ, ◌≡◌, ap, bare, bare_shown, Bool, change_shown, changed, Descriptor, in_use, negsuc, None, Option, Pipe, pos, refl, SameDescriptors, Shown, Shown_file}
+use Rattle.kernel_spec.proofs.Prelude.{Shown_pipe, Shown_terminal, Some, true, View}
 
 pub in_use_bare : (m u : View) → SameDescriptors m u → (z : ℤ) → bare (in_use m z) ≡ bare (in_use u z)
 in_use_bare m u same (pos d) = same d

@@ -1,19 +1,7 @@
 -- A step by its parts: once the absent pages that it touches are there, it is a step in which no page is absent that it needs. So a claim about a step
 -- is one about its refusal, and one about the parts of rows in a view that has more pages.
-use Rattle.std.proofs.Common.{◌≡◌, ℕ, Bool, true, false, cond, List, [], ◌∷◌, inl, inr, refl, ap, sym, ◌∙◌, subst}
-use Rattle.std.specs.Prelude.{Option, None, Some, ℤ, unwrap_or}
-use Rattle.xk_base.specs.Image.{Image}
-use Rattle.rv64i_core.specs.Memory.{Store}
-use Rattle.rv64i_core.specs.Registers.{Registers}
-use Rattle.rv64i_core.specs.Step.{Step, Next, Ecall}
-use Rattle.proc_table.specs.declared.process.Call.{Call}
-use Rattle.kernel_spec.specs.steps.Instruction.{next_instruction}
-use Rattle.kernel_spec.specs.views.Words.{minus_one}
-use Rattle.kernel_spec.specs.views.View.{View}
-use Rattle.kernel_spec.specs.steps.Own.{Own, Called}
-use Rattle.kernel_spec.specs.rows.Calls.{row_of, perform, refused}
-use Rattle.kernel_spec.specs.steps.Step.{going_on, after_instruction}
-use Rattle.kernel_spec.specs.rows.Touches.{has_absent, touch, page_used, instruction_now}
+use Rattle.kernel_spec.proofs.Prelude.{[], ℕ, ℤ, ◌∙◌, ◌∷◌, ◌≡◌, after_instruction, ap, Bool, Call, Called, cond, Ecall, false, going_on, has_absent, Image, inl, inr, instruction_now, List, minus_one}
+use Rattle.kernel_spec.proofs.Prelude.{Next, next_instruction, None, Option, Own, page_used, perform, refl, refused, Registers, row_of, Some, Step, Store, subst, sym, touch, true, unwrap_or, View}
 use Rattle.kernel_spec.proofs.memory.OnAbsent.{next_once_touched, is_on_absent, before-is}
 use Rattle.kernel_spec.proofs.rows.RowParts.{IsSettled, buffer_of, perform_parts}
 use Rattle.kernel_spec.proofs.rows.RowsByParts.{perform_same, performs_on}

@@ -1,55 +1,17 @@
 -- A row adds no page but of zeros, or the pages of the program that an exec names.
-use Rattle.std.proofs.Common.{◌≡◌, ◌≢◌, ℕ, zero, suc, ◌+◌, ◌-◌, ◌/◌, ◌%◌, ◌++◌, Bool, true, false, cond, not, ◌&&◌}
-use Rattle.std.proofs.Common.{◌||◌, List, [], ◌∷◌, length, refl, ap, sym, ◌∙◌, inl, inr, ◌⊎◌, replicate, take, drop}
-use Rattle.std.specs.Prelude.{Option, None, Some, ℤ, pos, negsuc, nat_eq, nat_lt, nat_le, is_some, slice_get, Result, Ok, Err}
-use Rattle.std.specs.FinMap.{FinMap, get, insert}
-use Rattle.std.specs.Ordering.{nat_cmp}
-use Rattle.std.proofs.lemmas.Bool.Decides.{eqb_tells}
-use Rattle.xk_base.specs.Image.{Image, Page, price, page_count}
-use Rattle.phys_ram.specs.Ram.{zero_frame}
-use Rattle.addr_space.specs.Absent.{grown_lazily}
-use Rattle.addr_space.specs.Changes.{zeroed, with_absent}
-use Rattle.xk_base.proofs.Gathered.{gathered-get}
-use Rattle.rv64i_core.specs.Memory.{Store}
-use Rattle.xk_base.specs.Loaded.{Loaded, loaded}
-use Rattle.xk_base.specs.declared.errors.ExecError.{ExecError}
-use Rattle.rv64i_core.specs.Registers.{Registers}
-use Rattle.rv64i_core.specs.Step.{Next}
-use Rattle.rv64i_core.specs.UserImage.{with_store, written_page, write_pages}
-use Rattle.xk_base.specs.declared.limits.TheConstants.{SIZE_LIMIT, MAXARG, ARG_BYTES, MAXPATH}
-use Rattle.kernel_spec.specs.views.Words.{minus_one, c_int}
-use Rattle.kernel_spec.specs.rows.Buffers.{readable, writable, text_at, texts_at, no_slashes, grown, shrunk}
-use Rattle.xk_base.specs.Access.{data_rights}
-use Rattle.xk_base.specs.Bytes.{write_image}
-use Rattle.proc_table.specs.declared.process.Call.{Call}
-use Rattle.kernel_spec.specs.views.View.{View, Descriptor, Shown, Shown_terminal, Shown_file, Shown_pipe, in_use}
-use Rattle.kernel_spec.specs.steps.Own.{Own, Stepped, Called, Exited}
-use Rattle.kernel_spec.specs.rows.Calls.{Row, Fork, Exit, Wait, Pipe_row, Read, Kill, Exec, Dup, Getpid, Sbrk, Sleep, Uptime, Open}
-use Rattle.kernel_spec.specs.rows.Calls.{Write, Close, Sbrklazy, row_of, answered, gone, done, refused, waits, least_zombie, has_child, done_at, next_bytes}
-use Rattle.kernel_spec.specs.views.Programs.{program_bytes, program_named}
-use Rattle.kernel_spec.specs.steps.Step.{after_instruction}
-use Rattle.xk_base.specs.Words.{le_bytes}
-use Rattle.kernel_spec.specs.rows.Tables.{lowest_free, lowest_free_above, advance, change_pipe, with_copy, one_more_on, one_less_on, without_descriptor, with_descriptor, pipes_given_up}
-use Rattle.kernel_spec.specs.views.PipeEnds.{there, fit, has_bytes}
-use Rattle.pipe_core.specs.Pipe.{without_first, with_more}
-use Rattle.console_core.specs.Reads.{Pulled, pulled}
-use Rattle.kernel_spec.specs.views.State.{ProgramFile}
-use Rattle.std.specs.Int.{cast_unsigned, w32}
-use Rattle.std.specs.List.{list_any}
-use Rattle.std.proofs.lemmas.Option.{same_Some}
-use Rattle.kernel_spec.specs.rows.Execs.{IsExecOf, IsExecDone}
-use Rattle.kernel_spec.specs.steps.KeptBytes.{IsNewPage}
-use Rattle.xk_base.specs.Bytes.{put_in, put_byte}
-use Rattle.xk_base.specs.Gathered.{insert_some}
+use Rattle.kernel_spec.proofs.Prelude.{[], ℕ, ℤ, ◌%◌, ◌&&◌, ◌++◌, ◌+◌, ◌-◌, ◌/◌, ◌||◌, ◌∙◌, ◌∷◌, ◌≡◌, ◌≢◌, ◌⊎◌, advance, after_instruction, answered, ap, ARG_BYTES, Bool, c_int, Call, Called}
+use Rattle.kernel_spec.proofs.Prelude.{cast_unsigned, change_pipe, child_status, Close, cond, data_rights, Descriptor, done, done_at, drop, Dup, eqb_tells, Err, Exec, ExecError, Exit, Exited, false}
+use Rattle.kernel_spec.proofs.Prelude.{FinMap, fit, Fork, gathered-get, get, Getpid, gone, grown, grown_lazily, has_bytes, has_child, has_passed, Image, in_use, inl, inr, insert, insert_some, is_some}
+use Rattle.kernel_spec.proofs.Prelude.{IsExecDone, IsExecOf, IsNewPage, Kill, le_bytes, least_zombie, length, List, list_any, Loaded, loaded, lowest_free, lowest_free_above, MAXARG, MAXPATH}
+use Rattle.kernel_spec.proofs.Prelude.{minus_one, nat_cmp, nat_eq, nat_le, nat_lt, negsuc, Next, next_bytes, no_slashes, None, not, Ok, one_less_on, one_more_on, Open, Option, Own, Page, page_count}
+use Rattle.kernel_spec.proofs.Prelude.{Pipe_row, pipes_given_up, pos, price, program_bytes, program_named, ProgramFile, Pulled, pulled, put_byte, put_in, Read, readable, refl, refused, Registers}
+use Rattle.kernel_spec.proofs.Prelude.{replicate, Result, room_for, Row, row_of, same_Some, Sbrk, Sbrklazy, Shown, Shown_file, Shown_pipe, Shown_terminal, shrunk, SIZE_LIMIT, Sleep, slice_get, Some}
+use Rattle.kernel_spec.proofs.Prelude.{Stepped, Store, suc, sym, take, text_at, texts_at, there, ticks_since, true, Uptime, View, w32, Wait, waits, with_absent, with_copy, with_descriptor, with_more}
+use Rattle.kernel_spec.proofs.Prelude.{with_store, without_descriptor, without_first, writable, Write, write_image, write_pages, written_page, zero, zero_frame, zeroed}
 use Rattle.kernel_spec.proofs.steps.MapsAfterChange.{get_same, get_other}
-use Rattle.kernel_spec.specs.views.Processes.{child_status}
-use Rattle.kernel_spec.proofs.rows.RowParts.{perform_parts, perform_row, unless, unless_nothing, moving, length_of_int, reaped, piped}
-use Rattle.kernel_spec.proofs.rows.RowParts.{piped_from, with_pipe, read_on, read_from, write_on, write_to, killed_by, exec_program}
-use Rattle.kernel_spec.proofs.rows.RowParts.{exec_path, dup_at, dup_on, dup_number, close_at, sbrk_by, grow_to, shrink_to}
-use Rattle.kernel_spec.proofs.rows.RowParts.{lazy_by, exec_loaded, sleep_for, open_at, open_path, opened_as, kind_named, forked}
-use Rattle.kernel_spec.proofs.rows.RowParts.{cannot_fork, with_child, close_number, close_on, fork_parts, kill_pid, running, without_child}
-use Rattle.kernel_spec.specs.rows.Terminal.{room_for}
-use Rattle.kernel_spec.specs.steps.Ticks.{ticks_since, has_passed}
+use Rattle.kernel_spec.proofs.rows.RowParts.{perform_parts, perform_row, unless, unless_nothing, moving, length_of_int, reaped, piped, piped_from, with_pipe, read_on, read_from, write_on, write_to}
+use Rattle.kernel_spec.proofs.rows.RowParts.{killed_by, exec_program, exec_path, dup_at, dup_on, dup_number, close_at, sbrk_by, grow_to, shrink_to, lazy_by, exec_loaded, sleep_for, open_at, open_path}
+use Rattle.kernel_spec.proofs.rows.RowParts.{opened_as, kind_named, forked, cannot_fork, with_child, close_number, close_on, fork_parts, kill_pid, running, without_child}
 use Rattle.kernel_spec.proofs.Common.{none_either_way}
 
 -- the pages that the next view has more hold zeros

@@ -1,29 +1,13 @@
 -- Which case of its row a call comes to, by its number and arguments.
-use Rattle.std.proofs.Common.{◌≡◌, ℕ, ◌<◌, Bool, true, false, not, ◌&&◌, ◌||◌, List, refl, ap, ◌∙◌}
-use Rattle.std.specs.Prelude.{Option, None, Some, ℤ, pos, IsSome, is_none, option_map, nat_eq, nat_lt}
-use Rattle.std.specs.FinMap.{get}
-use Rattle.xk_base.specs.declared.limits.TheConstants.{NOFILE, MAXPATH, MAXARG, ARG_BYTES}
-use Rattle.kernel_spec.specs.views.State.{ProgramFile, State, live_part}
-use Rattle.xk_base.specs.Words.{least_below}
-use Rattle.xk_base.specs.Loaded.{loaded}
-use Rattle.file_table.specs.declared.open_file.OpenFile.{OpenFile}
-use Rattle.proc_table.specs.declared.process.Call.{Call}
-use Rattle.kernel_spec.specs.views.Words.{c_int}
-use Rattle.kernel_spec.specs.rows.Buffers.{readable, writable, writable_now, text_at, texts_at, no_slashes}
-use Rattle.kernel_spec.specs.views.Programs.{program_named}
-use Rattle.kernel_spec.specs.views.Processes.{Alive, Live}
-use Rattle.kernel_spec.specs.views.View.{View, Descriptor, view_of, numbered, rename, in_use}
-use Rattle.kernel_spec.specs.steps.Own.{Own}
-use Rattle.kernel_spec.specs.rows.Tables.{lowest_free, lowest_free_above}
-use Rattle.kernel_spec.specs.rows.Calls.{row_of, perform, refused, fork, wait, make_pipe, read, kill, exec, dup, getpid, sbrk, sbrklazy, sleep, uptime, open_file, write, close, Row, row, exit}
+use Rattle.kernel_spec.proofs.Prelude.{ℕ, ℤ, ◌&&◌, ◌<◌, ◌>>=◌, ◌or◌, ◌||◌, ◌∙◌, ◌≡◌, Alive, ap, ARG_BYTES, Bool, c_int, Call, close, Descriptor, dup, exec, exit, false, fork, get, getpid, in_use}
+use Rattle.kernel_spec.proofs.Prelude.{is_none, IsSome, kill, least_below, List, Live, live_part, loaded, lowest_free, lowest_free_above, make_pipe, MAXARG, MAXPATH, nat_eq, nat_lt, no_slashes}
+use Rattle.kernel_spec.proofs.Prelude.{NOFILE, None, not, numbered, open_file, OpenFile, Option, option_map, Own, perform, pos, program_named, ProgramFile, read, readable, refl, refused, rename, Row}
+use Rattle.kernel_spec.proofs.Prelude.{row, row_of, sbrk, sbrklazy, sleep, Some, State, text_at, texts_at, true, uptime, View, view_of, wait, WellFormed, writable, writable_now, write}
 use Rattle.kernel_spec.proofs.steps.SeenByParts.{file_of, descriptor_at, descriptor_on}
-use Rattle.kernel_spec.specs.views.WellFormed.{WellFormed}
 use Rattle.kernel_spec.proofs.steps.LeastPasses.{least_congr}
 use Rattle.kernel_spec.proofs.steps.NamesAreChosenAgain.{named_at}
-use Rattle.kernel_spec.proofs.rows.RowParts.{piped, piped_from, read_on, read_from, killed_by, exec_path, exec_program}
-use Rattle.kernel_spec.proofs.rows.RowParts.{exec_loaded, dup_number, dup_on, dup_at, write_on, write_to, close_at}
-use Rattle.kernel_spec.proofs.rows.RowParts.{unless, unless_nothing, moving, length_of_int, close_number, close_on, kill_pid}
-use Rattle.kernel_spec.specs.rows.Lines.{◌>>=◌, ◌or◌}
+use Rattle.kernel_spec.proofs.rows.RowParts.{piped, piped_from, read_on, read_from, killed_by, exec_path, exec_program, exec_loaded, dup_number, dup_on, dup_at, write_on, write_to, close_at, unless}
+use Rattle.kernel_spec.proofs.rows.RowParts.{unless_nothing, moving, length_of_int, close_number, close_on, kill_pid}
 use Rattle.kernel_spec.proofs.rows.Settled.{there-ready, now-writable, counted-settled}
 use Rattle.kernel_spec.proofs.rows.RowsByParts.{dup_same, close_same, read_same, write_same, pipe_same, kill_same, exec_same}
 

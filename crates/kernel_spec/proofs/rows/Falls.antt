@@ -1,27 +1,11 @@
 -- What stands of every step that ends in sleep, from the four rows that may wait.
-use Rattle.std.proofs.Common.{◌≡◌, ◌≢◌, ℕ, suc, ◌+◌, ◌-◌, Bool, true, false, cond, not, ◌||◌, List, refl}
-use Rattle.std.specs.Prelude.{Option, None, Some, ℤ, pos, negsuc, nat_eq, nat_lt, nat_le, Result, Ok, Err}
-use Rattle.xk_base.specs.declared.limits.TheConstants.{SIZE_LIMIT, MAXARG, ARG_BYTES, MAXPATH}
-use Rattle.kernel_spec.specs.steps.Instruction.{next_instruction}
-use Rattle.kernel_spec.specs.views.Words.{c_int, minus_one}
-use Rattle.kernel_spec.specs.rows.Buffers.{writable, grown, text_at, texts_at, no_slashes}
-use Rattle.kernel_spec.specs.rows.Tables.{lowest_free, lowest_free_above}
-use Rattle.xk_base.specs.Image.{price}
-use Rattle.addr_space.specs.Absent.{grown_lazily}
-use Rattle.xk_base.specs.Loaded.{loaded, Loaded}
-use Rattle.rv64i_core.specs.Step.{Next, Ecall, Fault, Step}
-use Rattle.xk_base.specs.declared.errors.ExecError.{ExecError}
-use Rattle.kernel_spec.specs.rows.Calls.{Row, Fork, Exit, Wait, Pipe_row, Read, Kill, Exec, Dup, Getpid, Sbrk, Sleep, Uptime, Open, Write, Close, Sbrklazy, row_of, perform, done, gone}
-use Rattle.proc_table.specs.declared.process.Call.{Call}
-use Rattle.kernel_spec.specs.views.State.{ProgramFile}
-use Rattle.kernel_spec.specs.views.View.{View, Descriptor, Shown}
-use Rattle.kernel_spec.specs.steps.Own.{Own, Blocked, Called, Exited, Faulted, Answer}
-use Rattle.std.specs.List.{list_any}
-use Rattle.kernel_spec.specs.steps.Step.{own, unless_killed, going_on, after_instruction, call_begun, begun}
-use Rattle.kernel_spec.specs.views.Programs.{program_named}
-use Rattle.kernel_spec.proofs.rows.RowParts.{IsSettled, perform_parts, perform_row, unless, wait_parts, read_parts, moving, unless_nothing, write_parts}
-use Rattle.kernel_spec.proofs.rows.RowParts.{sleep_parts, forked, cannot_fork, piped, piped_from, pipe_parts, killed_by, exec_loaded, exec_program}
-use Rattle.kernel_spec.proofs.rows.RowParts.{exec_path, dup_at, dup_on, dup_number, close_at, sbrk_by, shrink_to, lazy_by, open_at}
+use Rattle.kernel_spec.proofs.Prelude.{ℕ, ℤ, ◌+◌, ◌-◌, ◌||◌, ◌≡◌, ◌≢◌, after_instruction, Answer, ARG_BYTES, begun, Blocked, Bool, c_int, Call, call_begun, Called, Close, cond, Descriptor, done, Dup}
+use Rattle.kernel_spec.proofs.Prelude.{Ecall, Err, Exec, ExecError, Exit, Exited, false, Fault, Faulted, Fork, Getpid, going_on, gone, grown, grown_lazily, Kill, List, list_any, Loaded, loaded}
+use Rattle.kernel_spec.proofs.Prelude.{lowest_free, lowest_free_above, MAXARG, MAXPATH, minus_one, nat_eq, nat_le, nat_lt, negsuc, Next, next_instruction, no_slashes, None, not, Ok, Open, Option, Own}
+use Rattle.kernel_spec.proofs.Prelude.{own, perform, Pipe_row, pos, price, program_named, ProgramFile, Read, refl, Result, Row, row_of, Sbrk, Sbrklazy, Shown, SIZE_LIMIT, Sleep, Some, Step, suc}
+use Rattle.kernel_spec.proofs.Prelude.{text_at, texts_at, true, unless_killed, Uptime, View, Wait, writable, Write}
+use Rattle.kernel_spec.proofs.rows.RowParts.{IsSettled, perform_parts, perform_row, unless, wait_parts, read_parts, moving, unless_nothing, write_parts, sleep_parts, forked, cannot_fork, piped}
+use Rattle.kernel_spec.proofs.rows.RowParts.{piped_from, pipe_parts, killed_by, exec_loaded, exec_program, exec_path, dup_at, dup_on, dup_number, close_at, sbrk_by, shrink_to, lazy_by, open_at}
 use Rattle.kernel_spec.proofs.rows.RowParts.{open_path, opened_as, kind_named, close_number, close_on, fork_parts, kill_pid, running}
 use Rattle.kernel_spec.proofs.rows.Touched.{touched_view}
 use Rattle.kernel_spec.proofs.rows.ByTouch.{by_call, by_instruction}

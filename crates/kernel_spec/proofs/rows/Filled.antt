@@ -1,28 +1,12 @@
 -- After wait, pipe and read the image is the one before it, filled with what the row stores.
-use Rattle.std.proofs.Common.{◌≡◌, ℕ, ◌+◌, ◌-◌, ◌<◌, ◌≤◌, ◌++◌, Bool, true, false, cond, not, ◌&&◌, ◌||◌, List, [], ◌∷◌, length, take, drop, refl, ap, sym, ◌∙◌, subst, arith, inl, inr}
-use Rattle.std.specs.Prelude.{Option, None, Some, ℤ, pos, negsuc, nat_eq, nat_lt, nat_le, slice_get}
-use Rattle.std.specs.Int.{cast_unsigned, w32}
-use Rattle.std.proofs.lemmas.List.{length-take}
-use Rattle.std.proofs.lemmas.Bool.{leb-false, eqb-true, or_parts, cases_lt, lt-ltb, both_ways}
-use Rattle.std.proofs.lemmas.Option.{same_Some}
-use Rattle.xk_base.specs.Words.{le_bytes}
-use Rattle.xk_base.specs.Bytes.{write_image}
+use Rattle.kernel_spec.proofs.Prelude.{[], ℕ, ℤ, ◌&&◌, ◌++◌, ◌+◌, ◌-◌, ◌<◌, ◌||◌, ◌∙◌, ◌∷◌, ◌≡◌, ◌≤◌, advance, answered, ap, arith, Bool, both_ways, c_int, Call, cases_lt, cast_unsigned, change_pipe}
+use Rattle.kernel_spec.proofs.Prelude.{child_status, cond, Descriptor, done, drop, ends_stored, eqb-true, false, first_bytes, has_bytes, has_child, in_use, inl, inr, le_bytes, least_zombie, leb-false}
+use Rattle.kernel_spec.proofs.Prelude.{length, length-take, line_length, List, lowest_free, lowest_free_above, nat_eq, nat_le, nat_lt, natural, negsuc, next_ends, None, not, nothing_stored, Option}
+use Rattle.kernel_spec.proofs.Prelude.{or_parts, or_zero, Own, Pipe, Pipe_row, pos, program_bytes, Pulled, pulled, Read, read_stored, refl, refused, same_Some, Shown, Shown_file, Shown_pipe}
+use Rattle.kernel_spec.proofs.Prelude.{Shown_terminal, slice_get, Some, Store, stored_by_pipe, stored_by_row, stored_by_wait, stored_from, subst, sym, take, there, true, unless_refused, up_to, View}
+use Rattle.kernel_spec.proofs.Prelude.{w32, Wait, waits, without_first, writable, write_image}
+use Rattle.std.proofs.lemmas.Bool.{lt-ltb}
 use Rattle.xk_base.proofs.Bytes.{write_image-nil}
-use Rattle.rv64i_core.specs.Memory.{Store}
-use Rattle.console_core.specs.Reads.{Pulled, pulled, line_length, up_to, first_bytes}
-use Rattle.pipe_core.specs.Pipe.{Pipe, without_first}
-use Rattle.proc_table.specs.declared.process.Call.{Call}
-use Rattle.kernel_spec.specs.views.Words.{c_int, or_zero}
-use Rattle.kernel_spec.specs.rows.Buffers.{writable}
-use Rattle.kernel_spec.specs.views.Processes.{child_status}
-use Rattle.kernel_spec.specs.views.Programs.{program_bytes}
-use Rattle.kernel_spec.specs.views.PipeEnds.{there, has_bytes}
-use Rattle.kernel_spec.specs.rows.Tables.{lowest_free, lowest_free_above, advance, change_pipe}
-use Rattle.kernel_spec.specs.views.View.{View, Descriptor, Shown, Shown_terminal, Shown_file, Shown_pipe, in_use}
-use Rattle.kernel_spec.specs.rows.Lines.{natural}
-use Rattle.kernel_spec.specs.steps.Own.{Own}
-use Rattle.kernel_spec.specs.rows.Calls.{Wait, Pipe_row, Read, answered, done, refused, waits, least_zombie, has_child, ends_stored, read_stored}
-use Rattle.kernel_spec.specs.rows.Stores.{nothing_stored, stored_by_wait, next_ends, stored_by_pipe, stored_from, unless_refused, stored_by_row}
 use Rattle.kernel_spec.proofs.rows.RowParts.{wait_parts, pipe_parts, read_parts, unless, unless_nothing, moving, length_of_int, reaped, piped, piped_from, with_pipe, read_on, read_from, without_child}
 
 empty_list : (xs : List ℕ) → length xs ≤ 0 → xs ≡ []

@@ -1,49 +1,19 @@
 -- In a page that stays, a row changes only bytes that it stores, but for an exec that succeeds.
-use Rattle.std.proofs.Common.{◌≡◌, ◌≢◌, ℕ, zero, suc, ◌+◌, ◌-◌, ◌*◌, ◌/◌, ◌%◌, ◌++◌, Bool, true, false, cond, not, ◌||◌}
-use Rattle.std.proofs.Common.{List, [], ◌∷◌, length, refl, ap, sym, ◌∙◌, inl, inr, ◌<◌, ◌≤◌, set, take, drop, subst, arith}
-use Rattle.std.specs.Prelude.{slice_index, Option, None, Some, ℤ, pos, negsuc, nat_eq, nat_lt, nat_le, is_some, Result, Ok, Err}
-use Rattle.std.specs.FinMap.{FinMap, get, insert}
-use Rattle.std.specs.Ordering.{nat_cmp}
-use Rattle.std.proofs.lemmas.Bool.{cases_eq, cases_lt}
-use Rattle.std.proofs.lemmas.List.{get_or-set_other, get_or-take, get_or_append_left, get_or-append_right, get_or-drop, length-take-le, length-set}
-use Rattle.xk_base.specs.Image.{Image, Page, price, page_count}
-use Rattle.addr_space.specs.Absent.{grown_lazily}
-use Rattle.addr_space.specs.Changes.{zeroed, with_absent}
-use Rattle.xk_base.proofs.Gathered.{gathered-get}
-use Rattle.rv64i_core.specs.Memory.{Store, written}
-use Rattle.xk_base.specs.Loaded.{Loaded, loaded}
-use Rattle.xk_base.specs.declared.errors.ExecError.{ExecError}
-use Rattle.rv64i_core.specs.UserImage.{with_store, written_page, write_pages}
+use Rattle.kernel_spec.proofs.Prelude.{[], ℕ, ℤ, ◌%◌, ◌*◌, ◌++◌, ◌+◌, ◌-◌, ◌/◌, ◌<◌, ◌||◌, ◌∙◌, ◌∷◌, ◌≡◌, ◌≢◌, ◌≤◌, answered, ap, ARG_BYTES, arith, Bool, c_int, Call, cases_eq, cases_lt, change_pipe}
+use Rattle.kernel_spec.proofs.Prelude.{Close, cond, data_rights, Descriptor, done, done_at, drop, Dup, Err, Exec, ExecError, Exit, Exited, false, FinMap, fit, Fork, gathered-get, get}
+use Rattle.kernel_spec.proofs.Prelude.{get_or-append_right, get_or-drop, get_or-set_other, get_or-take, get_or_append_left, Getpid, gone, grown, grown_lazily, has_passed, Image, in_use, inl, inr}
+use Rattle.kernel_spec.proofs.Prelude.{insert, insert_some, is_some, IsExecDone, Kill, length, length-set, length-take-le, Lies, List, list_any, Loaded, loaded, lowest_free, MAXARG, MAXPATH}
+use Rattle.kernel_spec.proofs.Prelude.{minus_one, nat_cmp, nat_eq, nat_le, nat_lt, negsuc, next_bytes, no_slashes, None, not, nothing_stored, Ok, one_less_on, one_more_on, Open, Option, Own, Page}
+use Rattle.kernel_spec.proofs.Prelude.{page_count, Pipe_row, pipes_given_up, pos, price, program_named, ProgramFile, put_byte, put_in, Read, readable, refl, refused, Result, room_for, Row, row_of}
+use Rattle.kernel_spec.proofs.Prelude.{same_Some, Sbrk, Sbrklazy, set, Shown, Shown_file, Shown_pipe, Shown_terminal, shrunk, SIZE_LIMIT, Sleep, slice_index, Some, Store, stored_by_row, subst, suc}
+use Rattle.kernel_spec.proofs.Prelude.{sym, take, text_at, texts_at, there, ticks_since, true, Uptime, View, Wait, waits, with_absent, with_copy, with_descriptor, with_more, with_store}
+use Rattle.kernel_spec.proofs.Prelude.{without_descriptor, Write, write_image, write_pages, written, written_page, zero, zeroed}
 use Rattle.rv64i_core.proofs.FlatBytes.{length-written}
-use Rattle.xk_base.specs.declared.limits.TheConstants.{SIZE_LIMIT, MAXARG, ARG_BYTES, MAXPATH}
-use Rattle.kernel_spec.specs.views.Words.{minus_one, c_int}
-use Rattle.kernel_spec.specs.rows.Buffers.{readable, text_at, texts_at, no_slashes, grown, shrunk}
-use Rattle.xk_base.specs.Access.{data_rights}
-use Rattle.xk_base.specs.Bytes.{write_image}
-use Rattle.proc_table.specs.declared.process.Call.{Call}
-use Rattle.kernel_spec.specs.views.View.{View, Descriptor, Shown, Shown_terminal, Shown_file, Shown_pipe, in_use}
-use Rattle.kernel_spec.specs.steps.Own.{Own, Exited}
-use Rattle.kernel_spec.specs.rows.Calls.{Row, Fork, Exit, Wait, Pipe_row, Read, Kill, Exec, Dup, Getpid, Sbrk, Sleep, Uptime}
-use Rattle.kernel_spec.specs.rows.Calls.{Open, Write, Close, Sbrklazy, row_of, answered, gone, done, refused, waits, done_at, next_bytes}
-use Rattle.kernel_spec.specs.views.Programs.{program_named}
-use Rattle.kernel_spec.specs.rows.Tables.{lowest_free, change_pipe, with_copy, one_more_on, one_less_on, without_descriptor, with_descriptor, pipes_given_up}
-use Rattle.kernel_spec.specs.views.PipeEnds.{there, fit}
-use Rattle.pipe_core.specs.Pipe.{with_more}
-use Rattle.kernel_spec.specs.views.State.{ProgramFile}
-use Rattle.std.specs.List.{list_any}
-use Rattle.std.proofs.lemmas.Option.{same_Some}
-use Rattle.kernel_spec.specs.rows.Execs.{IsExecDone}
-use Rattle.kernel_spec.specs.rows.Stores.{nothing_stored, stored_by_row, Lies}
-use Rattle.xk_base.specs.Bytes.{put_in, put_byte}
-use Rattle.xk_base.specs.Gathered.{insert_some}
 use Rattle.kernel_spec.proofs.steps.MapsAfterChange.{get_same, get_other}
 use Rattle.kernel_spec.proofs.rows.Filled.{Fills, wait_fills, pipe_fills, read_fills}
-use Rattle.kernel_spec.proofs.rows.RowParts.{wait_parts, pipe_parts, read_parts, perform_parts, perform_row, unless, unless_nothing, moving, length_of_int}
-use Rattle.kernel_spec.proofs.rows.RowParts.{write_on, write_to, killed_by, exec_program, exec_path, dup_at, dup_on, dup_number, close_at}
-use Rattle.kernel_spec.proofs.rows.RowParts.{sbrk_by, grow_to, shrink_to, lazy_by, exec_loaded, sleep_for, open_at, open_path, opened_as}
-use Rattle.kernel_spec.proofs.rows.RowParts.{kind_named, forked, cannot_fork, with_child, close_number, close_on, fork_parts, kill_pid, running}
-use Rattle.kernel_spec.specs.rows.Terminal.{room_for}
-use Rattle.kernel_spec.specs.steps.Ticks.{ticks_since, has_passed}
+use Rattle.kernel_spec.proofs.rows.RowParts.{wait_parts, pipe_parts, read_parts, perform_parts, perform_row, unless, unless_nothing, moving, length_of_int, write_on, write_to, killed_by, exec_program}
+use Rattle.kernel_spec.proofs.rows.RowParts.{exec_path, dup_at, dup_on, dup_number, close_at, sbrk_by, grow_to, shrink_to, lazy_by, exec_loaded, sleep_for, open_at, open_path, opened_as, kind_named}
+use Rattle.kernel_spec.proofs.rows.RowParts.{forked, cannot_fork, with_child, close_number, close_on, fork_parts, kill_pid, running}
 
 -- ---- what a step may change
 

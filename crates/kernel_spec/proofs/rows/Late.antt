@@ -1,36 +1,12 @@
 -- A call that has waited isn't refused later, but for a write to a pipe that nobody reads any more.
-use Rattle.std.proofs.Common.{◌≡◌, ◌≢◌, ℕ, ◌+◌, ◌-◌, ◌++◌, Bool, true, false, cond, not, ◌&&◌, ◌||◌, List, [], ◌∷◌, length, take, drop, refl, ap, sym, ◌∙◌, subst, inl, inr}
-use Rattle.std.specs.Prelude.{Option, None, Some, ℤ, pos, negsuc, nat_eq, nat_le, IsSome, is_some, slice_get, option_map}
-use Rattle.std.specs.Option.{option_or}
-use Rattle.std.specs.FinMap.{FinMap, get}
-use Rattle.std.specs.Ordering.{nat_cmp}
-use Rattle.std.specs.List.{list_any}
-use Rattle.std.proofs.lemmas.Bool.{eqb-true, or_right}
-use Rattle.std.proofs.lemmas.Option.{same_Some}
-use Rattle.xk_base.specs.Image.{Image}
-use Rattle.xk_base.specs.Bytes.{write_image}
-use Rattle.pipe_core.specs.Pipe.{Pipe, with_more, without_first}
-use Rattle.console_core.specs.Reads.{Pulled, pulled}
-use Rattle.file_table.specs.declared.open_file.End.{End}
-use Rattle.proc_table.specs.declared.process.Call.{Call}
-use Rattle.kernel_spec.specs.views.Words.{c_int, minus_one}
-use Rattle.kernel_spec.specs.rows.Buffers.{writable, readable}
-use Rattle.kernel_spec.specs.views.PipeEnds.{fit, there, has_bytes}
-use Rattle.kernel_spec.specs.views.Programs.{program_bytes}
-use Rattle.kernel_spec.specs.views.Processes.{Process, Live, Child, Status, child_status}
-use Rattle.kernel_spec.specs.views.State.{State, live}
-use Rattle.kernel_spec.specs.views.View.{View, Descriptor, Shown, Shown_terminal, Shown_file, Shown_pipe, view, view_of, child_of, in_use}
-use Rattle.kernel_spec.specs.steps.Own.{Own, Called, Exited, gone_with}
-use Rattle.kernel_spec.specs.others.Quiet.{seen, seen_children}
+use Rattle.kernel_spec.proofs.Prelude.{[], ℕ, ℤ, ◌&&◌, ◌++◌, ◌+◌, ◌-◌, ◌||◌, ◌∙◌, ◌∷◌, ◌≡◌, ◌≢◌, advance, ap, bare, bare_shown, Bool, c_int, Call, Called, change_pipe, Child, child_of, child_status}
+use Rattle.kernel_spec.proofs.Prelude.{cond, Descriptor, done, done_at, drop, End, eqb-true, Event, Exited, false, FinMap, fit, get, gone, gone_with, Happens, has_bytes, has_child, has_passed, Image}
+use Rattle.kernel_spec.proofs.Prelude.{in_use, inl, inr, is_some, IsBrokenWrite, IsSome, IsStepOf, least_zombie, length, List, list_any, Live, live, minus_one, nat_cmp, nat_eq, nat_le, negsuc}
+use Rattle.kernel_spec.proofs.Prelude.{next_bytes, None, not, OnlyBrokenWritesFailLate, Option, option_map, option_or, or_right, Others, Outcome, Own, own, Pipe, pos, Process, program_bytes, Pulled}
+use Rattle.kernel_spec.proofs.Prelude.{pulled, Read, readable, refl, refused, room_for, Row, row_of, same_Some, SameDescriptors, SameRest, seen, seen_children, Shown, Shown_file, Shown_pipe}
+use Rattle.kernel_spec.proofs.Prelude.{Shown_terminal, Sleep, slice_get, Some, State, Status, StepOf, subst, sym, take, there, ticks_since, true, unless_killed, View, view, view_of, Wait, waits}
+use Rattle.kernel_spec.proofs.Prelude.{with_more, without_first, World, writable, Write, write_image}
 use Rattle.kernel_spec.proofs.steps.SeenByParts.{same_child}
-use Rattle.kernel_spec.specs.rows.Tables.{advance, change_pipe}
-use Rattle.kernel_spec.specs.rows.Calls.{Row, Wait, Read, Write, Sleep, row_of, gone, refused, done, waits, least_zombie, has_child, done_at, next_bytes}
-use Rattle.kernel_spec.specs.steps.Step.{own, unless_killed}
-use Rattle.kernel_spec.specs.runs.Run.{World, Event, Outcome, Happens, StepOf}
-use Rattle.kernel_spec.specs.laws.Worlds.{OnlyBrokenWritesFailLate}
-use Rattle.kernel_spec.specs.runs.Moments.{IsStepOf, Others}
-use Rattle.kernel_spec.specs.views.Shared.{SameRest, SameDescriptors, bare, bare_shown}
-use Rattle.kernel_spec.specs.steps.Waiting.{IsBrokenWrite}
 use Rattle.kernel_spec.proofs.rows.Falls.{Falls, falls_done, falls_unless, falls_moving, falls_cond, own_falls}
 use Rattle.kernel_spec.proofs.steps.WritesKeepRights.{writable_written}
 use Rattle.kernel_spec.proofs.rows.RowNumbers.{row-number}
@@ -39,11 +15,9 @@ use Rattle.kernel_spec.proofs.steps.OthersKeepTheRest.{kept, kept_others, pid_is
 use Rattle.kernel_spec.proofs.turns.KeepsSlots.{listed}
 use Rattle.kernel_spec.proofs.rows.Pids.{has}
 use Rattle.kernel_spec.proofs.runs.Cuts.{IsOutside, kind}
-use Rattle.kernel_spec.proofs.rows.RowParts.{IsSettled, perform_row, unless, reaped, read_on, read_from, moving, unless_nothing}
-use Rattle.kernel_spec.proofs.rows.RowParts.{write_on, write_to, length_of_int, sleep_for, wait_parts, told, without_child}
-use Rattle.kernel_spec.specs.rows.Terminal.{room_for}
+use Rattle.kernel_spec.proofs.rows.RowParts.{IsSettled, perform_row, unless, reaped, read_on, read_from, moving, unless_nothing, write_on, write_to, length_of_int, sleep_for, wait_parts, told}
+use Rattle.kernel_spec.proofs.rows.RowParts.{without_child}
 use Rattle.kernel_spec.proofs.rows.SettledWaits.{still_settled, settled_written}
-use Rattle.kernel_spec.specs.steps.Ticks.{ticks_since, has_passed}
 use Rattle.kernel_spec.proofs.Common.{view_pids}
 use Rattle.kernel_spec.proofs.rows.BareDescriptors.{bare_alike, bare_changed, in_use_bare}
 use Rattle.kernel_spec.proofs.rows.Again.{by_perform}

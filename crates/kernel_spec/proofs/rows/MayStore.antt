@@ -1,50 +1,21 @@
 -- A step stores only where user code may store, or may do so once the page is touched.
-use Rattle.std.proofs.Common.{◌≡◌, ℕ, zero, suc, ◌+◌, ◌-◌, ◌/◌, ◌%◌, ◌^◌, ◌<◌, ◌≤◌, Bool, true, false, cond, not, ◌&&◌, ◌||◌, List, [], ◌∷◌, length, refl, ap, sym, ◌∙◌, subst, arith}
-use Rattle.std.specs.Prelude.{Option, None, Some, ℤ, pos, negsuc, nat_eq, option_map, Result, Ok, Err}
-use Rattle.std.specs.List.{list_all, range_with_len}
-use Rattle.std.specs.FinMap.{get}
-use Rattle.std.proofs.lemmas.Bool.{eqb-true, or_parts, and_parts, and_from, or_right, both_ways}
-use Rattle.xk_base.specs.Words.{le_bytes}
+use Rattle.kernel_spec.proofs.Prelude.{[], ℕ, ℤ, ◌%◌, ◌&&◌, ◌+◌, ◌-◌, ◌/◌, ◌<◌, ◌^◌, ◌||◌, ◌∙◌, ◌∷◌, ◌≡◌, ◌≤◌, add, after_instruction, allows, and_from, and_parts, Answer, ap, arith, begun, Blocked}
+use Rattle.kernel_spec.proofs.Prelude.{Bool, both_ways, branch, bytes_at, bytes_of_width, c_int, Call, call_begun, Called, cast_unsigned, Cause, Cell, cell_byte, cell_in, child_status, Close, cond}
+use Rattle.kernel_spec.proofs.Prelude.{decoded, Descriptor, Dup, Ecall, eqb-true, Err, Exec, Exit, Exited, extended, false, Fault, Faulted, fetched, Fork, get, Getpid, going_on, has_absent, Image}
+use Rattle.kernel_spec.proofs.Prelude.{in_use, Instr, instr, instruction_of, instruction_row, is_absent, jump, Kill, le_bytes, least_zombie, length, Lies, List, list_all, load_step, LoadOp}
+use Rattle.kernel_spec.proofs.Prelude.{lowest_free, may, may_touching, Memory, nat_eq, natural, negsuc, Next, next_ends, next_instruction, None, not, nothing_stored, Ok, Open, Option, option_map}
+use Rattle.kernel_spec.proofs.Prelude.{or_fault, or_parts, or_right, or_zero, Own, own, Page, pages_at, perform, perm_of_page, Pipe_row, pos, range_with_len, reaches, reaches-not, reaches_touching}
+use Rattle.kernel_spec.proofs.Prelude.{Read, read_stored, refl, refused, reg, Registers, Result, Row, row_of, Sbrk, Sbrklazy, Shown, Shown_file, Shown_pipe, Shown_terminal, Sleep, Some, Step}
+use Rattle.kernel_spec.proofs.Prelude.{step_of_word, Stepped, Store, store_step, store_width, stored_by_instruction, stored_by_pipe, stored_by_row, stored_by_wait, stored_from, stored_in}
+use Rattle.kernel_spec.proofs.Prelude.{StoreMisaligned, StorePageFault, StoresWhereUserMay, Storing, storing, subst, suc, sym, true, unless_killed, unless_refused, Uptime, user, View, w32, Wait}
+use Rattle.kernel_spec.proofs.Prelude.{Width, within-page, writable, Write, zero}
 use Rattle.xk_base.proofs.Words.{length-le_bytes}
-use Rattle.xk_base.specs.Image.{Image, Page}
-use Rattle.xk_base.specs.declared.access.Access.TheVariants.{Store as Storing}
-use Rattle.xk_base.specs.declared.access.Cause.{Cause}
-use Rattle.xk_base.specs.declared.access.Cause.TheVariants.{StorePageFault, StoreMisaligned}
-use Rattle.addr_space.specs.Absent.{is_absent, pages_at}
-use Rattle.addr_space.specs.Changes.{perm_of_page}
-use Rattle.rv64i_core.specs.Memory.{Memory, Cell, Store, fetched, storing, bytes_at, bytes_of_width, cell_byte, or_fault}
-use Rattle.rv64i_core.specs.Registers.{Registers, reg, add}
-use Rattle.rv64i_core.specs.Step.{Step, Next, Ecall, Fault, instr, step_of_word, row_of as instruction_of, row as instruction_row, store_step, load_step, jump, branch, store_width, extended}
-use Rattle.rv64i_core.specs.declared.instruction.LoadOp.{LoadOp}
-use Rattle.rv64i_core.specs.Table.{decoded}
-use Rattle.rv64i_core.specs.declared.access_width.Width.{Width}
 use Rattle.rv64i_core.specs.declared.access_width.Width.TheVariants.{Byte, HalfWord, Word, DoubleWord}
-use Rattle.rv64i_core.specs.declared.instruction.Instr.{Instr}
-use Rattle.rv64i_core.specs.declared.instruction.Instr.TheVariants as op
-use Rattle.rv64i_core.specs.UserImage.{user, cell_in}
-use Rattle.rv64i_core.proofs.Aligned.{within-page}
-use Rattle.user_copy.specs.Reach.{may, reaches, allows}
-use Rattle.user_copy.proofs.Ranges.{reaches-not}
-use Rattle.proc_table.specs.declared.process.Call.{Call}
-use Rattle.kernel_spec.specs.steps.Instruction.{next_instruction}
-use Rattle.std.specs.Int.{cast_unsigned, w32}
-use Rattle.kernel_spec.specs.views.Words.{c_int, or_zero}
-use Rattle.kernel_spec.specs.rows.Lines.{natural}
-use Rattle.kernel_spec.specs.views.Processes.{child_status}
-use Rattle.kernel_spec.specs.rows.Buffers.{writable, may_touching, reaches_touching}
-use Rattle.kernel_spec.specs.rows.Touches.{has_absent}
-use Rattle.kernel_spec.specs.views.View.{View, Descriptor, Shown, Shown_terminal, Shown_file, Shown_pipe, in_use}
-use Rattle.kernel_spec.specs.steps.Own.{Own, Answer, Stepped, Called, Blocked, Exited, Faulted}
-use Rattle.kernel_spec.specs.rows.Calls.{Row, Fork, Exit, Wait, Pipe_row, Read, Kill, Exec, Dup, Getpid, Sbrk}
-use Rattle.kernel_spec.specs.rows.Calls.{Sleep, Uptime, Open, Write, Close, Sbrklazy, row_of, perform, refused, least_zombie, read_stored}
-use Rattle.kernel_spec.specs.steps.Step.{own, unless_killed, going_on, after_instruction, call_begun, begun}
-use Rattle.kernel_spec.specs.rows.Tables.{lowest_free}
-use Rattle.kernel_spec.specs.rows.Stores.{Lies, nothing_stored, stored_by_wait, next_ends, stored_by_pipe, stored_from, unless_refused, stored_by_row, stored_by_instruction, stored_in}
-use Rattle.kernel_spec.specs.laws.Worlds.{StoresWhereUserMay}
 use Rattle.kernel_spec.proofs.rows.Filled.{moved_before, read_few}
 use Rattle.kernel_spec.proofs.rows.RowParts.{IsSettled, buffer_of, perform_parts, perform_row, unless, unless_nothing, moving, length_of_int, reaped, piped_from, read_on, read_from}
 use Rattle.kernel_spec.proofs.rows.Touched.{IsTouched, touched_view, absent_before}
 use Rattle.kernel_spec.proofs.rows.ByTouch.{by_call, by_instruction}
+use Rattle.rv64i_core.specs.declared.instruction.Instr.TheVariants as op
 
 -- user code may store at each of these
 abbrev pub Allowed : Image → Store → Type 0

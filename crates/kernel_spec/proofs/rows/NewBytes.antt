@@ -1,53 +1,22 @@
 -- A pipe that a step shows for the first time is empty, and a new process has its parent's image.
-use Rattle.std.proofs.Common.{◌≡◌, ℕ, suc, ◌<◌, ◌+◌, ◌-◌, ◌++◌, Bool, true, false, cond, not, ◌&&◌, ◌||◌, List, [], length, refl, ap, sym, ◌∙◌, take, drop, inl, inr}
-use Rattle.std.specs.Prelude.{Option, None, Some, ℤ, pos, negsuc, nat_eq, nat_lt, nat_le, IsSome, is_some, is_none, option_map, slice_get, Result, Ok, Err}
-use Rattle.std.specs.List.{list_any}
-use Rattle.std.specs.Int.{cast_unsigned, w32}
-use Rattle.std.proofs.lemmas.Bool.Decides.{eqb_tells}
-use Rattle.xk_base.specs.declared.limits.TheConstants.{NOFILE, SIZE_LIMIT, MAXPATH, MAXARG, ARG_BYTES}
-use Rattle.xk_base.specs.declared.errors.ExecError.{ExecError}
-use Rattle.kernel_spec.specs.steps.Instruction.{next_instruction}
-use Rattle.kernel_spec.specs.views.State.{ProgramFile, live}
-use Rattle.xk_base.specs.Words.{le_bytes}
-use Rattle.xk_base.specs.Image.{Image, price}
-use Rattle.xk_base.specs.Bytes.{write_image}
-use Rattle.xk_base.specs.Loaded.{Loaded, loaded}
-use Rattle.addr_space.specs.Absent.{grown_lazily}
-use Rattle.rv64i_core.specs.Step.{Step, Next, Ecall, Fault}
-use Rattle.pipe_core.specs.Pipe.{Pipe, new_pipe, with_more, without_first}
-use Rattle.console_core.specs.Reads.{Pulled, pulled}
-use Rattle.file_table.specs.declared.open_file.End.{End}
-use Rattle.file_table.specs.declared.open_file.End.TheVariants.{Reading, Writing}
-use Rattle.proc_table.specs.declared.process.Call.{Call}
-use Rattle.kernel_spec.specs.views.Words.{c_int, minus_one, with_value}
-use Rattle.kernel_spec.specs.rows.Buffers.{readable, writable, text_at, texts_at, no_slashes, grown, shrunk}
-use Rattle.kernel_spec.specs.rows.Touches.{has_absent}
-use Rattle.kernel_spec.specs.views.PipeEnds.{there, fit, has_bytes}
-use Rattle.kernel_spec.specs.views.Programs.{program_bytes, program_named}
-use Rattle.kernel_spec.specs.views.Processes.{child_status}
-use Rattle.kernel_spec.specs.views.View.{View, Descriptors, Descriptor, Shown, Shown_terminal, Shown_file, Shown_pipe, named, rename, rename_shown, pipe_name, shown_pipe_name, in_use}
-use Rattle.kernel_spec.specs.steps.Own.{Own, Exited, Faulted}
-use Rattle.kernel_spec.specs.rows.Tables.{lowest_free, lowest_free_above, with_descriptor, without_descriptor, with_copy, changed}
-use Rattle.kernel_spec.specs.rows.Tables.{change_pipe, advance, advanced, one_more_on, one_less_on, pipes_given_up}
-use Rattle.kernel_spec.specs.rows.Calls.{Row, Fork, Exit, Wait, Pipe_row, Read, Kill, Exec, Dup, Getpid}
-use Rattle.kernel_spec.specs.rows.Calls.{Sbrk, Sleep, Uptime, Open, Write, Close, Sbrklazy, row_of, perform, answered}
-use Rattle.kernel_spec.specs.rows.Calls.{gone, done, refused, waits, least_zombie, has_child, done_at, next_bytes}
-use Rattle.kernel_spec.specs.steps.Step.{own, unless_killed, going_on, after_instruction, call_begun, begun, stored}
-use Rattle.kernel_spec.specs.laws.Worlds.{NoOldPipe, NoOldChild}
-use Rattle.kernel_spec.specs.steps.KeptBytes.{IsNewPipe}
-use Rattle.std.proofs.lemmas.Bool.{eq-eqb}
-use Rattle.std.proofs.lemmas.Option.{same_Some}
+use Rattle.kernel_spec.proofs.Prelude.{[], ℕ, ℤ, ◌&&◌, ◌++◌, ◌+◌, ◌-◌, ◌<◌, ◌||◌, ◌∙◌, ◌≡◌, advance, advanced, after_instruction, answered, ap, ARG_BYTES, begun, Bool, c_int, Call, call_begun}
+use Rattle.kernel_spec.proofs.Prelude.{cast_unsigned, change_pipe, changed, child_status, Close, cond, Descriptor, Descriptors, done, done_at, drop, Dup, Ecall, End, eq-eqb, eqb_tells, Err, Exec}
+use Rattle.kernel_spec.proofs.Prelude.{ExecError, Exit, Exited, false, Fault, Faulted, fit, Fork, Getpid, going_on, gone, grown, grown_lazily, has_absent, has_bytes, has_child, has_passed, Image}
+use Rattle.kernel_spec.proofs.Prelude.{in_use, inl, inr, is_none, is_some, IsNewPipe, IsSome, Kill, le_bytes, least_zombie, length, List, list_any, live, Loaded, loaded, lowest_free}
+use Rattle.kernel_spec.proofs.Prelude.{lowest_free_above, MAXARG, MAXPATH, minus_one, named, nat_eq, nat_le, nat_lt, negsuc, new_pipe, Next, next_bytes, next_instruction, no_slashes, NOFILE, None}
+use Rattle.kernel_spec.proofs.Prelude.{NoOldChild, NoOldPipe, not, Ok, one_less_on, one_more_on, Open, Option, option_map, Own, own, perform, Pipe, pipe_name, Pipe_row, pipes_given_up, pos, price}
+use Rattle.kernel_spec.proofs.Prelude.{program_bytes, program_named, ProgramFile, Pulled, pulled, Read, readable, Reading, refl, refused, rename, rename_shown, Result, room_for, Row, row_of}
+use Rattle.kernel_spec.proofs.Prelude.{same_Some, Sbrk, Sbrklazy, Shown, Shown_file, Shown_pipe, shown_pipe_name, Shown_terminal, shrunk, SIZE_LIMIT, Sleep, slice_get, Some, Step, stored, suc, sym}
+use Rattle.kernel_spec.proofs.Prelude.{take, text_at, texts_at, there, ticks_since, true, unless_killed, Uptime, View, w32, Wait, waits, with_copy, with_descriptor, with_more, with_value}
+use Rattle.kernel_spec.proofs.Prelude.{without_descriptor, without_first, writable, Write, write_image, Writing}
 use Rattle.kernel_spec.proofs.steps.LeastPasses.{least_passes}
 use Rattle.kernel_spec.proofs.steps.NamesAreChosenAgain.{named_at}
-use Rattle.kernel_spec.proofs.rows.RowParts.{buffer_of, perform_parts, perform_row, unless, unless_nothing, moving, length_of_int, reaped, piped}
-use Rattle.kernel_spec.proofs.rows.RowParts.{piped_from, with_pipe, read_on, read_from, write_on, write_to, killed_by, exec_program, exec_path}
-use Rattle.kernel_spec.proofs.rows.RowParts.{dup_at, dup_on, dup_number, close_at, sbrk_by, shrink_to, lazy_by, exec_loaded, sleep_for}
-use Rattle.kernel_spec.proofs.rows.RowParts.{open_at, open_path, opened_as, kind_named, forked, cannot_fork, with_child, Named, The_console}
-use Rattle.kernel_spec.proofs.rows.RowParts.{A_program, Nothing, close_number, close_on, fork_parts, kill_pid, running, without_child}
-use Rattle.kernel_spec.specs.rows.Terminal.{room_for}
+use Rattle.kernel_spec.proofs.rows.RowParts.{buffer_of, perform_parts, perform_row, unless, unless_nothing, moving, length_of_int, reaped, piped, piped_from, with_pipe, read_on, read_from, write_on}
+use Rattle.kernel_spec.proofs.rows.RowParts.{write_to, killed_by, exec_program, exec_path, dup_at, dup_on, dup_number, close_at, sbrk_by, shrink_to, lazy_by, exec_loaded, sleep_for, open_at}
+use Rattle.kernel_spec.proofs.rows.RowParts.{open_path, opened_as, kind_named, forked, cannot_fork, with_child, Named, The_console, A_program, Nothing, close_number, close_on, fork_parts, kill_pid}
+use Rattle.kernel_spec.proofs.rows.RowParts.{running, without_child}
 use Rattle.kernel_spec.proofs.rows.Touched.{touched_view}
 use Rattle.kernel_spec.proofs.rows.ByTouch.{by_call_apart, by_instruction_apart}
-use Rattle.kernel_spec.specs.steps.Ticks.{ticks_since, has_passed}
 use Rattle.kernel_spec.proofs.Common.{view_low}
 
 abbrev Fine : View → Own → Type 0

@@ -1,25 +1,8 @@
 -- What a step leaves of its process's pages: a page that stays has the bytes that it had, and a page that came has zeros, but for those that the step stores.
-use Rattle.std.proofs.Common.{◌≡◌, ℕ, ◌+◌, ◌*◌, ◌<◌, Bool, true, false, cond, List, replicate, ap, sym, refl, ◌∙◌, get_or, length, subst}
-use Rattle.std.specs.Prelude.{Option, None, Some, pos, slice_index}
-use Rattle.std.specs.FinMap.{get}
-use Rattle.std.proofs.lemmas.List.{get_or-replicate, length-replicate}
-use Rattle.std.proofs.lemmas.Option.{same_Some}
-use Rattle.xk_base.specs.Image.{Image, Page}
-use Rattle.rv64i_core.specs.Step.{Step, Next, Ecall, Fault}
-use Rattle.rv64i_core.specs.UserImage.{user, with_store}
-use Rattle.proc_table.specs.declared.process.Call.{Call}
-use Rattle.kernel_spec.specs.steps.Instruction.{next_instruction}
-use Rattle.kernel_spec.specs.views.Words.{minus_one}
-use Rattle.kernel_spec.specs.views.View.{View}
-use Rattle.kernel_spec.specs.steps.Own.{Own, Called, Exited, Faulted}
-use Rattle.kernel_spec.specs.rows.Calls.{Row, Exec, row_of, perform, refused, gone}
-use Rattle.kernel_spec.specs.rows.Touches.{has_absent}
-use Rattle.kernel_spec.specs.steps.Step.{own, unless_killed, going_on, after_instruction, call_begun, call_or_begun, call_in, begun}
-use Rattle.rv64i_core.specs.Memory.{Store}
-use Rattle.kernel_spec.specs.rows.Stores.{Lies, nothing_stored, stored_by_row, stored_by_instruction, stored_in}
-use Rattle.kernel_spec.specs.laws.Worlds.{NoOldByte, OnlyStoresChangeBytes}
-use Rattle.kernel_spec.specs.rows.Execs.{IsExecOf, IsExecDone}
-use Rattle.kernel_spec.specs.steps.KeptBytes.{HasWholePages}
+use Rattle.kernel_spec.proofs.Prelude.{ℕ, ◌*◌, ◌+◌, ◌<◌, ◌∙◌, ◌≡◌, after_instruction, ap, begun, Bool, Call, call_begun, call_in, call_or_begun, Called, cond, Ecall, Exec, Exited, false, Fault}
+use Rattle.kernel_spec.proofs.Prelude.{Faulted, get, get_or, get_or-replicate, going_on, gone, has_absent, HasWholePages, Image, IsExecDone, IsExecOf, length, length-replicate, Lies, List, minus_one}
+use Rattle.kernel_spec.proofs.Prelude.{Next, next_instruction, None, NoOldByte, nothing_stored, OnlyStoresChangeBytes, Option, Own, own, Page, perform, pos, refl, refused, replicate, Row, row_of}
+use Rattle.kernel_spec.proofs.Prelude.{same_Some, slice_index, Some, Step, Store, stored_by_instruction, stored_by_row, stored_in, subst, sym, true, unless_killed, user, View, with_store}
 use Rattle.kernel_spec.proofs.rows.RowParts.{buffer_of, perform_parts}
 use Rattle.kernel_spec.proofs.rows.Touched.{IsTouched, touched_view, new_page, new_zeros}
 use Rattle.kernel_spec.proofs.rows.ByTouch.{by_call_apart, by_instruction_apart}

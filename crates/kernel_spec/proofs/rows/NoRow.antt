@@ -1,10 +1,6 @@
 -- Numbers that no row of the call table has.
-use Rattle.std.proofs.Common.{◌≡◌, ◌≢◌, ℕ, false, cond, List, [], ◌∷◌, Option, Some, None, inl, inr, refl, sym, ap, ◌∙◌}
-use Rattle.std.specs.Prelude.{ℤ, pos, negsuc, option_map, find, nat_eq}
-use Rattle.std.proofs.lemmas.Bool.Decides.{eqb_tells}
-use Rattle.proc_table.specs.declared.process.Call.{Call}
-use Rattle.kernel_spec.specs.views.View.{View}
-use Rattle.kernel_spec.specs.rows.Calls.{Row, table, row_of, perform, refused}
+use Rattle.kernel_spec.proofs.Prelude.{[], ℕ, ℤ, ◌∙◌, ◌∷◌, ◌≡◌, ◌≢◌, ap, Call, cond, eqb_tells, false, find, inl, inr, List, nat_eq, negsuc, None, Option, option_map, perform, pos, refl, refused, Row}
+use Rattle.kernel_spec.proofs.Prelude.{row_of, Some, sym, table, View}
 use Rattle.kernel_spec.proofs.rows.Decoding.{is_none_of_them}
 
 -- the row of a number in a list

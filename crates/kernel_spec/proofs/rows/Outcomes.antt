@@ -1,41 +1,17 @@
 -- What each step comes to: it is refused, it is done, it waits, or the process is gone; and which pid a new process has.
-use Rattle.std.proofs.Common.{◌≡◌, ℕ, suc, ◌+◌, ◌-◌, ◌++◌, Bool, true, false, cond, not, ◌&&◌, ◌||◌, List, length, refl, ap, sym, subst, take, drop, inl, inr, ◌⊎◌}
-use Rattle.std.specs.Prelude.{Option, None, Some, ℤ, pos, negsuc, nat_eq, nat_lt, nat_le, IsSome, MatchOption, slice_get, Result, Ok, Err}
-use Rattle.std.specs.List.{list_any}
-use Rattle.std.specs.Int.{cast_unsigned, w32}
-use Rattle.xk_base.specs.declared.limits.TheConstants.{SIZE_LIMIT, MAXPATH, MAXARG, ARG_BYTES}
-use Rattle.xk_base.specs.declared.errors.ExecError.{ExecError}
-use Rattle.xk_base.specs.Words.{le_bytes}
-use Rattle.xk_base.specs.Image.{Image, price}
-use Rattle.addr_space.specs.Absent.{grown_lazily}
-use Rattle.xk_base.specs.Bytes.{write_image}
-use Rattle.xk_base.specs.Loaded.{Loaded, loaded}
-use Rattle.rv64i_core.specs.Step.{Step, Next, Ecall, Fault}
-use Rattle.pipe_core.specs.Pipe.{with_more, without_first}
-use Rattle.console_core.specs.Reads.{Pulled, pulled}
-use Rattle.proc_table.specs.declared.process.Call.{Call}
-use Rattle.kernel_spec.specs.steps.Instruction.{next_instruction}
-use Rattle.kernel_spec.specs.views.Words.{c_int, minus_one}
-use Rattle.kernel_spec.specs.views.State.{ProgramFile}
-use Rattle.kernel_spec.specs.rows.Buffers.{readable, writable, text_at, texts_at, no_slashes, grown, shrunk}
-use Rattle.kernel_spec.specs.views.PipeEnds.{there, fit, has_bytes}
-use Rattle.kernel_spec.specs.views.Programs.{program_bytes, program_named}
-use Rattle.kernel_spec.specs.views.View.{View, Descriptor, Shown, Shown_terminal, Shown_file, Shown_pipe, in_use}
-use Rattle.kernel_spec.specs.steps.Own.{Own, Answer, Stepped, Called, Exited, gone_with}
-use Rattle.kernel_spec.specs.rows.Tables.{lowest_free, lowest_free_above, advance, change_pipe, with_copy, one_more_on, one_less_on, without_descriptor, with_descriptor, pipes_given_up}
-use Rattle.kernel_spec.specs.rows.Calls.{Row, Fork, Exit, Wait, Pipe_row, Read, Kill, Exec, Dup, Getpid}
-use Rattle.kernel_spec.specs.rows.Calls.{Sbrk, Sleep, Uptime, Open, Write, Close, Sbrklazy, row_of, perform, answered}
-use Rattle.kernel_spec.specs.rows.Calls.{gone, done, refused, waits, least_zombie, has_child, done_at, next_bytes}
-use Rattle.kernel_spec.specs.steps.Step.{own, unless_killed, going_on, after_instruction, call_begun, call_or_begun, begun, stored}
-use Rattle.kernel_spec.specs.views.Processes.{child_status}
-use Rattle.kernel_spec.proofs.rows.RowParts.{perform_row, unless, unless_nothing, moving, length_of_int, reaped, piped, piped_from, with_pipe, read_on}
-use Rattle.kernel_spec.proofs.rows.RowParts.{read_from, write_on, write_to, killed_by, exec_program, exec_path, dup_at, dup_on, dup_number, sbrk_by}
-use Rattle.kernel_spec.proofs.rows.RowParts.{shrink_to, lazy_by, exec_loaded, sleep_for, open_at, open_path, opened_as, kind_named, forked, cannot_fork}
-use Rattle.kernel_spec.proofs.rows.RowParts.{perform_parts, close_number, close_on, fork_parts, kill_pid, running, without_child}
-use Rattle.kernel_spec.specs.rows.Terminal.{room_for}
+use Rattle.kernel_spec.proofs.Prelude.{ℕ, ℤ, ◌&&◌, ◌++◌, ◌+◌, ◌-◌, ◌||◌, ◌≡◌, ◌⊎◌, advance, after_instruction, Answer, answered, ap, ARG_BYTES, begun, Bool, c_int, Call, call_begun, call_or_begun}
+use Rattle.kernel_spec.proofs.Prelude.{Called, cast_unsigned, change_pipe, child_status, Close, cond, Descriptor, done, done_at, drop, Dup, Ecall, Err, Exec, ExecError, Exit, Exited, false, Fault}
+use Rattle.kernel_spec.proofs.Prelude.{fit, Fork, Getpid, going_on, gone, gone_with, grown, grown_lazily, has_bytes, has_child, has_passed, Image, in_use, inl, inr, IsSome, Kill, le_bytes}
+use Rattle.kernel_spec.proofs.Prelude.{least_zombie, length, List, list_any, Loaded, loaded, lowest_free, lowest_free_above, MatchOption, MAXARG, MAXPATH, minus_one, nat_eq, nat_le, nat_lt, negsuc}
+use Rattle.kernel_spec.proofs.Prelude.{Next, next_bytes, next_instruction, no_slashes, None, not, Ok, one_less_on, one_more_on, Open, Option, Own, own, perform, Pipe_row, pipes_given_up, pos, price}
+use Rattle.kernel_spec.proofs.Prelude.{program_bytes, program_named, ProgramFile, Pulled, pulled, Read, readable, refl, refused, Result, room_for, Row, row_of, Sbrk, Sbrklazy, Shown, Shown_file}
+use Rattle.kernel_spec.proofs.Prelude.{Shown_pipe, Shown_terminal, shrunk, SIZE_LIMIT, Sleep, slice_get, Some, Step, Stepped, stored, subst, suc, sym, take, text_at, texts_at, there, ticks_since}
+use Rattle.kernel_spec.proofs.Prelude.{true, unless_killed, Uptime, View, w32, Wait, waits, with_copy, with_descriptor, with_more, without_descriptor, without_first, writable, Write, write_image}
+use Rattle.kernel_spec.proofs.rows.RowParts.{perform_row, unless, unless_nothing, moving, length_of_int, reaped, piped, piped_from, with_pipe, read_on, read_from, write_on, write_to, killed_by}
+use Rattle.kernel_spec.proofs.rows.RowParts.{exec_program, exec_path, dup_at, dup_on, dup_number, sbrk_by, shrink_to, lazy_by, exec_loaded, sleep_for, open_at, open_path, opened_as, kind_named}
+use Rattle.kernel_spec.proofs.rows.RowParts.{forked, cannot_fork, perform_parts, close_number, close_on, fork_parts, kill_pid, running, without_child}
 use Rattle.kernel_spec.proofs.rows.Touched.{touched_view}
 use Rattle.kernel_spec.proofs.rows.ByTouch.{NotRefused, by_call_apart, by_instruction_apart}
-use Rattle.kernel_spec.specs.steps.Ticks.{ticks_since, has_passed}
 
 -- where the next pid is n, a new process has that pid and is in no call, and one pid is used up
 abbrev pub Numbered : ℕ → Own → Type 0

@@ -1,13 +1,6 @@
 -- After every step each byte of a process's memory is of its own.
-use Rattle.std.proofs.Common.{◌≡◌, ℕ, ◌+◌, ◌*◌, ◌<◌, ◌≤◌, inl, inr, ◌⊎◌, refl, sym, arith, length}
-use Rattle.std.specs.Prelude.{Option, None, Some, slice_index}
-use Rattle.std.specs.FinMap.{get}
-use Rattle.std.proofs.lemmas.Bool.{cases_lt}
-use Rattle.xk_base.specs.Image.{Page}
-use Rattle.kernel_spec.specs.views.View.{View}
-use Rattle.rv64i_core.specs.Memory.{Store}
-use Rattle.kernel_spec.specs.rows.Stores.{stored_by, IsStored}
-use Rattle.kernel_spec.specs.laws.Worlds.{EachByteIsOfItsOwn}
+use Rattle.kernel_spec.proofs.Prelude.{ℕ, ◌*◌, ◌+◌, ◌<◌, ◌≡◌, ◌≤◌, ◌⊎◌, arith, cases_lt, EachByteIsOfItsOwn, get, inl, inr, IsStored, length, None, Option, Page, refl, slice_index, Some, Store}
+use Rattle.kernel_spec.proofs.Prelude.{stored_by, sym, View}
 use Rattle.kernel_spec.proofs.rows.NewPages.{no_old_byte, only_stores_change_bytes}
 
 -- a byte is stored, or it isn't

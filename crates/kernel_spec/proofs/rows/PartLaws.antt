@@ -1,29 +1,9 @@
 -- What the parts of rows do to the state. The laws of whole rows are these, with what each row tests before (RowLawsHold).
-use Rattle.std.specs.Prelude.{◌≡◌, ◌≢◌, ℕ, ◌+◌, ◌-◌, ◌++◌, pos, Bool, false, true, cond, List, length, None, Some, nat_eq, not, ◌<◌}
-use Rattle.std.specs.FinMap.{FinMap, get, insert, keys}
-use Rattle.std.specs.List.{list_any}
-use Rattle.std.specs.Ordering.{nat_cmp}
-use Rattle.xk_base.specs.declared.limits.TheConstants.{NOFILE}
-use Rattle.xk_base.specs.Words.{le_bytes}
-use Rattle.xk_base.specs.Image.{price}
-use Rattle.xk_base.specs.Loaded.{Loaded}
-use Rattle.pipe_core.specs.Pipe.{Pipe, new_pipe}
-use Rattle.file_table.specs.declared.open_file.End.{End}
-use Rattle.file_table.specs.declared.open_file.End.TheVariants.{Reading, Writing}
-use Rattle.file_table.specs.declared.open_file.Target.{Target}
-use Rattle.file_table.specs.declared.open_file.Target.TheVariants.{Program as File, Pipe as Pipe_end}
-use Rattle.file_table.specs.declared.open_file.OpenFile.{OpenFile}
-use Rattle.proc_table.specs.declared.process.Call.{Call}
-use Rattle.kernel_spec.specs.views.PipeEnds.{joined, parted, is_given_up}
-use Rattle.kernel_spec.specs.views.Processes.{Live}
-use Rattle.kernel_spec.specs.views.State.{State}
-use Rattle.kernel_spec.specs.views.View.{Descriptor, view_of, show}
-use Rattle.kernel_spec.specs.steps.Updates.{changed_state, own_state, alone_state, piped_state, filed_state, with_named, with_bytes, with_answer, started, forked_state, settled, kill_state, killer}
-use Rattle.kernel_spec.specs.others.Quiet.{pipe_of_target}
-use Rattle.kernel_spec.specs.views.WellFormed.{WellFormed}
-use Rattle.kernel_spec.specs.rows.Calls.{done, fork}
+use Rattle.kernel_spec.proofs.Prelude.{ℕ, ◌++◌, ◌+◌, ◌-◌, ◌<◌, ◌≡◌, ◌≢◌, After, alone_state, Bool, Call, changed_state, closed_state, cond, Descriptor, done, End, false, File, filed_state, FilesLeft}
+use Rattle.kernel_spec.proofs.Prelude.{FinMap, fork, forked_state, get, insert, is_given_up, IsLive, joined, keys, kill_state, killer, le_bytes, length, List, list_any, Live, Loaded, nat_cmp, nat_eq}
+use Rattle.kernel_spec.proofs.Prelude.{new_pipe, NobodyHas, NobodyNames, NOFILE, None, not, OnPipe, OpenFile, own_state, parted, Pipe, Pipe_end, pipe_of_target, piped_state, pos, price, Reading}
+use Rattle.kernel_spec.proofs.Prelude.{settled, show, Some, started, State, Target, true, view_of, WellFormed, with_answer, with_bytes, with_named, Writing}
 use Rattle.kernel_spec.proofs.rows.RowParts.{cannot_fork, killed_by, read_file, open_at, piped, dup_at, close_at, running}
-use Rattle.kernel_spec.specs.steps.Cases.{After, IsLive, FilesLeft, OnPipe, NobodyNames, NobodyHas, closed_state}
 use Rattle.kernel_spec.proofs.steps.NamesAreChosenAgain.{name_of_file}
 
 abbrev pub ExecPart : Type 0

@@ -1,21 +1,11 @@
 -- What sbrk and sbrklazy come to, case by case.
-use Rattle.std.proofs.Common.{◌≡◌, ℕ, suc, ◌+◌, ◌-◌, ◌<◌, ◌≤◌, ◌||◌, ◌⊎◌, Bool, true, false, cond, Some, None, inl, inr, refl, sym, ap, ◌∙◌, arith}
-use Rattle.std.specs.Prelude.{ℤ, pos, negsuc, nat_le, nat_lt}
-use Rattle.std.proofs.lemmas.Bool.{cases_lt, lt-ltb, le-ltb, le-leb, lt-leb}
-use Rattle.std.proofs.lemmas.Option.{none-some, same_Some}
-use Rattle.xk_base.specs.declared.limits.TheConstants.{SIZE_LIMIT}
-use Rattle.xk_base.specs.Image.{Image, page_count, price}
-use Rattle.addr_space.specs.Absent.{grown_lazily}
-use Rattle.addr_space.specs.Changes.{with_absent, zeroed}
+use Rattle.kernel_spec.proofs.Prelude.{ℕ, ℤ, ◌+◌, ◌-◌, ◌<◌, ◌||◌, ◌∙◌, ◌≡◌, ◌≤◌, ◌⊎◌, ap, arith, Bool, Call, cases_lt, cond, data_rights, done, false, grown, grown_lazily, Image, inl, inr, le-leb}
+use Rattle.kernel_spec.proofs.Prelude.{le-ltb, lt-leb, nat_le, nat_lt, negsuc, None, none-some, Own, page_count, pos, price, refl, refused, same_Some, shrunk, SIZE_LIMIT, Some, suc, sym, true, View}
+use Rattle.kernel_spec.proofs.Prelude.{with_absent, zeroed}
+use Rattle.std.proofs.lemmas.Bool.{lt-ltb}
 use Rattle.addr_space.proofs.Growing.{cost, later-more}
 use Rattle.addr_space.proofs.PriceTo.{cost-size}
 use Rattle.addr_space.proofs.Grown.{none-yet}
-use Rattle.proc_table.specs.declared.process.Call.{Call}
-use Rattle.kernel_spec.specs.rows.Buffers.{grown, shrunk}
-use Rattle.xk_base.specs.Access.{data_rights}
-use Rattle.kernel_spec.specs.views.View.{View}
-use Rattle.kernel_spec.specs.steps.Own.{Own}
-use Rattle.kernel_spec.specs.rows.Calls.{done, refused}
 use Rattle.kernel_spec.specs.rows.Sizes.{resized, resized_lazily, at_size}
 use Rattle.kernel_spec.proofs.rows.RowParts.{unless, grow_to, shrink_to, sbrk_by, lazy_by}
 

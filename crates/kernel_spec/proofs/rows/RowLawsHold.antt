@@ -1,43 +1,21 @@
 -- What each row does to the state, from the laws of its parts.
-use Rattle.std.proofs.Common.{◌≡◌, ℕ, ◌<◌, ◌+◌, ◌-◌, ◌++◌, cond, inl, inr, Bool, true, false, not, ◌||◌, List, Some, refl, sym, ap, ◌∙◌, subst, length, take, drop, arith}
-use Rattle.std.specs.Prelude.{pos, nat_eq, ◌==◌, option_map, slice_get}
-use Rattle.std.specs.FinMap.{get, insert}
-use Rattle.std.proofs.lemmas.Bool.{le-ltb, lt-leb}
-use Rattle.std.proofs.lemmas.Bool.Decides.{eqb_tells}
-use Rattle.xk_base.specs.declared.limits.TheConstants.{NPROC, PID_MAX, NOFILE, MAXPATH}
-use Rattle.xk_base.specs.Words.{le_bytes}
-use Rattle.xk_base.specs.Image.{price}
-use Rattle.pipe_core.specs.Pipe.{new_pipe}
-use Rattle.file_table.specs.declared.open_file.End.TheVariants.{Reading, Writing}
-use Rattle.file_table.specs.declared.open_file.Target.TheVariants.{Program as File, Pipe as Pipe_end}
-use Rattle.file_table.specs.declared.open_file.OpenFile.{OpenFile}
-use Rattle.proc_table.specs.declared.process.Call.{Call}
-use Rattle.kernel_spec.specs.views.Words.{c_int}
-use Rattle.kernel_spec.specs.rows.Buffers.{writable_now, text_at, no_slashes}
-use Rattle.addr_space.specs.Absent.{pages_at}
+use Rattle.kernel_spec.proofs.Prelude.{ℕ, ◌++◌, ◌+◌, ◌-◌, ◌<◌, ◌==◌, ◌||◌, ◌∙◌, ◌≡◌, After, alone_state, ap, arith, Bool, c_int, Call, changed_state, closed_state, CloseLaw, ClosePipeLaw, cond}
+use Rattle.kernel_spec.proofs.Prelude.{Descriptor, done, drop, DupLaw, DupPipeLaw, eqb_tells, exec, ExecLaw, false, File, filed_state, FileReadLaw, ForkLaw, get, has_mode, inl, inr, insert}
+use Rattle.kernel_spec.proofs.Prelude.{is_given_up, joined, kill_state, killer, KillLaw, le-ltb, le_bytes, length, List, Live, lowest_free, lowest_free_above, lt-leb, make_pipe, MAXPATH, nat_eq}
+use Rattle.kernel_spec.proofs.Prelude.{natural, new_pipe, no_slashes, NOFILE, not, NPROC, numbered, open_file, OpenFile, OpenLaw, option_map, Own, own_state, pages_at, parted, PID_MAX, Pipe_end}
+use Rattle.kernel_spec.proofs.Prelude.{piped_state, PipeLaw, pos, price, program_bytes, read, Reading, refl, refused, rename, settled, show, Shown, slice_get, Some, started, State, subst, sym, take}
+use Rattle.kernel_spec.proofs.Prelude.{text_at, true, View, view_of, what_is_named, with_answer, with_bytes, with_named, writable_now, Writing}
 use Rattle.kernel_spec.proofs.rows.Settled.{there-ready, touch-none}
-use Rattle.kernel_spec.specs.views.PipeEnds.{joined, parted, is_given_up}
-use Rattle.kernel_spec.specs.views.Programs.{program_bytes}
-use Rattle.kernel_spec.specs.views.Processes.{Live}
-use Rattle.kernel_spec.specs.views.State.{State}
-use Rattle.kernel_spec.specs.views.View.{View, Descriptor, Shown, view_of, show, numbered, rename}
 use Rattle.kernel_spec.proofs.steps.SeenByParts.{descriptor_at, descriptor_on}
-use Rattle.kernel_spec.specs.steps.Own.{Own}
-use Rattle.kernel_spec.specs.rows.Tables.{lowest_free, lowest_free_above}
-use Rattle.kernel_spec.specs.rows.Lines.{natural}
-use Rattle.kernel_spec.specs.steps.Updates.{alone_state, changed_state, own_state, piped_state, filed_state, with_answer, with_named, with_bytes, started, kill_state, killer, settled}
-use Rattle.kernel_spec.specs.rows.Calls.{exec, read, open_file, make_pipe, done, refused, what_is_named, has_mode}
-use Rattle.kernel_spec.specs.laws.RowLaws.{ExecLaw, ForkLaw, KillLaw, FileReadLaw, OpenLaw, PipeLaw, DupLaw, DupPipeLaw, CloseLaw, ClosePipeLaw}
-use Rattle.kernel_spec.specs.steps.Cases.{After, closed_state}
 use Rattle.kernel_spec.proofs.rows.RowParts.{cannot_fork, exec_loaded, unless, read_file, open_at, piped, dup_at, running}
 use Rattle.kernel_spec.proofs.rows.Decoding.{exec_case, kill_case, read_case, dup_case, close_case}
 use Rattle.kernel_spec.proofs.steps.NamesAreChosenAgain.{named_at, name_of_file}
 use Rattle.kernel_spec.proofs.turns.KeepsSlots.{listed}
+use Rattle.kernel_spec.proofs.Common.{passes, takes}
 use Rattle.kernel_spec.proofs.steps.AloneLawsHold as in-alone
 use Rattle.kernel_spec.proofs.steps.DupCloseLawsHold as in-descriptors
 use Rattle.kernel_spec.proofs.steps.FamilyLawsHold as in-family
 use Rattle.kernel_spec.proofs.steps.FileLawsHold as in-on-files
-use Rattle.kernel_spec.proofs.Common.{passes, takes}
 
 -- ---- exec, fork, kill
 

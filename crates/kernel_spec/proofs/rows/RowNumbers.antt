@@ -1,9 +1,6 @@
 -- Under which number a row stands in the table of the calls.
-use Rattle.std.proofs.Common.{◌≡◌, ℕ, Bool, true, false, cond, not, ◌||◌, List, [], ◌∷◌, Some, refl, ap, sym, ◌∙◌}
-use Rattle.std.specs.Prelude.{ℤ, pos, negsuc, option_map, nat_eq, find}
-use Rattle.std.specs.List.{list_all}
-use Rattle.std.proofs.lemmas.Bool.{eqb-true, and_parts}
-use Rattle.kernel_spec.specs.rows.Calls.{Row, table, row_of}
+use Rattle.kernel_spec.proofs.Prelude.{[], ℕ, ℤ, ◌||◌, ◌∙◌, ◌∷◌, ◌≡◌, and_parts, ap, Bool, cond, eqb-true, false, find, List, list_all, nat_eq, negsuc, not, option_map, pos, refl, Row, row_of, Some}
+use Rattle.kernel_spec.proofs.Prelude.{sym, table, true}
 
 -- `is_it` tells the row from the others, and it stands under this number alone
 module _ (is_it : Row → Bool) (row : Row) (number : ℕ) (told : is_it row ≡ true) where

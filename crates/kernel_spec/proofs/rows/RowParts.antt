@@ -1,36 +1,13 @@
 -- The rows of the call table in parts: a word for what is left of a row behind each test that has passed, where no page of the call's buffer is absent.
 -- The proofs go by them; that a row is what its parts say, once its buffer is touched, is in RowsByParts.
-use Rattle.std.specs.Prelude.{◌≡◌, ℕ, suc, ◌+◌, ◌-◌, Bool, true, false, cond, not, ◌&&◌, ◌||◌, List, [], ◌∷◌, ◌++◌, length}
-use Rattle.std.specs.Prelude.{take, drop, Option, None, Some, Result, Ok, Err, ℤ, pos, negsuc, nat_eq, nat_lt, nat_le, filter, slice_get, bytes_eq}
-use Rattle.std.specs.List.{list_any}
-use Rattle.std.specs.Int.{cast_unsigned, w32}
-use Rattle.xk_base.specs.declared.limits.TheConstants.{NPROC, PID_MAX, MAXPATH, MAXARG, ARG_BYTES, SIZE_LIMIT}
-use Rattle.xk_base.specs.declared.errors.ExecError.{ExecError}
-use Rattle.kernel_spec.specs.views.State.{ProgramFile}
-use Rattle.xk_base.specs.Words.{le_bytes}
-use Rattle.xk_base.specs.Image.{price}
-use Rattle.xk_base.specs.Bytes.{write_image}
-use Rattle.xk_base.specs.Loaded.{Loaded, loaded}
-use Rattle.rv64i_core.specs.Registers.{put, with_pc}
-use Rattle.pipe_core.specs.Pipe.{Pipe, new_pipe, with_more, without_first}
-use Rattle.console_core.specs.Reads.{Pulled, pulled}
-use Rattle.file_table.specs.declared.open_file.End.TheVariants.{Reading, Writing}
-use Rattle.proc_table.specs.declared.process.Call.{Call}
-use Rattle.kernel_spec.specs.rows.Buffers.{readable, writable, text_at, texts_at, no_slashes, grown, shrunk}
-use Rattle.kernel_spec.specs.rows.Touches.{has_absent, touch}
-use Rattle.addr_space.specs.Absent.{grown_lazily, pages_at}
-use Rattle.kernel_spec.specs.views.PipeEnds.{there, fit, has_bytes}
-use Rattle.kernel_spec.specs.views.Programs.{console_name, program_bytes, program_named}
-use Rattle.kernel_spec.specs.views.View.{View, Descriptor, Shown, Shown_terminal, Shown_file, Shown_pipe, in_use}
-use Rattle.kernel_spec.specs.rows.Tables.{lowest_free, lowest_free_above, with_descriptor, without_descriptor, with_copy, change_pipe, advance, one_more_on, one_less_on, doubled, pipes_given_up}
-use Rattle.kernel_spec.specs.views.Words.{SP, A1, c_int, with_value}
-use Rattle.kernel_spec.specs.views.Processes.{Running, child_status}
-use Rattle.kernel_spec.specs.steps.Own.{Own, Called, Exited, goes_on}
-use Rattle.kernel_spec.specs.rows.Calls.{Row, Fork, Exit, Wait, Pipe_row, Read, Kill, Exec, Dup, Getpid}
-use Rattle.kernel_spec.specs.rows.Calls.{Sbrk, Sleep, Uptime, Open, Write, Close, Sbrklazy, row_of, with_a0, answered}
-use Rattle.kernel_spec.specs.rows.Calls.{gone, done, refused, waits, least_zombie, has_child, done_at, next_bytes}
-use Rattle.kernel_spec.specs.steps.Ticks.{ticks_since, has_passed}
-use Rattle.kernel_spec.specs.rows.Terminal.{room_for}
+use Rattle.kernel_spec.proofs.Prelude.{[], ℕ, ℤ, ◌&&◌, ◌++◌, ◌+◌, ◌-◌, ◌||◌, ◌∷◌, ◌≡◌, A1, advance, answered, ARG_BYTES, Bool, bytes_eq, c_int, Call, Called, cast_unsigned, change_pipe, child_status}
+use Rattle.kernel_spec.proofs.Prelude.{Close, cond, console_name, Descriptor, done, done_at, doubled, drop, Dup, Err, Exec, ExecError, Exit, Exited, false, filter, fit, Fork, Getpid, goes_on, gone}
+use Rattle.kernel_spec.proofs.Prelude.{grown, grown_lazily, has_absent, has_bytes, has_child, has_passed, in_use, Kill, le_bytes, least_zombie, length, List, list_any, Loaded, loaded, lowest_free}
+use Rattle.kernel_spec.proofs.Prelude.{lowest_free_above, MAXARG, MAXPATH, nat_eq, nat_le, nat_lt, negsuc, new_pipe, next_bytes, no_slashes, None, not, NPROC, Ok, one_less_on, one_more_on, Open}
+use Rattle.kernel_spec.proofs.Prelude.{Option, Own, pages_at, PID_MAX, Pipe, Pipe_row, pipes_given_up, pos, price, program_bytes, program_named, ProgramFile, Pulled, pulled, put, Read, readable}
+use Rattle.kernel_spec.proofs.Prelude.{Reading, refused, Result, room_for, Row, row_of, Running, Sbrk, Sbrklazy, Shown, Shown_file, Shown_pipe, Shown_terminal, shrunk, SIZE_LIMIT, Sleep, slice_get}
+use Rattle.kernel_spec.proofs.Prelude.{Some, SP, suc, take, text_at, texts_at, there, ticks_since, touch, true, Uptime, View, w32, Wait, waits, with_a0, with_copy, with_descriptor, with_more, with_pc}
+use Rattle.kernel_spec.proofs.Prelude.{with_value, without_descriptor, without_first, writable, Write, write_image, Writing}
 
 -- ---- pages that come first
 

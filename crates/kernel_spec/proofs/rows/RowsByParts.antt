@@ -1,49 +1,23 @@
 -- Each row of the call table is what its parts say, once its buffer is touched, or it is refused.
-use Rattle.std.proofs.Common.{◌≡◌, ℕ, suc, ◌+◌, ◌-◌, ◌≤◌, ◌<◌, Bool, true, false, cond, not, ◌&&◌, ◌||◌, List, [], ◌∷◌, Option, Some, None, inl, inr, refl, sym, ap, ◌∙◌, subst, arith, ◌⊎◌}
-use Rattle.std.specs.Prelude.{ℤ, ◌+ℤ◌, pos, negsuc, Result, Ok, Err, nat_eq, nat_lt, nat_le, option_map, find, is_some, bytes_eq}
-use Rattle.std.specs.List.{list_any, position_from}
-use Rattle.std.specs.Prelude.{length, filter, take, drop, slice_get, if◌then◌else◌, ◌==◌}
-use Rattle.console_core.specs.Reads.{pulled}
-use Rattle.kernel_spec.specs.views.Programs.{program_bytes}
-use Rattle.std.specs.Int.{cast_unsigned, w32}
-use Rattle.xk_base.specs.declared.limits.TheConstants.{NPROC, PID_MAX, MAXPATH, MAXARG, ARG_BYTES, SIZE_LIMIT}
-use Rattle.xk_base.specs.Words.{le_bytes}
-use Rattle.xk_base.specs.Image.{Image, price}
-use Rattle.xk_base.specs.Bytes.{write_image}
-use Rattle.pipe_core.specs.Pipe.{Pipe, with_more, without_first}
-use Rattle.file_table.specs.declared.open_file.End.{End}
-use Rattle.kernel_spec.specs.rows.Buffers.{readable, writable, text_at, texts_at, no_slashes, grown, shrunk}
-use Rattle.kernel_spec.specs.rows.Touches.{has_absent, touch}
-use Rattle.addr_space.specs.Absent.{grown_lazily, pages_at, brought}
+use Rattle.kernel_spec.proofs.Prelude.{[], ℕ, ℤ, ◌&&◌, ◌+ℤ◌, ◌+◌, ◌-◌, ◌<◌, ◌==◌, ◌>>=◌, ◌>>◌, ◌or◌, ◌when◌, ◌||◌, ◌∙◌, ◌∷◌, ◌≡◌, ◌≤◌, ◌⊎◌, advance, ap, ARG_BYTES, arith, Blocked, Bool, both_ways}
+use Rattle.kernel_spec.proofs.Prelude.{brought, bytes_eq, c_int, Call, Called, cases_lt, cast_unsigned, change_pipe, Child, child_status, Close, close, cond, console_name, Descriptor, done, done_at}
+use Rattle.kernel_spec.proofs.Prelude.{drop, Dup, dup, End, eqb_tells, Err, Exec, exec, ExecError, Exit, exit, Exited, false, false≢true, filter, find, fit, Fork, fork, Getpid, getpid, gone, grown}
+use Rattle.kernel_spec.proofs.Prelude.{grown_lazily, has_absent, has_bytes, has_child, has_mode, has_passed, has_status, if◌then◌else◌, Image, in_use, inl, inr, is_some, Kill, kill, le-leb, le-ltb}
+use Rattle.kernel_spec.proofs.Prelude.{le_bytes, least_zombie, length, List, list_any, Loaded, loaded, lowest_free, lowest_free_above, lt-leb, make_pipe, MAXARG, MAXPATH, minus_one, nat_eq, nat_le}
+use Rattle.kernel_spec.proofs.Prelude.{nat_lt, natural, negsuc, next_bytes, next_line, no_slashes, None, not, not-false, NPROC, Ok, Open, open_file, Option, option_map, or_right, or_zero, Own}
+use Rattle.kernel_spec.proofs.Prelude.{pages_at, perform, PID_MAX, Pipe, Pipe_row, place_of, pos, position_from, price, program_bytes, program_named, ProgramFile, pulled, Read, read, read_stored}
+use Rattle.kernel_spec.proofs.Prelude.{readable, refl, refused, Result, result_of, Row, row, row_of, Sbrk, sbrk, Sbrklazy, sbrklazy, Shown, Shown_file, Shown_pipe, Shown_terminal, shrunk, SIZE_LIMIT}
+use Rattle.kernel_spec.proofs.Prelude.{Sleep, sleep, slice_get, Some, status_stored, subst, suc, sym, take, text_at, texts_at, there, ticks_since, touch, true, Uptime, uptime, View, w32, Wait, wait}
+use Rattle.kernel_spec.proofs.Prelude.{waits, what_is_named, with_descriptor, with_more, with_value, without_first, without_line, writable, Write, write, write_image}
 use Rattle.kernel_spec.proofs.rows.Settled.{touch-none, touch-comes, touch-settles, touch-again, store-brought}
-use Rattle.kernel_spec.specs.views.PipeEnds.{fit, has_bytes, there}
-use Rattle.kernel_spec.specs.views.Processes.{Child, has_status, child_status}
-use Rattle.kernel_spec.specs.views.Programs.{program_named, console_name, place_of}
 use Rattle.kernel_spec.proofs.rows.Resized.{grown-price}
-use Rattle.std.proofs.lemmas.Bool.{cases_lt, lt-ltb, le-ltb, le-leb, lt-leb, false≢true, not-false, or_right, both_ways}
-use Rattle.std.proofs.lemmas.Bool.Decides.{eqb_tells}
-use Rattle.kernel_spec.specs.rows.Tables.{lowest_free, lowest_free_above, change_pipe, advance, with_descriptor}
-use Rattle.xk_base.specs.Loaded.{Loaded, loaded}
-use Rattle.xk_base.specs.declared.errors.ExecError.{ExecError}
-use Rattle.proc_table.specs.declared.process.Call.{Call}
-use Rattle.kernel_spec.specs.views.Words.{c_int, minus_one, with_value, or_zero}
-use Rattle.kernel_spec.specs.views.State.{ProgramFile}
-use Rattle.kernel_spec.specs.views.View.{View, Descriptor, Shown, Shown_terminal, Shown_file, Shown_pipe, in_use}
-use Rattle.kernel_spec.specs.steps.Own.{Own, Called, Blocked, Exited}
-use Rattle.kernel_spec.proofs.rows.RowParts.{IsBrought, IsSettled, buffer_of, told_bytes, lazy_by, sbrklazy_parts, unless, unless_nothing}
-use Rattle.kernel_spec.proofs.rows.RowParts.{moving, length_of_int, A_program, Named, Nothing, The_console, dup_at, dup_number}
-use Rattle.kernel_spec.proofs.rows.RowParts.{dup_on, dup_parts, exec_loaded, exec_parts, exec_path, exec_program, forked, grow_to}
-use Rattle.kernel_spec.proofs.rows.RowParts.{killed_by, kind_named, open_at, open_parts, open_path, opened_as, perform_parts, perform_row}
-use Rattle.kernel_spec.proofs.rows.RowParts.{pipe_parts, piped, piped_from, program_place, read_on, read_parts, reaped, sbrk_by}
-use Rattle.kernel_spec.proofs.rows.RowParts.{sbrk_parts, shrink_to, sleep_parts, wait_parts, write_on, write_parts, write_pipe, close_number}
-use Rattle.kernel_spec.proofs.rows.RowParts.{close_on, close_parts, fork_parts, kill_parts, kill_pid, running, told, without_child}
-use Rattle.kernel_spec.specs.rows.Calls.{Row, Fork, Exit, Wait, Pipe_row, Read, Kill, Exec, Dup, Getpid, Sbrk, Sleep, Uptime}
-use Rattle.kernel_spec.specs.rows.Calls.{Open, Write, Close, Sbrklazy, row_of, refused, done, waits, has_mode, close, dup, exec, exit}
-use Rattle.kernel_spec.specs.rows.Calls.{fork, getpid, gone, has_child, kill, least_zombie, make_pipe, open_file, perform, read, row, sbrk, sbrklazy}
-use Rattle.kernel_spec.specs.rows.Calls.{sleep, uptime, wait, what_is_named, write, done_at, next_bytes, storing, status_stored, read_stored}
-use Rattle.kernel_spec.specs.rows.Lines.{◌>>=◌, ◌>>◌, ◌when◌, ◌or◌, natural, result_of}
-use Rattle.kernel_spec.specs.steps.Ticks.{ticks_since, has_passed}
-use Rattle.kernel_spec.specs.rows.Terminal.{next_line, without_line}
+use Rattle.std.proofs.lemmas.Bool.{lt-ltb}
+use Rattle.kernel_spec.proofs.rows.RowParts.{IsBrought, IsSettled, buffer_of, told_bytes, lazy_by, sbrklazy_parts, unless, unless_nothing, moving, length_of_int, A_program, Named, Nothing}
+use Rattle.kernel_spec.proofs.rows.RowParts.{The_console, dup_at, dup_number, dup_on, dup_parts, exec_loaded, exec_parts, exec_path, exec_program, forked, grow_to, killed_by, kind_named, open_at}
+use Rattle.kernel_spec.proofs.rows.RowParts.{open_parts, open_path, opened_as, perform_parts, perform_row, pipe_parts, piped, piped_from, program_place, read_on, read_parts, reaped, sbrk_by}
+use Rattle.kernel_spec.proofs.rows.RowParts.{sbrk_parts, shrink_to, sleep_parts, wait_parts, write_on, write_parts, write_pipe, close_number, close_on, close_parts, fork_parts, kill_parts, kill_pid}
+use Rattle.kernel_spec.proofs.rows.RowParts.{running, told, without_child}
+use Rattle.kernel_spec.specs.rows.Calls.{storing}
 use Rattle.kernel_spec.proofs.Common.{passes, takes}
 
 -- ---- the lines of a row

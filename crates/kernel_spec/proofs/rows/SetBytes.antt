@@ -1,28 +1,10 @@
 -- Each byte that a step stores is the one that its source has there.
-use Rattle.std.proofs.Common.{◌≡◌, ℕ, suc, ◌+◌, ◌-◌, ◌/◌, ◌%◌, ◌<◌, ◌≤◌, ◌++◌, Bool, true, false, cond, List, [], ◌∷◌, length, take, drop, set, inl, inr, refl, ap, sym, ◌∙◌, subst, arith}
-use Rattle.std.specs.Prelude.{Option, None, Some, option_map, slice_index}
-use Rattle.std.specs.FinMap.{get}
-use Rattle.std.proofs.lemmas.Bool.{cases_eq}
-use Rattle.std.proofs.lemmas.List.{get_or-set_same, get_or_append_left, get_or-append_right, length-take-le}
-use Rattle.std.proofs.lemmas.Option.{same_Some}
-use Rattle.xk_base.specs.Image.{Image, Page}
-use Rattle.xk_base.specs.Bytes.{byte_in, image_byte, put_in, put_byte, write_image}
-use Rattle.xk_base.specs.Gathered.{insert_some}
-use Rattle.xk_base.specs.declared.access.Access.TheVariants.{Store as Storing}
-use Rattle.addr_space.specs.Changes.{perm_of_page}
-use Rattle.user_copy.specs.Reach.{allows}
-use Rattle.rv64i_core.specs.Memory.{Store, written}
-use Rattle.rv64i_core.specs.Step.{Step, Next, Ecall, Fault}
-use Rattle.rv64i_core.specs.UserImage.{user, with_store, written_page, write_pages}
-use Rattle.proc_table.specs.declared.process.Call.{Call}
-use Rattle.kernel_spec.specs.steps.Instruction.{next_instruction}
-use Rattle.kernel_spec.specs.views.View.{View}
-use Rattle.kernel_spec.specs.steps.Own.{Own}
-use Rattle.kernel_spec.specs.rows.Calls.{Row, Fork, Exit, Wait, Pipe_row, Read, Kill, Exec, Dup, Getpid, Sbrk, Sleep, Uptime, Open, Write, Close, Sbrklazy, row_of, perform, refused}
-use Rattle.kernel_spec.specs.steps.Step.{own, unless_killed, going_on, after_instruction, call_begun, begun}
-use Rattle.kernel_spec.specs.rows.Stores.{Lies, nothing_stored, stored_by_row, stored_by_instruction, stored_in}
-use Rattle.kernel_spec.specs.laws.Worlds.{StoresTheseBytes}
-use Rattle.kernel_spec.specs.steps.KeptBytes.{HasWholePages}
+use Rattle.kernel_spec.proofs.Prelude.{[], ℕ, ◌%◌, ◌++◌, ◌+◌, ◌-◌, ◌/◌, ◌<◌, ◌∙◌, ◌∷◌, ◌≡◌, ◌≤◌, after_instruction, allows, ap, arith, begun, Bool, byte_in, Call, call_begun, cases_eq, Close, cond}
+use Rattle.kernel_spec.proofs.Prelude.{drop, Dup, Ecall, Exec, Exit, false, Fault, Fork, get, get_or-append_right, get_or-set_same, get_or_append_left, Getpid, going_on, HasWholePages, Image}
+use Rattle.kernel_spec.proofs.Prelude.{image_byte, inl, inr, insert_some, Kill, length, length-take-le, Lies, List, Next, next_instruction, None, nothing_stored, Open, Option, option_map, Own, own}
+use Rattle.kernel_spec.proofs.Prelude.{Page, perform, perm_of_page, Pipe_row, put_byte, put_in, Read, refl, refused, Row, row_of, same_Some, Sbrk, Sbrklazy, set, Sleep, slice_index, Some, Step, Store}
+use Rattle.kernel_spec.proofs.Prelude.{stored_by_instruction, stored_by_row, stored_in, StoresTheseBytes, Storing, subst, suc, sym, take, true, unless_killed, Uptime, user, View, Wait, with_store}
+use Rattle.kernel_spec.proofs.Prelude.{Write, write_image, write_pages, written, written_page}
 use Rattle.kernel_spec.proofs.rows.KeptBytes.{put_stays, write_stays}
 use Rattle.kernel_spec.proofs.rows.Filled.{Fills, wait_fills, pipe_fills, read_fills}
 use Rattle.kernel_spec.proofs.rows.MayStore.{Allowed, store_in_page, parts_allowed, refused_stores, instruction_may, same_row, same_begun, same_stores}

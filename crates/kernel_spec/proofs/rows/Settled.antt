@@ -1,21 +1,9 @@
 -- What comes of an image, and of a view, once pages are touched: those that were there are the same, and none of them is absent.
-use Rattle.std.proofs.Common.{◌≡◌, ℕ, zero, suc, ◌+◌, ◌*◌, ◌/◌, ◌<◌, ◌≤◌, Bool, true, false, not, ◌&&◌, ◌||◌, cond, List, [], ◌∷◌, Option, Some, None, inl, inr, refl, sym, ap, ◌∙◌, arith, ◌-◌, ◌⊎◌}
-use Rattle.std.specs.Prelude.{ℤ, pos, is_some, nat_lt, option_map}
-use Rattle.std.specs.List.{list_any, list_all, range_with_len}
-use Rattle.std.specs.FinMap.{get}
-use Rattle.std.proofs.lemmas.Bool.{cases_eq, cases_lt, lt-ltb, le-ltb, false≢true, not-false, or_right, and_right}
-use Rattle.std.proofs.lemmas.Option.{same_Some}
-use Rattle.xk_base.specs.Image.{Page, Image, price, with_page}
-use Rattle.xk_base.specs.declared.access.Access.{Access}
-use Rattle.xk_base.specs.declared.access.Access.TheVariants.{Store}
-use Rattle.addr_space.specs.Absent.{is_absent, pages_at, bring, brought}
-use Rattle.xk_base.specs.Access.{data_rights}
-use Rattle.addr_space.specs.Changes.{zeroed, perm_of_page}
-use Rattle.addr_space.proofs.Touching.{brought-size}
-use Rattle.user_copy.specs.Reach.{allows, may, reaches}
-use Rattle.kernel_spec.specs.rows.Buffers.{may_touching, reaches_touching, writable, writable_now}
-use Rattle.kernel_spec.specs.rows.Touches.{has_absent, at_price, touch}
-use Rattle.kernel_spec.specs.views.View.{View}
+use Rattle.kernel_spec.proofs.Prelude.{[], ℕ, ℤ, ◌&&◌, ◌*◌, ◌+◌, ◌-◌, ◌/◌, ◌<◌, ◌||◌, ◌∙◌, ◌∷◌, ◌≡◌, ◌≤◌, ◌⊎◌, Access, allows, and_right, ap, arith, at_price, Bool, bring, brought, brought-size}
+use Rattle.kernel_spec.proofs.Prelude.{cases_eq, cases_lt, cond, data_rights, false, false≢true, get, has_absent, Image, inl, inr, is_absent, is_some, le-ltb, List, list_all, list_any, may}
+use Rattle.kernel_spec.proofs.Prelude.{may_touching, nat_lt, None, not, not-false, Option, option_map, or_right, Page, pages_at, perm_of_page, pos, price, range_with_len, reaches, reaches_touching}
+use Rattle.kernel_spec.proofs.Prelude.{refl, same_Some, Some, Storing as Store, suc, sym, touch, true, View, with_page, writable, writable_now, zero, zeroed}
+use Rattle.std.proofs.lemmas.Bool.{lt-ltb}
 use Rattle.kernel_spec.proofs.rows.RowParts.{length_of_int}
 use Rattle.kernel_spec.proofs.steps.MapsAfterChange.{get_same, get_other}
 

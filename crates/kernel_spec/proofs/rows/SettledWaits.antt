@@ -1,11 +1,6 @@
 -- A call whose buffer has no absent page keeps it so while it waits.
-use Rattle.std.proofs.Common.{◌≡◌, ℕ, List, refl, ap, ◌∙◌}
-use Rattle.std.specs.Prelude.{Option, None, Some}
-use Rattle.xk_base.specs.Bytes.{write_image}
-use Rattle.proc_table.specs.declared.process.Call.{Call}
-use Rattle.kernel_spec.specs.views.View.{View}
-use Rattle.kernel_spec.specs.rows.Touches.{has_absent}
-use Rattle.kernel_spec.specs.rows.Calls.{Row, Fork, Exit, Wait, Pipe_row, Read, Kill, Exec, Dup, Getpid, Sbrk, Sleep, Uptime, Open, Write, Close, Sbrklazy, row_of}
+use Rattle.kernel_spec.proofs.Prelude.{ℕ, ◌∙◌, ◌≡◌, ap, Call, Close, Dup, Exec, Exit, Fork, Getpid, has_absent, Kill, List, None, Open, Option, Pipe_row, Read, refl, Row, row_of, Sbrk, Sbrklazy}
+use Rattle.kernel_spec.proofs.Prelude.{Sleep, Some, Uptime, View, Wait, Write, write_image}
 use Rattle.kernel_spec.proofs.steps.WritesKeepRights.{absent_written}
 use Rattle.kernel_spec.proofs.rows.RowParts.{buffer_of, IsSettled}
 

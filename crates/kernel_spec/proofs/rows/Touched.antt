@@ -1,18 +1,6 @@
 -- What a touch leaves of an image and of a view, in one record: each page that was there is as it was, and each page that came was absent and holds zeros.
-use Rattle.std.proofs.Common.{◌≡◌, ℕ, ◌*◌, false, true, not, ◌&&◌, replicate, length, List, refl, ap, sym, ◌∙◌, subst}
-use Rattle.std.specs.Prelude.{Option, None, Some, nat_lt, is_some}
-use Rattle.std.specs.FinMap.{get}
-use Rattle.std.proofs.lemmas.List.{length-replicate}
-use Rattle.std.proofs.lemmas.Option.{same_Some}
-use Rattle.phys_ram.specs.Ram.{zero_frame}
-use Rattle.xk_base.specs.Image.{Image, Page}
-use Rattle.addr_space.specs.Absent.{is_absent, brought}
-use Rattle.xk_base.specs.Access.{data_rights}
-use Rattle.addr_space.specs.Changes.{zeroed}
-use Rattle.addr_space.proofs.Touching.{brought-size}
-use Rattle.kernel_spec.specs.views.View.{View}
-use Rattle.kernel_spec.specs.steps.KeptBytes.{HasWholePages}
-use Rattle.kernel_spec.specs.rows.Touches.{touch}
+use Rattle.kernel_spec.proofs.Prelude.{ℕ, ◌&&◌, ◌*◌, ◌∙◌, ◌≡◌, ap, brought, brought-size, data_rights, false, get, HasWholePages, Image, is_absent, is_some, length, length-replicate, List, nat_lt}
+use Rattle.kernel_spec.proofs.Prelude.{None, not, Option, Page, refl, replicate, same_Some, Some, subst, sym, touch, true, View, zero_frame, zeroed}
 use Rattle.kernel_spec.proofs.rows.Settled.{absent-not-there, there-not-absent, brought-there, brought-new, touch-comes}
 
 -- the page that comes by a touch

@@ -1,26 +1,13 @@
 -- Every page of a process's memory has 4,096 bytes, after each step.
-use Rattle.std.proofs.Common.{◌≡◌, ℕ, ◌+◌, ◌*◌, Bool, true, false, cond, int_eq, List, length, Option, None, Some, inl, inr, ◌⊎◌, refl, ap, sym, ◌∙◌, subst}
-use Rattle.std.specs.Prelude.{ℤ, pos, negsuc, if◌then◌else◌, option_map, Result, Ok, Err, nat_lt}
-use Rattle.std.specs.FinMap.{get}
-use Rattle.std.proofs.lemmas.List.FromFn.{length-map-range_with_len}
-use Rattle.std.proofs.lemmas.Bool.Decides.{Decides-int_eq}
-use Rattle.std.proofs.lemmas.Option.{same_Some}
-use Rattle.xk_base.specs.Image.{Page, page_count}
-use Rattle.xk_base.specs.Loaded.{Loaded, loaded, page_by, addresses, end_after, page_perm, stack_over, segments_over, zeros, program_image, with_texts, stack_pointer, aligned, ◌>>=◌}
+use Rattle.kernel_spec.proofs.Prelude.{ℕ, ℤ, ◌*◌, ◌+◌, ◌∙◌, ◌≡◌, ◌⊎◌, addresses, aligned, Answer, ap, ArgsTooLong, Blocked, Bool, Call, call_in, Called, Close, cond, Decides-int_eq, Dup, end_after}
+use Rattle.kernel_spec.proofs.Prelude.{Err, Exec, ExecError, Exit, Exited, false, Faulted, Fork, gathered-get, get, Getpid, HasWholePages, if◌then◌else◌, inl, inr, int_eq, IsExecDone, Kill, length}
+use Rattle.kernel_spec.proofs.Prelude.{length-map-range_with_len, List, Loaded, loaded, nat_lt, negsuc, None, Ok, Open, Option, option_map, Own, own, Page, page_by, page_count, page_perm, Pipe_row}
+use Rattle.kernel_spec.proofs.Prelude.{pos, program_image, Read, refl, Result, Rights, Row, row_of, same_Some, Sbrk, Sbrklazy, segments_over, Sleep, Some, stack_over, stack_pointer, Stepped, subst}
+use Rattle.kernel_spec.proofs.Prelude.{sym, true, Uptime, View, Wait, with_texts, Write, zeros}
+use Rattle.xk_base.specs.Loaded.{◌>>=◌}
 use Rattle.xk_base.specs.ProgramFile.{page_up, header_of, segments_of}
-use Rattle.xk_base.specs.declared.access.Rights.{Rights}
-use Rattle.xk_base.specs.declared.errors.ExecError.{ExecError}
-use Rattle.xk_base.specs.declared.errors.ExecError.TheVariants.{ArgsTooLong}
 use Rattle.xk_base.specs.declared.program.Header.{Header}
 use Rattle.xk_base.specs.declared.program.Segment.{Segment}
-use Rattle.xk_base.proofs.Gathered.{gathered-get}
-use Rattle.proc_table.specs.declared.process.Call.{Call}
-use Rattle.kernel_spec.specs.views.View.{View}
-use Rattle.kernel_spec.specs.steps.Own.{Own, Answer, Stepped, Called, Blocked, Exited, Faulted}
-use Rattle.kernel_spec.specs.rows.Calls.{Row, Fork, Exit, Wait, Pipe_row, Read, Kill, Exec, Dup, Getpid, Sbrk, Sleep, Uptime, Open, Write, Close, Sbrklazy, row_of}
-use Rattle.kernel_spec.specs.steps.Step.{own, call_in}
-use Rattle.kernel_spec.specs.rows.Execs.{IsExecDone}
-use Rattle.kernel_spec.specs.steps.KeptBytes.{HasWholePages}
 use Rattle.kernel_spec.proofs.rows.NewPages.{no_old_byte, same_lengths}
 
 -- ---- a program in memory

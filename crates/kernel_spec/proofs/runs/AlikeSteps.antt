@@ -1,31 +1,15 @@
 -- A step of the same process in two worlds that can't be told apart leaves two that can't be told apart.
-use Rattle.std.proofs.Common.{◌≡◌, ◌≢◌, ℕ, ◌≤◌, Bool, true, false, List, inl, inr, refl, ap, sym, ◌∙◌, subst, arith}
-use Rattle.std.specs.Prelude.{Option, None, Some, IsSome, is_some, MatchOption, Contains}
-use Rattle.std.specs.Cmp.{nat_cmp_total}
-use Rattle.std.specs.FinMap.{get, same_map, nat_cmp-IsAntisymmetric}
-use Rattle.std.specs.FinSet.{contains, same_set}
-use Rattle.std.proofs.lemmas.Bool.Decides.{eqb_tells}
-use Rattle.xk_base.specs.declared.limits.TheConstants.{NOFILE}
-use Rattle.xk_base.specs.Words.{least_below}
-use Rattle.kernel_spec.specs.views.Processes.{Process}
-use Rattle.kernel_spec.specs.views.State.{State, live}
-use Rattle.kernel_spec.specs.views.View.{View, view, file_name, pipe_name}
-use Rattle.kernel_spec.specs.steps.Own.{Own, gone_with}
-use Rattle.kernel_spec.specs.steps.Step.{own}
-use Rattle.kernel_spec.specs.others.Quiet.{file_at, pipe_at, is_same, seen}
+use Rattle.kernel_spec.proofs.Prelude.{ℕ, ◌∙◌, ◌≡◌, ◌≢◌, ◌≤◌, ap, AreAlike, AreShown, arith, Bool, Contains, contains, eqb_tells, false, file_at, file_name, get, gone_with, inl, inr, is_same, is_some}
+use Rattle.kernel_spec.proofs.Prelude.{IsFreeSlot, IsLowestFree, IsNewbornOf, IsOrderly, IsSome, least_below, List, live, MatchOption, nat_cmp-IsAntisymmetric, nat_cmp_total, NOFILE, None, Option}
+use Rattle.kernel_spec.proofs.Prelude.{Outcome, Own, own, pipe_at, pipe_name, Process, refl, same_map, same_set, same_test, seen, Sleeps, Some, State, StateAfter, Step_of, StepOf, subst, sym, true}
+use Rattle.kernel_spec.proofs.Prelude.{Turns, TurnsAfter, View, view, WakesWhereDue, World}
 use Rattle.kernel_spec.proofs.steps.SeenByParts.{seen_descriptor, left_at}
-use Rattle.kernel_spec.specs.waking.Turns.{Turns, Sleeps, IsFreeSlot, IsLowestFree}
-use Rattle.kernel_spec.specs.views.WellFormed.{AreShown}
-use Rattle.kernel_spec.specs.runs.Run.{World, Outcome, Step_of, StepOf, StateAfter, TurnsAfter, IsNewbornOf}
-use Rattle.kernel_spec.specs.waking.Wakes.{WakesWhereDue}
-use Rattle.kernel_spec.specs.runs.Alike.{AreAlike, IsOrderly}
 use Rattle.kernel_spec.proofs.steps.OthersKeepTheRest.{pid_is}
 use Rattle.kernel_spec.proofs.rows.Pids.{own_sound}
 use Rattle.kernel_spec.proofs.turns.KeepsSlots.{is_listed, not_listed, was_or_new, new_slot}
 use Rattle.kernel_spec.proofs.runs.Shown.{shown_at, file_within, pipe_within}
 use Rattle.kernel_spec.proofs.runs.Sharing.{sharing_after, file_tracks, pipe_tracks}
 use Rattle.kernel_spec.proofs.Common.{the_value}
-use Rattle.addr_space.proofs.Prices.{same_test}
 
 -- ---- who sleeps, where the same ones wake
 

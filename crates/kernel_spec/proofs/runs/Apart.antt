@@ -1,9 +1,6 @@
 -- What is shared of a view, and what is not, can be chosen each for itself.
-use Rattle.std.proofs.Common.{◌≡◌, ℕ, Bool, refl, ap}
-use Rattle.std.specs.Prelude.{Option, None, Some}
-use Rattle.kernel_spec.specs.views.View.{Descriptor, Shown, Shown_terminal, Shown_file, Shown_pipe}
-use Rattle.kernel_spec.specs.laws.Worlds.{SharedIsApart}
-use Rattle.kernel_spec.specs.views.Shared.{bare, bare_shown, Part, Nothing_shared, Offset, Content, shared_part, shared}
+use Rattle.kernel_spec.proofs.Prelude.{ℕ, ◌≡◌, ap, bare, bare_shown, Bool, Content, Descriptor, None, Nothing_shared, Offset, Option, Part, refl, shared, shared_part, SharedIsApart, Shown, Shown_file}
+use Rattle.kernel_spec.proofs.Prelude.{Shown_pipe, Shown_terminal, Some}
 use Rattle.kernel_spec.proofs.steps.ViewIsSharedAndRest.{together, filled, filled_shown}
 
 abbrev some_shown : Option Descriptor → Shown

@@ -1,9 +1,5 @@
 -- Runs join and are split, and so do promised ones, which are runs; and a step of a run from boot is isolated.
-use Rattle.std.proofs.Common.{[], ◌∷◌, refl, subst}
-use Rattle.kernel_spec.specs.runs.Run.{World, IsRun, StepOf}
-use Rattle.kernel_spec.specs.waking.Wakes.{IsPromised}
-use Rattle.kernel_spec.specs.laws.WakeLaws.{PromisedRunsJoin, PromisedRunsSplit, PromisedIsRun}
-use Rattle.kernel_spec.specs.laws.Worlds.{RunsJoin, RunsSplit, Isolated}
+use Rattle.kernel_spec.proofs.Prelude.{[], ◌∷◌, Isolated, IsPromised, IsRun, PromisedIsRun, PromisedRunsJoin, PromisedRunsSplit, refl, RunsJoin, RunsSplit, StepOf, subst, World}
 use Rattle.kernel_spec.proofs.runs.Two.{own_step}
 
 pub runs_join : RunsJoin

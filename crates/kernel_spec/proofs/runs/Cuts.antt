@@ -1,23 +1,9 @@
 -- Each run is cut at the steps of a process; from boot on pids are given before they are used, and only calls that may wait are in progress.
-use Rattle.std.proofs.Common.{◌≡◌, ◌≢◌, ℕ, ◌+◌, ◌<◌, ◌≤◌, Bool, true, false, cond, List, [], ◌∷◌, map, Option, None, Some, inl, inr, ◌⊎◌, refl, ap, sym, ◌∙◌, subst, arith}
-use Rattle.std.specs.Prelude.{ℤ, IsSome, is_some, MatchOption, option_map, Contains, Ok}
-use Rattle.std.specs.FinMap.{FinMap, get}
-use Rattle.std.specs.Ordering.{nat_cmp}
-use Rattle.std.proofs.lemmas.Bool.{eq-eqb, eqb-true}
-use Rattle.std.proofs.lemmas.Bool.Decides.{eqb_tells}
-use Rattle.std.proofs.lemmas.Option.{same_Some}
-use Rattle.proc_table.specs.declared.process.Call.{Call}
-use Rattle.kernel_spec.specs.views.Processes.{Process, Live}
-use Rattle.kernel_spec.specs.views.State.{ProgramFile, State, live, live_part}
-use Rattle.kernel_spec.specs.views.View.{View, view, view_of}
-use Rattle.kernel_spec.specs.steps.Step.{own, call_or_begun}
-use Rattle.kernel_spec.specs.others.Quiet.{seen}
-use Rattle.kernel_spec.specs.runs.Run.{World, Event, Run, Tick, Key, Send, Outcome, Step_of, Turn, Idle, Ticked}
-use Rattle.kernel_spec.specs.runs.Run.{Typed, Sent, Halted, Happens, RunHappens, TickHappens, KeyHappens, TurnTaken, StepOf, IsRun, IsNewbornOf}
-use Rattle.kernel_spec.specs.laws.Worlds.{RunsAreCut, PidsAreGiven, OnlyWaitersAreInCalls}
-use Rattle.kernel_spec.specs.runs.Moments.{IsStepOf, Others, Moment, IsCut, is_step_of, steps_of}
-use Rattle.kernel_spec.specs.runs.First.{first}
-use Rattle.kernel_spec.specs.steps.Waiting.{waiting_calls}
+use Rattle.kernel_spec.proofs.Prelude.{[], ℕ, ℤ, ◌+◌, ◌<◌, ◌∙◌, ◌∷◌, ◌≡◌, ◌≢◌, ◌≤◌, ◌⊎◌, ap, arith, Bool, Call, call_or_begun, cond, Contains, eq-eqb, eqb-true, eqb_tells, Event, false, FinMap, first}
+use Rattle.kernel_spec.proofs.Prelude.{get, Halted, Happens, Idle, inl, inr, is_some, is_step_of, IsCut, IsNewbornOf, IsRun, IsSome, IsStepOf, Key, KeyHappens, List, Live, live, live_part, map}
+use Rattle.kernel_spec.proofs.Prelude.{MatchOption, Moment, nat_cmp, None, Ok, OnlyWaitersAreInCalls, Option, option_map, Others, Outcome, own, PidsAreGiven, Process, ProgramFile, refl, Run}
+use Rattle.kernel_spec.proofs.Prelude.{RunHappens, RunsAreCut, same_Some, seen, Send, Sent, Some, State, Step_of, StepOf, steps_of, subst, sym, Tick, Ticked, TickHappens, true, Turn, TurnTaken, Typed}
+use Rattle.kernel_spec.proofs.Prelude.{View, view, view_of, waiting_calls, World}
 use Rattle.kernel_spec.proofs.steps.OthersKeepTheRest.{kept, pid_is}
 use Rattle.kernel_spec.proofs.turns.KeepsSlots.{process_seen}
 use Rattle.kernel_spec.proofs.runs.Two.{own_step}

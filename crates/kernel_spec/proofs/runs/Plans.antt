@@ -1,11 +1,6 @@
 -- Rounds, plans, and plans that are cut off.
-use Rattle.std.proofs.Common.{◌≡◌, ℕ, zero, suc, ◌+◌, ◌-◌, ◌<◌, ◌≤◌, Bool, true, false, ◌||◌, List, [], ◌∷◌, ◌++◌, map, drop, inl, inr, ◌⊎◌, refl, ap, sym, ◌∙◌, subst, arith}
-use Rattle.std.proofs.lemmas.List.{append_assoc, map-append}
-use Rattle.std.proofs.lemmas.List.Folds.{list_any-append}
-use Rattle.std.specs.Prelude.{is_some}
-use Rattle.std.proofs.Math.Nat.{zero-add, suc-add}
-use Rattle.kernel_spec.specs.runs.Run.{Event, Outcome, Idle, halted_by}
-use Rattle.kernel_spec.specs.runs.Rounds.{round, events, halts, Planned, AreRounds, EndsInRound}
+use Rattle.kernel_spec.proofs.Prelude.{[], ℕ, ◌++◌, ◌+◌, ◌-◌, ◌<◌, ◌||◌, ◌∙◌, ◌∷◌, ◌≡◌, ◌≤◌, ◌⊎◌, ap, append_assoc, AreRounds, arith, Bool, drop, EndsInRound, Event, events, false, halted_by, halts}
+use Rattle.kernel_spec.proofs.Prelude.{Idle, inl, inr, is_some, List, list_any-append, map, map-append, Outcome, Planned, refl, round, subst, suc, suc-add, sym, true, zero, zero-add}
 use Rattle.kernel_spec.specs.laws.RoundLaws.{RoundsThenPlan, StopsThenPlan, RoundsFollowRounds, PlanGoesByRounds, CutEndsInRound}
 use Rattle.kernel_spec.proofs.Common.{or_false, or_assoc}
 

@@ -1,33 +1,14 @@
 -- The same events, sent to two worlds that can't be told apart, give the same outcomes, and leave two worlds that can't be told apart.
-use Rattle.std.proofs.Common.{◌≡◌, ℕ, ◌+◌, ◌%◌, ◌≤◌, ◌<◌, [], ◌∷◌, refl, ap, sym, ◌∙◌, subst, arith}
-use Rattle.std.specs.Prelude.{Option, None, Some, IsSome, is_some, ℤ, option_map}
-use Rattle.std.specs.Cmp.{nat_cmp_total}
-use Rattle.std.specs.FinMap.{get, nat_cmp-IsAntisymmetric}
-use Rattle.std.specs.FinSet.{contains, same_set}
-use Rattle.std.proofs.lemmas.Option.{same_Some}
-use Rattle.xk_base.specs.declared.limits.TheConstants.{NPROC}
-use Rattle.console_core.specs.Lists.{Console}
-use Rattle.console_core.specs.Keys.{line}
-use Rattle.proc_table.specs.Turns.{distance}
-use Rattle.kernel_spec.specs.views.Words.{CLOCK_ROUND}
-use Rattle.kernel_spec.specs.views.Processes.{Live}
-use Rattle.kernel_spec.specs.views.State.{State, live}
-use Rattle.kernel_spec.specs.views.View.{View, view, view_of}
-use Rattle.kernel_spec.specs.steps.Step.{own}
-use Rattle.kernel_spec.specs.waking.Turns.{Turns, Sleeps, HasSlot}
-use Rattle.kernel_spec.specs.views.WellFormed.{AreShown, HasSlots}
-use Rattle.kernel_spec.specs.runs.Run.{World, Event, Run, Tick, Key, Send, Outcome, Turn, Idle}
-use Rattle.kernel_spec.specs.runs.Run.{Step_of, Ticked, Typed, Sent, Halted, RunHappens, TickHappens, KeyHappens, SendHappens}
-use Rattle.kernel_spec.specs.runs.Run.{HaltedRun, TurnTaken, StepOf, StateAfter, TurnsAfter, IsButWoken, first_sent, sent}
-use Rattle.kernel_spec.specs.runs.Rounds.{events}
-use Rattle.kernel_spec.specs.waking.Wakes.{IsRunnable, IsNearest, TakesNearest, WakesWhereDue, Promised}
+use Rattle.kernel_spec.proofs.Prelude.{[], ℕ, ℤ, ◌%◌, ◌+◌, ◌<◌, ◌∙◌, ◌∷◌, ◌≡◌, ◌≤◌, ap, AreAlike, AreShown, arith, CLOCK_ROUND, Console, contains, distance, Event, events, first_sent, get, Halted}
+use Rattle.kernel_spec.proofs.Prelude.{HaltedRun, HasSlot, HasSlots, Idle, is_some, IsButWoken, IsNearest, IsOrderly, IsRunnable, IsSome, Key, KeyHappens, line, Live, live, nat_cmp-IsAntisymmetric}
+use Rattle.kernel_spec.proofs.Prelude.{nat_cmp_total, None, NPROC, Option, option_map, Outcome, own, Promised, refl, Run, RunHappens, same_set, same_Some, same_test, Send, SendHappens, Sent, sent}
+use Rattle.kernel_spec.proofs.Prelude.{Sleeps, Some, State, StateAfter, Step_of, StepOf, subst, sym, TakesNearest, Tick, Ticked, TickHappens, Turn, Turns, TurnsAfter, TurnTaken, Typed, View, view}
+use Rattle.kernel_spec.proofs.Prelude.{view_of, WakesWhereDue, World}
 use Rattle.kernel_spec.specs.laws.Replays.{FirstIsOrderly, StaysOrderly, EventIsDetermined, RunIsDetermined, ReplayIsTheSame}
-use Rattle.kernel_spec.specs.runs.Alike.{AreAlike, IsOrderly}
 use Rattle.kernel_spec.proofs.turns.KeepsSlots.{slots_stay}
 use Rattle.kernel_spec.proofs.well.FirstWell.{first_well, first_slots, nobody_sleeps}
 use Rattle.kernel_spec.proofs.runs.AlikeSteps.{still_asleep, alike_step, sleepers_after}
 use Rattle.kernel_spec.proofs.Common.{is_some-map, same_first, same_rest, same_Ok}
-use Rattle.addr_space.proofs.Prices.{same_test}
 
 -- ---- a clock or a console that changes
 

@@ -1,22 +1,13 @@
 -- Which descriptors of which processes are on the same open file, or on the same pipe, after a step: in two states in which the same ones were so before, and in which the
 -- stepping process saw the same, the same ones are so.
-use Rattle.std.proofs.Common.{◌≡◌, ◌≢◌, ℕ, Bool, true, false, ◌⊎◌, inl, inr, refl, ap, sym, ◌∙◌, subst}
-use Rattle.std.specs.Prelude.{Option, None, Some, IsSome, is_some, MatchOption}
-use Rattle.std.proofs.lemmas.Bool.{eq-eqb, eqb-true}
-use Rattle.std.proofs.lemmas.Bool.Decides.{eqb_tells}
-use Rattle.kernel_spec.specs.views.State.{State, live}
-use Rattle.kernel_spec.specs.views.View.{View, Descriptor, Shown, Shown_terminal, Shown_file, Shown_pipe, view, shown_pipe_name}
-use Rattle.kernel_spec.specs.steps.Own.{Own}
-use Rattle.kernel_spec.specs.steps.Step.{own}
-use Rattle.kernel_spec.specs.others.Quiet.{file_at, pipe_at, is_same, seen, seen_shown, meets_on_file, meets_on_pipe}
+use Rattle.kernel_spec.proofs.Prelude.{ℕ, ◌∙◌, ◌≡◌, ◌≢◌, ◌⊎◌, ap, AreShown, Bool, Descriptor, eq-eqb, eqb-true, eqb_tells, false, file_at, FilesAfter, inl, inr, is_same, is_some, IsNewbornOf, IsSome}
+use Rattle.kernel_spec.proofs.Prelude.{live, MatchOption, meets_on_file, meets_on_pipe, None, Option, Own, own, pipe_at, refl, same_test, seen, seen_shown, Shown, Shown_file, Shown_pipe}
+use Rattle.kernel_spec.proofs.Prelude.{shown_pipe_name, Shown_terminal, Some, State, StateAfter, subst, sym, true, View, view}
 use Rattle.kernel_spec.proofs.steps.SeenByParts.{pipe_of_file, seen_descriptor, left_at}
-use Rattle.kernel_spec.specs.views.WellFormed.{AreShown}
-use Rattle.kernel_spec.specs.runs.Run.{StateAfter, FilesAfter, IsNewbornOf}
 use Rattle.kernel_spec.proofs.steps.OthersKeepTheRest.{pid_is}
 use Rattle.kernel_spec.proofs.runs.Uses.{Uses, is_end, own_uses}
 use Rattle.kernel_spec.proofs.runs.Shown.{shown_at, file_seen, pipe_seen}
 use Rattle.kernel_spec.proofs.Common.{none_from_is_some, the_value, view_low}
-use Rattle.addr_space.proofs.Prices.{same_test}
 
 -- ---- two numbers, each if it is there
 

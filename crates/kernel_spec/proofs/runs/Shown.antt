@@ -1,18 +1,8 @@
 -- What the view of a process tells of its descriptors: which are in use, which are ends of pipes, and which are on the same open file and the same pipe.
-use Rattle.std.proofs.Common.{◌≡◌, ℕ, Bool, true, false, cond, refl, ap, sym, ◌∙◌, lt-ltb}
-use Rattle.std.specs.Prelude.{Option, None, Some, IsSome, is_some, option_map, nat_lt}
-use Rattle.std.specs.FinMap.{get}
-use Rattle.std.proofs.lemmas.Bool.{ltb-true}
-use Rattle.xk_base.specs.declared.limits.TheConstants.{NOFILE}
-use Rattle.file_table.specs.declared.open_file.OpenFile.{OpenFile}
-use Rattle.file_table.specs.declared.open_file.Target.{Target}
-use Rattle.file_table.specs.declared.open_file.Target.TheVariants.{Console as Terminal, Program as File, Pipe as Pipe_end}
-use Rattle.kernel_spec.specs.views.Processes.{Live}
-use Rattle.kernel_spec.specs.views.State.{State, live}
-use Rattle.kernel_spec.specs.views.View.{View, Descriptors, Descriptor, view, view_of, named, numbered, show, rename, file_name, pipe_name, shown_pipe_name}
-use Rattle.kernel_spec.specs.others.Quiet.{file_at, pipe_at, pipe_of_target, is_same}
+use Rattle.kernel_spec.proofs.Prelude.{ℕ, ◌∙◌, ◌≡◌, ap, AreShown, Bool, cond, Descriptor, Descriptors, false, File, file_at, file_name, get, is_same, is_some, IsSome, Live, live, lt-ltb, ltb-true}
+use Rattle.kernel_spec.proofs.Prelude.{named, nat_lt, NOFILE, None, numbered, OpenFile, Option, option_map, pipe_at, Pipe_end, pipe_name, pipe_of_target, refl, rename, show, shown_pipe_name, Some}
+use Rattle.kernel_spec.proofs.Prelude.{State, sym, Target, Terminal, true, View, view, view_of}
 use Rattle.kernel_spec.proofs.steps.SeenByParts.{file_of, pipe_of_file, pipe_of_open, descriptor_at, descriptor_on}
-use Rattle.kernel_spec.specs.views.WellFormed.{AreShown}
 use Rattle.kernel_spec.proofs.steps.NamesAreChosenAgain.{alike_named}
 use Rattle.kernel_spec.proofs.runs.Uses.{is_end, named_same}
 use Rattle.kernel_spec.proofs.Common.{none_is_same}

@@ -1,21 +1,7 @@
 -- Each byte of a process's memory has its source in its own line, over a whole run.
-use Rattle.std.proofs.Common.{◌≡◌, ◌≢◌, ℕ, ◌+◌, ◌-◌, ◌*◌, ◌/◌, ◌%◌, ◌<◌, true, false, List, [], ◌∷◌, Option, None, Some, inl, inr, ◌⊎◌, refl, ap, sym, ◌∙◌, subst, arith}
-use Rattle.std.specs.Prelude.{is_some, MatchOption, Ok, slice_index}
-use Rattle.std.specs.FinMap.{get}
-use Rattle.std.proofs.lemmas.Bool.Decides.{eqb_tells}
-use Rattle.std.proofs.lemmas.Option.{same_Some}
-use Rattle.xk_base.specs.Bytes.{byte_in}
-use Rattle.xk_base.specs.Image.{Image, Page}
-use Rattle.kernel_spec.specs.views.State.{ProgramFile, live}
-use Rattle.kernel_spec.specs.views.View.{View, view}
-use Rattle.kernel_spec.specs.steps.Step.{own, call_in}
-use Rattle.kernel_spec.specs.runs.Run.{World, Event, Outcome, Happens, StepOf, IsRun, IsNewbornOf}
-use Rattle.kernel_spec.specs.runs.First.{first}
-use Rattle.kernel_spec.specs.runs.Moments.{IsStepOf}
-use Rattle.kernel_spec.specs.steps.KeptBytes.{HasWholePages}
-use Rattle.kernel_spec.specs.rows.Stores.{stored_by, IsStored}
-use Rattle.kernel_spec.specs.runs.Sources.{HasByte, Holds, IsPut, Passes, Stands, WasPut}
-use Rattle.kernel_spec.specs.laws.Worlds.{EachByteHasItsSource}
+use Rattle.kernel_spec.proofs.Prelude.{[], ℕ, ◌%◌, ◌*◌, ◌+◌, ◌-◌, ◌/◌, ◌<◌, ◌∙◌, ◌∷◌, ◌≡◌, ◌≢◌, ◌⊎◌, ap, arith, byte_in, call_in, EachByteHasItsSource, eqb_tells, Event, false, first, get, Happens}
+use Rattle.kernel_spec.proofs.Prelude.{HasByte, HasWholePages, Holds, Image, inl, inr, is_some, IsNewbornOf, IsPut, IsRun, IsStepOf, IsStored, List, live, MatchOption, None, Ok, Option, Outcome, own}
+use Rattle.kernel_spec.proofs.Prelude.{Page, Passes, ProgramFile, refl, same_Some, slice_index, Some, Stands, StepOf, stored_by, subst, sym, true, View, view, WasPut, World}
 use Rattle.kernel_spec.proofs.steps.OthersKeepTheRest.{kept, pid_is}
 use Rattle.kernel_spec.proofs.rows.NewPages.{no_old_byte}
 use Rattle.kernel_spec.proofs.rows.NewBytes.{no_old_child}

@@ -1,16 +1,7 @@
 -- Two worlds.
-use Rattle.std.proofs.Common.{◌≡◌, ℕ, List, [], ◌∷◌, refl, ap, sym, ◌∙◌, subst}
-use Rattle.std.specs.Prelude.{Option, None, Some, ℤ, IsSome, is_some, true, false, MatchOption}
-use Rattle.std.proofs.Common.{inl, inr, ◌⊎◌}
-use Rattle.std.proofs.lemmas.Option.{same_Some}
-use Rattle.kernel_spec.specs.views.View.{View, view}
-use Rattle.kernel_spec.specs.steps.Step.{own}
-use Rattle.kernel_spec.specs.runs.Run.{World, Event, Run, Outcome, Step_of, Happens, RunHappens, StepOf, StateAfter}
-use Rattle.kernel_spec.specs.laws.Worlds.{TwoWorlds, SameStep}
-use Rattle.kernel_spec.specs.runs.Moments.{IsStepOf, Others, Moment, IsCut, AllBoth}
-use Rattle.kernel_spec.specs.views.Shared.{shared}
+use Rattle.kernel_spec.proofs.Prelude.{[], ℕ, ℤ, ◌∙◌, ◌∷◌, ◌≡◌, ◌⊎◌, AllBoth, ap, Event, false, Happens, inl, inr, is_some, IsCut, IsSome, IsStepOf, List, live, MatchOption, Moment, None, Option}
+use Rattle.kernel_spec.proofs.Prelude.{Others, Outcome, own, refl, Run, RunHappens, same_Some, SameStep, shared, Some, StateAfter, Step_of, StepOf, subst, sym, true, TwoWorlds, View, view, World}
 use Rattle.kernel_spec.proofs.steps.ViewIsSharedAndRest.{rest, same_view}
-use Rattle.kernel_spec.specs.views.State.{live}
 use Rattle.kernel_spec.proofs.steps.OthersKeepTheRest.{kept_others, pid_is}
 use Rattle.kernel_spec.proofs.Common.{same_first, same_rest, the_value}
 

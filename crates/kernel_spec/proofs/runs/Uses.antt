@@ -1,47 +1,19 @@
 -- What a step does with descriptors: none that stays in use changes between an end of a pipe and something else; a step that opens one closes none; and
 -- one that makes a process opens and closes none.
-use Rattle.std.proofs.Common.{◌≡◌, ℕ, suc, ◌<◌, ◌+◌, ◌-◌, ◌++◌, Bool, true, false, cond, not, ◌&&◌, ◌||◌, List, length, refl, ap, sym, ◌∙◌, take, drop, inl, inr}
-use Rattle.std.specs.Prelude.{Option, None, Some, ℤ, pos, negsuc, nat_eq, nat_lt, nat_le, IsSome, is_some, is_none, slice_get, Result, Ok, Err}
-use Rattle.std.specs.List.{list_any}
-use Rattle.std.specs.Int.{cast_unsigned, w32}
-use Rattle.std.proofs.lemmas.Bool.Decides.{eqb_tells}
-use Rattle.std.proofs.lemmas.Option.{none-some, same_Some}
-use Rattle.xk_base.specs.declared.limits.TheConstants.{NOFILE, SIZE_LIMIT, MAXPATH, MAXARG, ARG_BYTES}
-use Rattle.xk_base.specs.declared.errors.ExecError.{ExecError}
-use Rattle.xk_base.specs.Words.{le_bytes}
-use Rattle.xk_base.specs.Image.{Image, price}
-use Rattle.xk_base.specs.Bytes.{write_image}
-use Rattle.xk_base.specs.Loaded.{Loaded, loaded}
-use Rattle.addr_space.specs.Absent.{grown_lazily}
-use Rattle.rv64i_core.specs.Step.{Step, Next, Ecall, Fault}
-use Rattle.pipe_core.specs.Pipe.{Pipe, new_pipe, with_more, without_first}
-use Rattle.console_core.specs.Reads.{Pulled, pulled}
-use Rattle.file_table.specs.declared.open_file.End.TheVariants.{Reading, Writing}
-use Rattle.proc_table.specs.declared.process.Call.{Call}
-use Rattle.kernel_spec.specs.steps.Instruction.{next_instruction}
-use Rattle.kernel_spec.specs.views.Words.{c_int, minus_one, with_value}
-use Rattle.kernel_spec.specs.rows.Buffers.{readable, writable, text_at, texts_at, no_slashes, grown, shrunk}
-use Rattle.kernel_spec.specs.views.PipeEnds.{there, fit, has_bytes}
-use Rattle.kernel_spec.specs.views.Programs.{program_bytes, program_named}
-use Rattle.kernel_spec.specs.views.Processes.{child_status}
-use Rattle.kernel_spec.specs.views.State.{ProgramFile}
-use Rattle.kernel_spec.specs.views.View.{View, Descriptors, Descriptor, Shown, Shown_terminal, Shown_file, Shown_pipe, named, rename, pipe_name, shown_pipe_name, in_use}
-use Rattle.kernel_spec.specs.steps.Own.{Own, Exited, Faulted}
-use Rattle.kernel_spec.specs.rows.Tables.{lowest_free, lowest_free_above, without_descriptor, change_pipes, change_shown, changed, change_pipe}
-use Rattle.kernel_spec.specs.rows.Tables.{advance, advanced, advance_shown, one_more_on, one_less_on, pipes_given_up}
-use Rattle.kernel_spec.specs.rows.Calls.{Row, Fork, Exit, Wait, Pipe_row, Read, Kill, Exec, Dup, Getpid}
-use Rattle.kernel_spec.specs.rows.Calls.{Sbrk, Sleep, Uptime, Open, Write, Close, Sbrklazy, row_of, perform, answered}
-use Rattle.kernel_spec.specs.rows.Calls.{gone, done, refused, waits, least_zombie, has_child, done_at, next_bytes}
-use Rattle.kernel_spec.specs.steps.Step.{own, unless_killed, going_on, after_instruction, call_begun, begun, stored}
-use Rattle.kernel_spec.specs.rows.Terminal.{room_for}
-use Rattle.kernel_spec.specs.steps.Ticks.{ticks_since, has_passed}
+use Rattle.kernel_spec.proofs.Prelude.{ℕ, ℤ, ◌&&◌, ◌++◌, ◌+◌, ◌-◌, ◌<◌, ◌||◌, ◌∙◌, ◌≡◌, advance, advance_shown, advanced, after_instruction, answered, ap, ARG_BYTES, begun, Bool, c_int, Call}
+use Rattle.kernel_spec.proofs.Prelude.{call_begun, cast_unsigned, change_pipe, change_pipes, change_shown, changed, child_status, Close, cond, Descriptor, Descriptors, done, done_at, drop, Dup, Ecall}
+use Rattle.kernel_spec.proofs.Prelude.{eqb_tells, Err, Exec, ExecError, Exit, Exited, false, Fault, Faulted, fit, Fork, Getpid, going_on, gone, grown, grown_lazily, has_bytes, has_child, has_passed}
+use Rattle.kernel_spec.proofs.Prelude.{Image, in_use, inl, inr, is_none, is_some, IsSome, Kill, le_bytes, least_zombie, length, List, list_any, Loaded, loaded, lowest_free, lowest_free_above, MAXARG}
+use Rattle.kernel_spec.proofs.Prelude.{MAXPATH, minus_one, named, nat_eq, nat_le, nat_lt, negsuc, new_pipe, Next, next_bytes, next_instruction, no_slashes, NOFILE, None, none-some, not, Ok}
+use Rattle.kernel_spec.proofs.Prelude.{one_less_on, one_more_on, Open, Option, Own, own, perform, Pipe, pipe_name, Pipe_row, pipes_given_up, pos, price, program_bytes, program_named, ProgramFile}
+use Rattle.kernel_spec.proofs.Prelude.{Pulled, pulled, Read, readable, Reading, refl, refused, rename, Result, room_for, Row, row_of, same_Some, Sbrk, Sbrklazy, Shown, Shown_file, Shown_pipe}
+use Rattle.kernel_spec.proofs.Prelude.{shown_pipe_name, Shown_terminal, shrunk, SIZE_LIMIT, Sleep, slice_get, Some, Step, stored, suc, sym, take, text_at, texts_at, there, ticks_since, true}
+use Rattle.kernel_spec.proofs.Prelude.{unless_killed, Uptime, View, w32, Wait, waits, with_more, with_value, without_descriptor, without_first, writable, Write, write_image, Writing}
 use Rattle.kernel_spec.proofs.steps.LeastPasses.{least_passes}
 use Rattle.kernel_spec.proofs.steps.NamesAreChosenAgain.{named_at, pipe_renamed}
-use Rattle.kernel_spec.proofs.rows.RowParts.{perform_parts, perform_row, unless, unless_nothing, moving, length_of_int, reaped, piped}
-use Rattle.kernel_spec.proofs.rows.RowParts.{piped_from, with_pipe, read_on, read_from, write_on, write_to, killed_by, exec_program}
-use Rattle.kernel_spec.proofs.rows.RowParts.{exec_path, dup_at, dup_on, dup_number, close_at, sbrk_by, shrink_to, lazy_by}
-use Rattle.kernel_spec.proofs.rows.RowParts.{exec_loaded, sleep_for, open_at, open_path, opened_as, kind_named, forked, cannot_fork}
-use Rattle.kernel_spec.proofs.rows.RowParts.{with_child, close_number, close_on, fork_parts, kill_pid, running, without_child}
+use Rattle.kernel_spec.proofs.rows.RowParts.{perform_parts, perform_row, unless, unless_nothing, moving, length_of_int, reaped, piped, piped_from, with_pipe, read_on, read_from, write_on, write_to}
+use Rattle.kernel_spec.proofs.rows.RowParts.{killed_by, exec_program, exec_path, dup_at, dup_on, dup_number, close_at, sbrk_by, shrink_to, lazy_by, exec_loaded, sleep_for, open_at, open_path}
+use Rattle.kernel_spec.proofs.rows.RowParts.{opened_as, kind_named, forked, cannot_fork, with_child, close_number, close_on, fork_parts, kill_pid, running, without_child}
 use Rattle.kernel_spec.proofs.rows.Touched.{touched_view}
 use Rattle.kernel_spec.proofs.rows.ByTouch.{by_call, by_instruction_apart}
 use Rattle.kernel_spec.proofs.Common.{is_some-map, named_low, none_from_is_none}

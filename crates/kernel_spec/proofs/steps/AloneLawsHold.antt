@@ -1,32 +1,11 @@
 -- The laws of steps that change only the process itself, the console and the free frames.
-use Rattle.std.proofs.Common.{◌≡◌, ◌≢◌, ℕ, ◌+◌, ◌-◌, Bool, refl, ap, sym, ◌∙◌, subst, inl, inr, arith, cond}
-use Rattle.std.specs.Prelude.{Option, None, Some, pos, IsSome, MatchOption, is_some, option_map}
-use Rattle.std.proofs.lemmas.Bool.Decides.{eqb_tells}
-use Rattle.std.proofs.lemmas.Bool.{le-ltb}
-use Rattle.std.specs.FinMap.{get}
-use Rattle.xk_base.specs.Image.{Image, price}
-use Rattle.rv64i_core.specs.Registers.{Registers, put, with_pc, after}
-use Rattle.rv64i_core.specs.Step.{Step, Next, Fault}
-use Rattle.rv64i_core.specs.UserImage.{with_store}
-use Rattle.console_core.specs.Lists.{Console}
-use Rattle.proc_table.specs.declared.process.Call.{Call}
-use Rattle.kernel_spec.specs.steps.Instruction.{next_instruction}
-use Rattle.kernel_spec.specs.views.Words.{SP, A1, word}
-use Rattle.kernel_spec.specs.views.Processes.{Alive, Live}
-use Rattle.kernel_spec.specs.views.State.{State, live_part}
-use Rattle.kernel_spec.specs.views.View.{View, view, view_of, named, numbered}
-use Rattle.kernel_spec.specs.steps.Own.{Own, Answer, Stepped, Called, Blocked, goes_on, gone_with}
-use Rattle.kernel_spec.specs.rows.Calls.{done, waits, with_a0}
-use Rattle.kernel_spec.specs.rows.Touches.{at_price, touch, before_instruction}
-use Rattle.addr_space.specs.Absent.{brought}
+use Rattle.kernel_spec.proofs.Prelude.{ℕ, ◌+◌, ◌-◌, ◌∙◌, ◌≡◌, ◌≢◌, A1, After, after, after_instruction, Alive, alone_state, Answer, AnswerLaw, ap, arith, at_price, before_instruction, begun_live}
+use Rattle.kernel_spec.proofs.Prelude.{begun_state, Blocked, Bool, brought, Call, call_begun, Called, cond, Console, done, EcallLaw, EndLaw, eqb_tells, Fault, file_at, FilesAfter, get, goes_on}
+use Rattle.kernel_spec.proofs.Prelude.{going_on, gone_with, Image, in_call, inl, inr, InstructionLaw, is_some, IsBetweenCalls, IsSome, le-ltb, Live, live_part, MatchOption, named, Next}
+use Rattle.kernel_spec.proofs.Prelude.{next_instruction, None, numbered, Option, option_map, Own, own, own_state, pipe_at, pos, price, put, refl, Registers, ResumeLaw, Some, SP, started, State}
+use Rattle.kernel_spec.proofs.Prelude.{StateAfter, Step, Stepped, stepped, Store, subst, sym, touch, TouchLaw, unless_killed, View, view, view_of, WaitingLaw, waits, with_a0, with_answer, with_pc}
+use Rattle.kernel_spec.proofs.Prelude.{with_store, word}
 use Rattle.kernel_spec.proofs.memory.OnAbsent.{before_next}
-use Rattle.rv64i_core.specs.Memory.{Store}
-use Rattle.kernel_spec.specs.steps.Step.{own, unless_killed, going_on, after_instruction, call_begun}
-use Rattle.kernel_spec.specs.steps.Updates.{own_state, alone_state, with_answer, in_call, stepped, started}
-use Rattle.kernel_spec.specs.runs.Run.{StateAfter, FilesAfter}
-use Rattle.kernel_spec.specs.laws.RowLaws.{InstructionLaw, EcallLaw, ResumeLaw, EndLaw, AnswerLaw, WaitingLaw, TouchLaw}
-use Rattle.kernel_spec.specs.steps.Cases.{After, IsBetweenCalls, begun_live, begun_state}
-use Rattle.kernel_spec.specs.others.Quiet.{file_at, pipe_at}
 use Rattle.kernel_spec.proofs.steps.SeenByParts.{pipe_of_file}
 use Rattle.kernel_spec.proofs.steps.BegunIsAsBefore.{with_call, state_begun, same_file_at, same_view_of, quiet_begun, ecall_own}
 use Rattle.kernel_spec.proofs.steps.ChangeIsSeen.{alone, after_alone, view_alone, done_is, waits_is}

@@ -1,28 +1,11 @@
 -- What a step comes to for a process that has begun a call, or has touched pages, is what it comes to for the process before.
-use Rattle.std.proofs.Common.{◌≡◌, ◌≢◌, ℕ, ◌+◌, ◌%◌, ◌^◌, false, cond, refl, ap, sym, ◌∙◌, inl, inr}
-use Rattle.std.specs.Prelude.{Option, None, Some, ℤ, option_map, nat_eq}
-use Rattle.std.specs.Option.{option_or}
-use Rattle.std.specs.FinMap.{get}
-use Rattle.std.proofs.lemmas.Bool.Decides.{eqb_tells}
-use Rattle.xk_base.specs.declared.limits.TheConstants.{NOFILE}
-use Rattle.xk_base.specs.Words.{least_below}
-use Rattle.xk_base.specs.Image.{Image}
-use Rattle.rv64i_core.specs.Registers.{Registers}
-use Rattle.rv64i_core.specs.Step.{Ecall}
-use Rattle.kernel_spec.specs.steps.Instruction.{next_instruction}
-use Rattle.kernel_spec.specs.views.Processes.{Alive, Live, Status}
-use Rattle.proc_table.specs.declared.process.Call.{Call}
-use Rattle.kernel_spec.specs.views.State.{State, live, live_part}
-use Rattle.kernel_spec.specs.views.View.{View, view, view_of}
-use Rattle.kernel_spec.specs.steps.Own.{Own, gone_with}
-use Rattle.kernel_spec.specs.rows.Calls.{perform}
+use Rattle.kernel_spec.proofs.Prelude.{ℕ, ℤ, ◌%◌, ◌+◌, ◌^◌, ◌∙◌, ◌≡◌, ◌≢◌, after_instruction, Alive, alone_state, ap, Call, call_begun, cond, Ecall, eqb_tells, false, file_at, get, going_on}
+use Rattle.kernel_spec.proofs.Prelude.{gone_with, Image, inl, inr, is_same, least_below, Live, live, live_part, nat_eq, next_instruction, NOFILE, None, Option, option_map, option_or, Own, own}
+use Rattle.kernel_spec.proofs.Prelude.{perform, pipe_at, Quiet, refl, Registers, seen, seen_children, set_live, Some, State, Status, sym, unless_killed, View, view, view_of}
 use Rattle.kernel_spec.proofs.memory.OnAbsent.{before_ecall}
-use Rattle.kernel_spec.specs.steps.Step.{own, unless_killed, going_on, after_instruction, call_begun}
-use Rattle.kernel_spec.specs.others.Quiet.{Quiet, seen, seen_children, file_at, pipe_at, is_same}
 use Rattle.kernel_spec.proofs.steps.SeenByParts.{seen_descriptor, left_at, file_of, pipe_of_file}
-use Rattle.kernel_spec.proofs.steps.SeenByParts as parts
-use Rattle.kernel_spec.specs.steps.Updates.{set_live, alone_state}
 use Rattle.kernel_spec.proofs.steps.ViewsAfterSetLive.{view-set_live, same_child, live-set_live_here, live-set_live_there}
+use Rattle.kernel_spec.proofs.steps.SeenByParts as parts
 
 module _ (s : State) (p : ℕ) (old : Live) (was : get s.processes p ≡ Some (Alive old)) (r : Registers) (i : Image) (c : Option Call) (free : ℕ) where
   abbrev pub with_call : Live

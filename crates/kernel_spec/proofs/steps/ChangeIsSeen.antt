@@ -1,22 +1,7 @@
 -- Steps that change the process itself, and open files, pipes, the console and free frames.
-use Rattle.std.proofs.Common.{◌≡◌, ◌≢◌, ℕ, Bool, false, ◌||◌, refl, ap, sym, ◌∙◌}
-use Rattle.std.specs.Prelude.{Option, None, Some, ℤ, option_map}
-use Rattle.std.specs.FinMap.{FinMap, get}
-use Rattle.std.specs.Ordering.{nat_cmp}
-use Rattle.rv64i_core.specs.Registers.{Registers}
-use Rattle.xk_base.specs.Image.{Image}
-use Rattle.kernel_spec.specs.views.Words.{word}
-use Rattle.pipe_core.specs.Pipe.{Pipe}
-use Rattle.console_core.specs.Lists.{Console}
-use Rattle.file_table.specs.declared.open_file.OpenFile.{OpenFile}
-use Rattle.kernel_spec.specs.views.Processes.{Process, Alive, Live}
-use Rattle.proc_table.specs.declared.process.Call.{Call}
-use Rattle.kernel_spec.specs.views.State.{State, live, live_part}
-use Rattle.kernel_spec.specs.views.View.{View, Descriptors, named, numbered, view, view_of}
-use Rattle.kernel_spec.specs.steps.Own.{Own, Answer, Called, Blocked, goes_on, gone_with, left_by}
-use Rattle.kernel_spec.specs.rows.Calls.{with_a0, done, waits}
-use Rattle.kernel_spec.specs.others.Quiet.{seen_children}
-use Rattle.kernel_spec.specs.steps.Updates.{changed_state}
+use Rattle.kernel_spec.proofs.Prelude.{ℕ, ℤ, ◌||◌, ◌∙◌, ◌≡◌, ◌≢◌, Alive, Answer, ap, Blocked, Bool, Call, Called, changed_state, Console, Descriptors, done, false, FinMap, get, goes_on, gone_with}
+use Rattle.kernel_spec.proofs.Prelude.{Image, left_by, Live, live, live_part, named, nat_cmp, None, numbered, OpenFile, Option, option_map, Own, Pipe, Process, refl, Registers, seen_children, Some}
+use Rattle.kernel_spec.proofs.Prelude.{State, sym, View, view, view_of, waits, with_a0, word}
 use Rattle.kernel_spec.proofs.steps.MapsAfterChange.{get_same}
 use Rattle.kernel_spec.proofs.steps.ViewsAfterSetLive.{same_child, same_keys, live-set_live_there}
 use Rattle.kernel_spec.proofs.steps.OthersTableIsSeen.{Tells, Spares}

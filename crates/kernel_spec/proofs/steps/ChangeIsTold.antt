@@ -1,24 +1,7 @@
 -- The state after a step that changes the process itself, open files, pipes, the console and free frames.
-use Rattle.std.proofs.Common.{◌≡◌, ◌≢◌, ℕ, ◌⊎◌, refl, ap, sym, ◌∙◌, inl, inr, Bool}
-use Rattle.std.specs.Prelude.{Option, None, Some, IsSome, is_some}
-use Rattle.std.specs.FinMap.{FinMap, get}
-use Rattle.std.specs.Ordering.{nat_cmp}
-use Rattle.std.proofs.lemmas.Bool.Decides.{eqb_tells}
-use Rattle.std.proofs.lemmas.Option.{same_Some}
-use Rattle.xk_base.specs.Image.{Image}
-use Rattle.rv64i_core.specs.Registers.{Registers}
-use Rattle.pipe_core.specs.Pipe.{Pipe}
-use Rattle.console_core.specs.Lists.{Console}
-use Rattle.file_table.specs.declared.open_file.OpenFile.{OpenFile}
-use Rattle.proc_table.specs.declared.process.Call.{Call}
-use Rattle.kernel_spec.specs.views.Processes.{Alive, Live}
-use Rattle.kernel_spec.specs.views.State.{State, live, live_part}
-use Rattle.kernel_spec.specs.views.View.{Descriptors, view, view_of}
-use Rattle.kernel_spec.specs.steps.Own.{Own, Answer, gone_with}
-use Rattle.kernel_spec.specs.others.Quiet.{file_at}
+use Rattle.kernel_spec.proofs.Prelude.{ℕ, ◌∙◌, ◌≡◌, ◌≢◌, ◌⊎◌, Alive, Answer, ap, Bool, Call, changed_state, Console, Descriptors, eqb_tells, file_at, FinMap, get, gone_with, Image, inl, inr, is_some}
+use Rattle.kernel_spec.proofs.Prelude.{IsNewbornOf, IsSome, Live, live, live_part, nat_cmp, None, OpenFile, Option, Own, Pipe, refl, Registers, same_Some, Some, State, StateAfter, sym, view, view_of}
 use Rattle.kernel_spec.proofs.steps.SeenByParts.{file_of, pipe_of_open}
-use Rattle.kernel_spec.specs.steps.Updates.{changed_state}
-use Rattle.kernel_spec.specs.runs.Run.{StateAfter, IsNewbornOf}
 use Rattle.kernel_spec.proofs.steps.MapsAfterChange.{get_same}
 use Rattle.kernel_spec.proofs.steps.ViewsAfterSetLive.{live-set_live_there}
 use Rattle.kernel_spec.proofs.steps.OthersTableIsSeen.{Tells, Spares, kind, kind_pipe}

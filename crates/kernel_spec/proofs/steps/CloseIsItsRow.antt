@@ -1,24 +1,8 @@
 -- Close: it is the step that its row tells.
-use Rattle.std.proofs.Common.{◌≡◌, ◌≢◌, ℕ, ◌<◌, ◌+◌, Bool, true, false, cond, refl, ap, sym, ◌∙◌}
-use Rattle.std.proofs.Math.Path.{fun_ext}
-use Rattle.std.specs.Prelude.{Option, None, Some, pos, nat_eq}
-use Rattle.std.specs.FinMap.{FinMap, get, remove}
-use Rattle.std.specs.Ordering.{nat_cmp}
-use Rattle.std.proofs.lemmas.Bool.{eq-eqb}
-use Rattle.xk_base.specs.declared.limits.TheConstants.{NOFILE}
-use Rattle.kernel_spec.specs.views.Words.{word, with_value}
-use Rattle.pipe_core.specs.Pipe.{Pipe}
-use Rattle.file_table.specs.declared.open_file.OpenFile.{OpenFile}
-use Rattle.kernel_spec.specs.views.Processes.{Alive, Live}
-use Rattle.proc_table.specs.declared.process.Call.{Call}
-use Rattle.kernel_spec.specs.views.State.{State}
-use Rattle.kernel_spec.specs.views.View.{View, Descriptors, Descriptor, named, numbered, or_gone, view_of, file_name, pipe_name}
-use Rattle.kernel_spec.specs.steps.Own.{Called}
-use Rattle.kernel_spec.specs.rows.Tables.{without_descriptor, one_less_on, change_pipes, pipes_given_up}
-use Rattle.kernel_spec.specs.rows.Calls.{with_a0}
-use Rattle.kernel_spec.specs.others.Quiet.{is_same}
+use Rattle.kernel_spec.proofs.Prelude.{ℕ, ◌+◌, ◌<◌, ◌∙◌, ◌≡◌, ◌≢◌, Alive, ap, Bool, Call, Called, change_pipes, changed_state, cond, Descriptor, Descriptors, eq-eqb, false, file_name, FinMap, fun_ext}
+use Rattle.kernel_spec.proofs.Prelude.{get, is_same, Live, named, nat_cmp, nat_eq, NOFILE, None, numbered, one_less_on, OpenFile, Option, or_gone, Pipe, pipe_name, pipes_given_up, pos, refl, remove}
+use Rattle.kernel_spec.proofs.Prelude.{Some, State, sym, true, View, view_of, with_a0, with_value, without_descriptor, word}
 use Rattle.kernel_spec.proofs.steps.SeenByParts.{pipe_of_file, descriptor_at}
-use Rattle.kernel_spec.specs.steps.Updates.{changed_state}
 use Rattle.kernel_spec.proofs.steps.MapsAfterChange.{get_without}
 use Rattle.kernel_spec.proofs.steps.NamesAreChosenAgain.{Alike, alike_named, named_alike, bare}
 use Rattle.kernel_spec.proofs.steps.PipeChangeIsTold.{became}

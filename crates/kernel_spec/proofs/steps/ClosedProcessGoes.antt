@@ -1,17 +1,7 @@
 -- A process without descriptors goes.
-use Rattle.std.proofs.Common.{◌≡◌, ◌≢◌, ℕ, zero, suc, ◌+◌, false, cond, Option, Some, None, inl, inr, refl, sym, ap, ◌∙◌, arith}
-use Rattle.std.specs.Prelude.{ℤ, option_map}
-use Rattle.std.specs.Ordering.{nat_cmp}
-use Rattle.std.specs.FinMap.{FinMap, get, get-empty, empty, insert}
-use Rattle.std.proofs.lemmas.Bool.Decides.{eqb_tells}
-use Rattle.xk_base.specs.declared.limits.TheConstants.{NOFILE}
-use Rattle.xk_base.specs.Image.{price}
-use Rattle.pipe_core.specs.Pipe.{Pipe}
-use Rattle.kernel_spec.specs.views.Words.{is_this}
-use Rattle.kernel_spec.specs.views.Processes.{Live, Alive, Zombie}
-use Rattle.kernel_spec.specs.views.State.{State}
-use Rattle.kernel_spec.specs.steps.Cases.{IsLive}
-use Rattle.kernel_spec.specs.steps.Updates.{orphan, orphans, given_to, fewer_on, freed_on, fewer_on_all, freed_on_all, gone_state, give_frames, end_process, end_of}
+use Rattle.kernel_spec.proofs.Prelude.{ℕ, ℤ, ◌+◌, ◌∙◌, ◌≡◌, ◌≢◌, Alive, ap, arith, cond, empty, end_of, end_process, eqb_tells, false, fewer_on, fewer_on_all, FinMap, freed_on, freed_on_all, get}
+use Rattle.kernel_spec.proofs.Prelude.{get-empty, give_frames, given_to, gone_state, inl, inr, insert, is_this, IsLive, Live, nat_cmp, NOFILE, None, Option, option_map, orphan, orphans, Pipe, price}
+use Rattle.kernel_spec.proofs.Prelude.{refl, Some, State, suc, sym, zero, Zombie}
 use Rattle.kernel_spec.proofs.steps.OrphansKeepKeys.{get-orphans}
 
 module _ (s : State) (l : Live) (closed : l.descriptors ≡ empty) where

@@ -1,30 +1,11 @@
 -- The pipes where each descriptor of a process is closed, the last one first.
-use Rattle.std.proofs.Common.{◌≡◌, ◌≢◌, ℕ, zero, suc, ◌<◌, ◌≤◌, ◌+◌, ◌-◌, Bool, true, false, cond, ◌&&◌, refl, ap, sym, ◌∙◌, arith, inl, inr, ◌⊎◌}
-use Rattle.std.specs.Prelude.{Option, None, Some, option_map, nat_eq, unwrap_or}
-use Rattle.std.specs.FinMap.{FinMap, get, insert, remove, get-remove}
-use Rattle.std.specs.Ordering.{nat_cmp}
-use Rattle.std.specs.Cmp.{nat_cmp_total, unsigned_tied}
-use Rattle.std.proofs.lemmas.Bool.{eq-eqb, cases_lt, and_left, and_right}
-use Rattle.std.proofs.lemmas.Bool.Decides.{eqb_tells}
-use Rattle.xk_base.specs.declared.limits.TheConstants.{NOFILE}
-use Rattle.xk_base.specs.Words.{count_below, least_below}
-use Rattle.xk_base.proofs.Least.{none_below}
-use Rattle.kernel_spec.specs.views.Words.{is_this}
-use Rattle.pipe_core.specs.Pipe.{Pipe}
-use Rattle.file_table.specs.declared.open_file.End.{End}
-use Rattle.file_table.specs.declared.open_file.End.TheVariants.{Reading, Writing}
-use Rattle.kernel_spec.specs.views.PipeEnds.{parted, is_given_up}
-use Rattle.file_table.specs.declared.open_file.OpenFile.{OpenFile}
-use Rattle.file_table.specs.declared.open_file.Target.{Target}
-use Rattle.file_table.specs.declared.open_file.Target.TheVariants.{Console as Terminal, Program as File, Pipe as Pipe_end}
-use Rattle.kernel_spec.specs.views.Processes.{Live}
-use Rattle.kernel_spec.specs.views.State.{State}
-use Rattle.kernel_spec.specs.views.View.{Descriptors, Descriptor, Shown, Shown_terminal, Shown_file, Shown_pipe, named, numbered, rename}
-use Rattle.kernel_spec.specs.views.View.{show, or_gone, pipe_name, shown_pipe_name, least_on_pipe}
-use Rattle.kernel_spec.specs.rows.Tables.{on_end, shown_on_end, is_end, ends, all_closed, changed, names_given_up, pipes_given_up}
-use Rattle.kernel_spec.specs.others.Quiet.{pipe_of_target}
+use Rattle.kernel_spec.proofs.Prelude.{ℕ, ◌&&◌, ◌+◌, ◌-◌, ◌<◌, ◌∙◌, ◌≡◌, ◌≢◌, ◌≤◌, ◌⊎◌, all_closed, and_left, and_right, ap, arith, Bool, cases_lt, changed, cond, count_below, Descriptor, Descriptors}
+use Rattle.kernel_spec.proofs.Prelude.{End, end_of, ends, eq-eqb, eqb_tells, false, fewer_at, fewer_on, fewer_on_all, File, FinMap, freed_at, freed_on, freed_on_all, get, get-remove, inl, inr, insert}
+use Rattle.kernel_spec.proofs.Prelude.{is_end, is_given_up, is_this, least_below, least_on_pipe, Live, named, names_given_up, nat_cmp, nat_cmp_total, nat_eq, NOFILE, None, none_below, numbered}
+use Rattle.kernel_spec.proofs.Prelude.{on_end, OpenFile, Option, option_map, or_gone, parted, Pipe, Pipe_end, pipe_name, pipe_of_target, pipes_given_up, Reading, refl, remove, rename, settled, show}
+use Rattle.kernel_spec.proofs.Prelude.{Shown, Shown_file, shown_on_end, Shown_pipe, shown_pipe_name, Shown_terminal, Some, State, suc, sym, Target, target_of_open, Terminal, true, unsigned_tied}
+use Rattle.kernel_spec.proofs.Prelude.{unwrap_or, Writing, zero}
 use Rattle.kernel_spec.proofs.steps.SeenByParts.{pipe_of_file, pipe_of_open, descriptor_at, descriptor_on}
-use Rattle.kernel_spec.specs.steps.Updates.{settled, fewer_at, fewer_on, freed_at, freed_on, fewer_on_all, freed_on_all, end_of, target_of_open}
 use Rattle.kernel_spec.proofs.steps.MapsAfterChange.{get_at}
 use Rattle.kernel_spec.proofs.steps.LeastPasses.{least_passes, least_least}
 use Rattle.kernel_spec.proofs.steps.NamesAreChosenAgain.{named_at}

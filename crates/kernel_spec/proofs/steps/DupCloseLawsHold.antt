@@ -1,36 +1,12 @@
 -- The laws of dup and close.
-use Rattle.std.proofs.Common.{◌≡◌, ◌≢◌, ℕ, zero, suc, ◌<◌, ◌≤◌, ◌+◌, ◌-◌, Bool, true, false, cond, ◌&&◌, refl, ap, sym, ◌∙◌, inl, inr, ◌⊎◌, arith}
-use Rattle.std.proofs.Math.Path.{fun_ext}
-use Rattle.std.specs.Prelude.{Option, None, Some, pos, IsSome, option_map, nat_eq, unwrap_or}
-use Rattle.std.specs.FinMap.{FinMap, get, insert, remove}
-use Rattle.std.specs.Ordering.{nat_cmp}
-use Rattle.std.proofs.lemmas.Bool.{eq-eqb, and_right}
-use Rattle.std.proofs.lemmas.Bool.Decides.{eqb_tells}
-use Rattle.std.proofs.lemmas.Option.{same_Some}
-use Rattle.xk_base.specs.declared.limits.TheConstants.{NOFILE}
-use Rattle.xk_base.specs.Words.{count_below}
-use Rattle.pipe_core.specs.Pipe.{Pipe}
-use Rattle.file_table.specs.declared.open_file.End.{End}
-use Rattle.file_table.specs.declared.open_file.End.TheVariants.{Reading, Writing}
-use Rattle.file_table.specs.declared.open_file.OpenFile.{OpenFile}
-use Rattle.file_table.specs.declared.open_file.Target.{Target}
-use Rattle.file_table.specs.declared.open_file.Target.TheVariants.{Console as Terminal, Program as File, Pipe as Pipe_end}
-use Rattle.proc_table.specs.declared.process.Call.{Call}
-use Rattle.kernel_spec.specs.views.Words.{word, is_this}
-use Rattle.kernel_spec.specs.views.PipeEnds.{joined, parted, is_given_up}
-use Rattle.kernel_spec.specs.views.Processes.{Alive, Live}
-use Rattle.kernel_spec.specs.views.State.{State, live, live_part}
-use Rattle.kernel_spec.specs.views.View.{Descriptors, Descriptor, Shown, Shown_terminal, Shown_file, Shown_pipe, view_of, named, numbered}
-use Rattle.kernel_spec.specs.views.View.{rename, rename_shown, show, or_gone, least_on_file}
-use Rattle.kernel_spec.specs.steps.Own.{Called, goes_on}
-use Rattle.kernel_spec.specs.rows.Calls.{with_a0}
-use Rattle.kernel_spec.specs.rows.Tables.{one_more_on, one_less_on, change_pipes, changed, change_shown, ends, on_end, is_end, names_given_up, pipes_given_up}
-use Rattle.kernel_spec.specs.others.Quiet.{file_at, pipe_at, pipe_of_target}
+use Rattle.kernel_spec.proofs.Prelude.{ℕ, ◌&&◌, ◌+◌, ◌-◌, ◌<◌, ◌∙◌, ◌≡◌, ◌≢◌, ◌≤◌, ◌⊎◌, After, Alive, and_right, ap, arith, Bool, Call, Called, change_pipes, change_shown, changed, changed_state}
+use Rattle.kernel_spec.proofs.Prelude.{closed_state, cond, count_below, Descriptor, Descriptors, End, ends, eq-eqb, eqb_tells, false, File, file_at, FilesLeft, FinMap, fun_ext, get, goes_on, inl, inr}
+use Rattle.kernel_spec.proofs.Prelude.{insert, is_end, is_given_up, is_this, IsSome, joined, least_on_file, Live, live, live_part, named, names_given_up, nat_cmp, nat_eq, NOFILE, None, numbered}
+use Rattle.kernel_spec.proofs.Prelude.{on_end, one_less_on, one_more_on, OnPipe, OpenFile, Option, option_map, or_gone, parted, Pipe, pipe_at, Pipe_end, pipe_of_target, pipes_given_up, pos, Reading}
+use Rattle.kernel_spec.proofs.Prelude.{refl, remove, rename, rename_shown, same_Some, settled, show, Shown, Shown_file, Shown_pipe, Shown_terminal, Some, State, suc, sym, Target, Terminal, true}
+use Rattle.kernel_spec.proofs.Prelude.{unwrap_or, view_of, WellFormed, with_a0, with_answer, with_closed, with_named, word, Writing, zero}
 use Rattle.kernel_spec.proofs.steps.SeenByParts.{file_of, pipe_of_file, pipe_of_open, descriptor_at, descriptor_on}
 use Rattle.kernel_spec.proofs.steps.OthersTableIsSeen.{OtherNames, OtherHas}
-use Rattle.kernel_spec.specs.steps.Updates.{changed_state, with_answer, with_named, with_closed, settled}
-use Rattle.kernel_spec.specs.views.WellFormed.{WellFormed}
-use Rattle.kernel_spec.specs.steps.Cases.{After, OnPipe, FilesLeft, closed_state}
 use Rattle.kernel_spec.proofs.steps.MapsAfterChange.{get_same, get_other, get_without}
 use Rattle.kernel_spec.proofs.steps.NamesAreChosenAgain.{named_at}
 use Rattle.kernel_spec.proofs.steps.StateAfterIsTold.{OldOrNew}
@@ -42,11 +18,11 @@ use Rattle.kernel_spec.proofs.steps.EndMoreOrLess.{more_here, less_here, frees_h
 use Rattle.kernel_spec.proofs.steps.PipeChangeIsTold.{changed_tells, changed_spares}
 use Rattle.kernel_spec.proofs.steps.WellFormedIsEnough.{pipe_there, can_go}
 use Rattle.kernel_spec.proofs.steps.ClosingCountsDown.{count_some, on_an_end, name_of_pipe}
-use Rattle.kernel_spec.proofs.steps.DupIsItsRow as dups
-use Rattle.kernel_spec.proofs.steps.CloseIsItsRow as closes
 use Rattle.kernel_spec.proofs.rows.RowParts.{dup_at, close_at}
 use Rattle.kernel_spec.proofs.rows.PartLaws.{DupPart, DupPipePart, ClosePart, ClosePipePart}
 use Rattle.kernel_spec.proofs.Common.{count_below-none}
+use Rattle.kernel_spec.proofs.steps.DupIsItsRow as dups
+use Rattle.kernel_spec.proofs.steps.CloseIsItsRow as closes
 
 -- ---- a descriptor on what is no pipe
 

@@ -1,25 +1,8 @@
 -- Dup: it is the step that its row tells.
-use Rattle.std.proofs.Common.{◌≡◌, ◌≢◌, ℕ, ◌<◌, Bool, true, false, cond, refl, ap, sym, ◌∙◌}
-use Rattle.std.proofs.Math.Path.{fun_ext}
-use Rattle.std.specs.Prelude.{Option, None, Some, pos, option_map, nat_eq}
-use Rattle.std.specs.FinMap.{FinMap, get, insert}
-use Rattle.std.specs.Ordering.{nat_cmp}
-use Rattle.xk_base.specs.declared.limits.TheConstants.{NOFILE}
-use Rattle.kernel_spec.specs.views.Words.{word, with_value}
-use Rattle.pipe_core.specs.Pipe.{Pipe}
-use Rattle.file_table.specs.declared.open_file.OpenFile.{OpenFile}
-use Rattle.file_table.specs.declared.open_file.Target.{Target}
-use Rattle.file_table.specs.declared.open_file.Target.TheVariants.{Console as Terminal, Program as File, Pipe as Pipe_end}
-use Rattle.kernel_spec.specs.views.Processes.{Alive, Live}
-use Rattle.proc_table.specs.declared.process.Call.{Call}
-use Rattle.kernel_spec.specs.views.State.{State, live, live_part}
-use Rattle.kernel_spec.specs.views.View.{Descriptors, Descriptor, named, numbered, rename, show, or_gone, view_of}
-use Rattle.kernel_spec.specs.steps.Own.{Called, goes_on}
-use Rattle.kernel_spec.specs.rows.Tables.{with_copy, one_more_on}
-use Rattle.kernel_spec.specs.rows.Calls.{with_a0}
-use Rattle.kernel_spec.specs.others.Quiet.{file_at, pipe_at, pipe_of_target}
+use Rattle.kernel_spec.proofs.Prelude.{ℕ, ◌<◌, ◌∙◌, ◌≡◌, ◌≢◌, Alive, ap, Bool, Call, Called, changed_state, cond, Descriptor, Descriptors, false, File, file_at, FinMap, fun_ext, get, goes_on, insert}
+use Rattle.kernel_spec.proofs.Prelude.{Live, live, live_part, named, nat_cmp, nat_eq, NOFILE, None, numbered, one_more_on, OpenFile, Option, option_map, or_gone, Pipe, pipe_at, Pipe_end}
+use Rattle.kernel_spec.proofs.Prelude.{pipe_of_target, pos, refl, rename, show, Some, State, sym, Target, Terminal, true, view_of, with_a0, with_copy, with_value, word}
 use Rattle.kernel_spec.proofs.steps.SeenByParts.{file_of, pipe_of_file, pipe_of_open, offset_left, pipe_left, shown_offset, shown_pipe, descriptor_at, descriptor_on}
-use Rattle.kernel_spec.specs.steps.Updates.{changed_state}
 use Rattle.kernel_spec.proofs.steps.MapsAfterChange.{get_at, get_other}
 use Rattle.kernel_spec.proofs.steps.OthersTableIsSeen.{Tells, Spares, OtherNames, open_offset, target_offset}
 use Rattle.kernel_spec.proofs.steps.NamesAreChosenAgain.{named_at, named_copy}

@@ -1,28 +1,12 @@
 -- Dup and close of a descriptor on a pipe.
-use Rattle.std.proofs.Common.{◌≡◌, ◌≢◌, ℕ, zero, suc, ◌<◌, ◌≤◌, ◌+◌, Bool, false, cond, ◌&&◌, refl, ap, sym, ◌∙◌, inl, inr, arith}
-use Rattle.std.specs.Prelude.{Option, None, Some, option_map, nat_eq, unwrap_or}
-use Rattle.std.specs.FinMap.{get}
-use Rattle.std.proofs.lemmas.Bool.{eq-eqb}
-use Rattle.std.proofs.lemmas.Bool.Decides.{eqb_tells}
-use Rattle.xk_base.specs.declared.limits.TheConstants.{NOFILE}
-use Rattle.kernel_spec.specs.views.Words.{is_this}
-use Rattle.xk_base.specs.Words.{count_below}
-use Rattle.pipe_core.specs.Pipe.{Pipe}
-use Rattle.file_table.specs.declared.open_file.End.{End}
-use Rattle.kernel_spec.specs.views.PipeEnds.{joined, parted, is_given_up}
-use Rattle.file_table.specs.declared.open_file.OpenFile.{OpenFile}
-use Rattle.file_table.specs.declared.open_file.Target.{Target}
-use Rattle.file_table.specs.declared.open_file.Target.TheVariants.{Console as Terminal, Program as File, Pipe as Pipe_end}
-use Rattle.kernel_spec.specs.views.Processes.{Live}
-use Rattle.kernel_spec.specs.views.State.{State}
-use Rattle.kernel_spec.specs.views.View.{Descriptors, Descriptor, Shown_pipe, named, numbered, rename, or_gone, pipe_name, least_on_pipe}
-use Rattle.kernel_spec.specs.rows.Tables.{one_more_on, one_less_on, change_pipe, changed, names_given_up, pipes_given_up}
-use Rattle.kernel_spec.specs.others.Quiet.{pipe_of_target}
+use Rattle.kernel_spec.proofs.Prelude.{ℕ, ◌&&◌, ◌+◌, ◌<◌, ◌∙◌, ◌≡◌, ◌≢◌, ◌≤◌, ap, arith, Bool, change_pipe, changed, cond, count_below, Descriptor, Descriptors, End, eq-eqb, eqb_tells, false, File}
+use Rattle.kernel_spec.proofs.Prelude.{get, inl, inr, is_given_up, is_this, joined, least_on_pipe, Live, named, names_given_up, nat_eq, NOFILE, None, numbered, one_less_on, one_more_on, OpenFile}
+use Rattle.kernel_spec.proofs.Prelude.{Option, option_map, or_gone, parted, Pipe, Pipe_end, pipe_name, pipe_of_target, pipes_given_up, refl, rename, set_pipe, Shown_pipe, Some, State, suc, sym}
+use Rattle.kernel_spec.proofs.Prelude.{Target, Terminal, unwrap_or, zero}
 use Rattle.kernel_spec.proofs.steps.SeenByParts.{pipe_of_file, pipe_of_open, descriptor_at, descriptor_on}
 use Rattle.kernel_spec.proofs.steps.LeastPasses.{least_passes}
 use Rattle.kernel_spec.proofs.steps.NamesAreChosenAgain.{choice, named_at}
 use Rattle.kernel_spec.proofs.steps.OnePipeChanges.{numbered_set, named_change}
-use Rattle.kernel_spec.specs.steps.Updates.{set_pipe}
 use Rattle.kernel_spec.proofs.steps.ClosingCountsDown.{name_of_pipe}
 use Rattle.kernel_spec.proofs.Common.{count_below-same, this_is}
 

@@ -1,25 +1,7 @@
 -- The pipes where each descriptor of a process is counted once more, and where each is closed.
-use Rattle.std.proofs.Common.{◌≡◌, ◌≢◌, ℕ, zero, suc, ◌<◌, ◌+◌, Bool, true, false, cond, ◌&&◌, refl, ap, sym, ◌∙◌, arith, inl, inr}
-use Rattle.std.specs.Prelude.{Option, None, Some, option_map, nat_eq}
-use Rattle.std.specs.FinMap.{FinMap, get}
-use Rattle.std.specs.Ordering.{nat_cmp}
-use Rattle.std.proofs.lemmas.Bool.{eq-eqb}
-use Rattle.std.proofs.lemmas.Bool.Decides.{eqb_tells}
-use Rattle.xk_base.specs.declared.limits.TheConstants.{NOFILE}
-use Rattle.xk_base.specs.Words.{count_below}
-use Rattle.pipe_core.specs.Pipe.{Pipe}
-use Rattle.file_table.specs.declared.open_file.End.{End}
-use Rattle.file_table.specs.declared.open_file.End.TheVariants.{Reading, Writing}
-use Rattle.kernel_spec.specs.views.PipeEnds.{joined}
-use Rattle.file_table.specs.declared.open_file.OpenFile.{OpenFile}
-use Rattle.file_table.specs.declared.open_file.Target.{Target}
-use Rattle.file_table.specs.declared.open_file.Target.TheVariants.{Console as Terminal, Program as File, Pipe as Pipe_end}
-use Rattle.kernel_spec.specs.views.Processes.{Live}
-use Rattle.kernel_spec.specs.views.State.{State}
-use Rattle.kernel_spec.specs.views.View.{numbered}
-use Rattle.kernel_spec.specs.rows.Tables.{on_end, is_end}
-use Rattle.kernel_spec.specs.steps.Updates.{more_at, more_on, more_on_all, end_of, target_of_open}
-use Rattle.kernel_spec.specs.others.Quiet.{pipe_of_target}
+use Rattle.kernel_spec.proofs.Prelude.{ℕ, ◌&&◌, ◌+◌, ◌<◌, ◌∙◌, ◌≡◌, ◌≢◌, ap, arith, Bool, cond, count_below, End, end_of, eq-eqb, eqb_tells, false, File, FinMap, get, inl, inr, is_end, joined, Live}
+use Rattle.kernel_spec.proofs.Prelude.{more_at, more_on, more_on_all, nat_cmp, nat_eq, NOFILE, None, numbered, on_end, OpenFile, Option, option_map, Pipe, Pipe_end, pipe_of_target, Reading, refl}
+use Rattle.kernel_spec.proofs.Prelude.{Some, State, suc, sym, Target, target_of_open, Terminal, true, Writing, zero}
 use Rattle.kernel_spec.proofs.steps.SeenByParts.{pipe_of_file, pipe_of_open, descriptor_at, descriptor_on}
 use Rattle.kernel_spec.proofs.steps.MapsAfterChange.{get_at}
 use Rattle.kernel_spec.proofs.Common.{count_below-none}

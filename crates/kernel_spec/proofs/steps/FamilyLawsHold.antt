@@ -1,41 +1,24 @@
 -- The laws of the rows that make, end, wait for or mark a process.
-use Rattle.std.proofs.Common.{◌≡◌, ◌≢◌, ℕ, ◌<◌, Bool, true, false, cond, not, ◌&&◌, refl, ap, sym, ◌∙◌, subst, inl, inr, ◌⊎◌, arith}
-use Rattle.std.specs.Prelude.{Option, None, Some, ℤ, pos, IsSome, MatchOption, is_some, option_map, nat_eq}
-use Rattle.std.specs.FinMap.{FinMap, get, insert, keys}
-use Rattle.std.specs.Ordering.{nat_cmp}
-use Rattle.std.specs.List.{list_any}
-use Rattle.std.proofs.lemmas.Bool.Decides.{eqb_tells}
-use Rattle.std.proofs.lemmas.Option.{same_Some}
-use Rattle.file_table.specs.declared.open_file.OpenFile.{OpenFile}
-use Rattle.proc_table.specs.declared.process.Call.{Call}
-use Rattle.kernel_spec.specs.views.Processes.{Process, Alive, Live, Zombie}
-use Rattle.kernel_spec.specs.views.State.{State, live, live_part}
-use Rattle.kernel_spec.specs.views.View.{View, view, view_of}
-use Rattle.kernel_spec.specs.steps.Own.{Own, Answer, Called, goes_on, gone_with}
-use Rattle.kernel_spec.specs.rows.Calls.{fork, gone, wait, least_zombie}
-use Rattle.kernel_spec.specs.others.Quiet.{file_at, pipe_at}
+use Rattle.kernel_spec.proofs.Prelude.{ℕ, ℤ, ◌&&◌, ◌<◌, ◌∙◌, ◌≡◌, ◌≢◌, ◌⊎◌, After, Alive, Answer, ap, arith, Bool, Call, Called, cond, eqb_tells, false, file_at, FilesAfter, FilesLeft, FinMap, fork}
+use Rattle.kernel_spec.proofs.Prelude.{forked_child, forked_state, forking, get, given_to, goes_on, gone, gone_state, gone_with, GoneLaw, inl, inr, insert, is_some, is_this, IsNewbornOf, IsSome, keys}
+use Rattle.kernel_spec.proofs.Prelude.{kill_state, killer, least_zombie, list_any, Live, live, live_part, marked, MatchOption, nat_cmp, nat_eq, None, not, OpenFile, Option, option_map, orphan}
+use Rattle.kernel_spec.proofs.Prelude.{orphans, Own, own_state, pipe_at, pos, Process, ReapLaw, refl, same_Some, Some, State, subst, sym, true, View, view, view_of, wait, waited, waited_state}
+use Rattle.kernel_spec.proofs.Prelude.{WellFormed, writable_now, Zombie}
 use Rattle.kernel_spec.proofs.steps.SeenByParts.{file_of, pipe_of_file, pipe_of_open}
 use Rattle.kernel_spec.proofs.steps.OthersTableIsSeen.{OtherNames}
-use Rattle.kernel_spec.specs.steps.Updates.{forking, forked_child, forked_state, gone_state, waited_state, waited, kill_state, killer, own_state, marked, orphan, orphans, given_to}
-use Rattle.kernel_spec.specs.views.Words.{is_this}
-use Rattle.kernel_spec.specs.rows.Buffers.{writable_now}
-use Rattle.kernel_spec.specs.views.WellFormed.{WellFormed}
-use Rattle.kernel_spec.specs.runs.Run.{FilesAfter, IsNewbornOf}
-use Rattle.kernel_spec.specs.laws.RowLaws.{GoneLaw, ReapLaw}
-use Rattle.kernel_spec.specs.steps.Cases.{After, FilesLeft}
 use Rattle.kernel_spec.proofs.steps.MapsAfterChange.{get_same, get_other, get_without}
 use Rattle.kernel_spec.proofs.steps.ViewsAfterSetLive.{live-set_live_there}
 use Rattle.kernel_spec.proofs.steps.StateAfterIsTold.{files_after, state_after}
 use Rattle.kernel_spec.proofs.steps.WellFormedIsEnough.{can_fork, can_go}
 use Rattle.kernel_spec.proofs.steps.OrphansKeepKeys.{get-orphans}
-use Rattle.kernel_spec.proofs.steps.ForkIsItsRow as forks
-use Rattle.kernel_spec.proofs.steps.GoneIsItsRow as goes
-use Rattle.kernel_spec.proofs.steps.WaitIsItsRow as reaps
-use Rattle.kernel_spec.proofs.steps.KillIsItsRow as kills
 use Rattle.kernel_spec.proofs.rows.RowParts.{killed_by, cannot_fork}
 use Rattle.kernel_spec.proofs.rows.PartLaws.{ForkPart, KillPart}
 use Rattle.kernel_spec.proofs.Common.{is_some-view}
 use Rattle.kernel_spec.proofs.steps.AloneLawsHold.{by_own}
+use Rattle.kernel_spec.proofs.steps.ForkIsItsRow as forks
+use Rattle.kernel_spec.proofs.steps.GoneIsItsRow as goes
+use Rattle.kernel_spec.proofs.steps.WaitIsItsRow as reaps
+use Rattle.kernel_spec.proofs.steps.KillIsItsRow as kills
 
 no_file : (o : Option Live) (d f : ℕ) → o ≡ None → file_of o d ≡ Some f → ⊥
 no_file None d f e h = cc

@@ -1,49 +1,25 @@
 -- The laws of the rows on pipes and programs' files, and of those that open a file or make a pipe.
-use Rattle.std.proofs.Common.{◌≡◌, ◌≢◌, ℕ, ◌<◌, ◌-◌, ◌++◌, length, take, Bool, true, false, cond, not, refl, ap, sym, ◌∙◌, subst, inl, inr}
-use Rattle.std.specs.Prelude.{Option, None, Some, ℤ, pos, unwrap_or}
-use Rattle.std.specs.FinMap.{FinMap, get, insert}
-use Rattle.std.specs.Ordering.{nat_cmp}
-use Rattle.std.proofs.lemmas.Bool.Decides.{eqb_tells}
-use Rattle.std.proofs.lemmas.Option.{same_Some}
-use Rattle.xk_base.specs.declared.limits.TheConstants.{NOFILE}
-use Rattle.xk_base.specs.Words.{le_bytes}
-use Rattle.xk_base.specs.Image.{Image}
-use Rattle.xk_base.specs.Bytes.{write_image}
-use Rattle.rv64i_core.specs.Registers.{Registers}
-use Rattle.pipe_core.specs.Pipe.{Pipe, new_pipe, without_first}
-use Rattle.file_table.specs.declared.open_file.End.{End}
-use Rattle.file_table.specs.declared.open_file.End.TheVariants.{Reading, Writing}
-use Rattle.file_table.specs.declared.open_file.OpenFile.{OpenFile}
-use Rattle.file_table.specs.declared.open_file.Target.{Target}
-use Rattle.file_table.specs.declared.open_file.Target.TheVariants.{Console as Terminal, Program as File, Pipe as Pipe_end}
-use Rattle.proc_table.specs.declared.process.Call.{Call}
-use Rattle.kernel_spec.specs.views.Words.{c_int, minus_one, word}
-use Rattle.kernel_spec.specs.rows.Buffers.{writable, writable_now}
-use Rattle.kernel_spec.specs.views.PipeEnds.{there, has_bytes}
-use Rattle.kernel_spec.specs.views.Processes.{Alive, Live}
-use Rattle.kernel_spec.specs.views.State.{State, live_part}
-use Rattle.kernel_spec.specs.views.View.{View, view_of, named, numbered, least_on_file, Shown_pipe, show, shown_pipe_name, in_use}
-use Rattle.kernel_spec.specs.steps.Own.{Own, Answer, Called, Blocked, goes_on, gone_with}
-use Rattle.kernel_spec.specs.rows.Calls.{with_a0, done, waits, read, write}
-use Rattle.kernel_spec.specs.rows.Tables.{change_pipe}
-use Rattle.kernel_spec.specs.others.Quiet.{file_at, pipe_of_target}
+use Rattle.kernel_spec.proofs.Prelude.{ℕ, ℤ, ◌++◌, ◌-◌, ◌<◌, ◌∙◌, ◌≡◌, ◌≢◌, After, Alive, Answer, ap, Blocked, Bool, c_int, Call, Called, change_pipe, changed_state, cond, done, End, eqb_tells, false}
+use Rattle.kernel_spec.proofs.Prelude.{File, file_at, filed_state, FinMap, get, goes_on, gone_with, has_bytes, Image, in_call, in_use, inl, inr, insert, IsBuffer, le_bytes, least_on_file, length}
+use Rattle.kernel_spec.proofs.Prelude.{Live, live_part, minus_one, named, nat_cmp, new_pipe, NobodyHas, NobodyNames, NOFILE, None, not, now_moved, numbered, OnPipe, OpenFile, Option, Own, own_state}
+use Rattle.kernel_spec.proofs.Prelude.{Pipe, Pipe_end, pipe_of_target, piped_state, PipeReadLaw, PipeWriteLaw, pos, read, Reading, refl, Registers, same_Some, show, Shown_pipe, shown_pipe_name, Some}
+use Rattle.kernel_spec.proofs.Prelude.{State, subst, sym, take, Target, Terminal, there, true, unwrap_or, View, view_of, waits, with_a0, with_answer, with_bytes, with_named, without_first, word}
+use Rattle.kernel_spec.proofs.Prelude.{writable, writable_now, write, write_image, Writing}
 use Rattle.kernel_spec.proofs.steps.SeenByParts.{pipe_of_file, pipe_of_open}
-use Rattle.kernel_spec.specs.steps.Updates.{changed_state, own_state, piped_state, filed_state, with_answer, in_call, with_named, with_bytes}
-use Rattle.kernel_spec.specs.laws.RowLaws.{PipeReadLaw, PipeWriteLaw}
-use Rattle.kernel_spec.specs.steps.Cases.{After, OnPipe, IsBuffer, now_moved, written, NobodyNames, NobodyHas}
+use Rattle.kernel_spec.specs.steps.Cases.{written}
 use Rattle.kernel_spec.proofs.steps.NamesAreChosenAgain.{name_of_file}
 use Rattle.kernel_spec.proofs.steps.MapsAfterChange.{get_same, get_other}
 use Rattle.kernel_spec.proofs.steps.TableTells.{own_table_tells}
 use Rattle.kernel_spec.proofs.steps.StateAfterIsTold.{OldOrNew}
 use Rattle.kernel_spec.proofs.steps.ChangeIsTold.{after_same_files, after_changed, mine_before}
 use Rattle.kernel_spec.proofs.steps.AloneLawsHold.{answer, waiting, by_own}
-use Rattle.kernel_spec.proofs.steps.PipeWriteIsItsRow as pipes
-use Rattle.kernel_spec.proofs.steps.FileReadIsItsRow as files
-use Rattle.kernel_spec.proofs.steps.OpenPipeIsItsRow as news
 use Rattle.kernel_spec.proofs.rows.RowParts.{read_on, read_from, read_pipe, read_file, moving, unless, unless_nothing, length_of_int, open_at, piped}
 use Rattle.kernel_spec.proofs.rows.Settled.{now-writable, counted-settled}
 use Rattle.kernel_spec.proofs.rows.RowsByParts.{read_same}
 use Rattle.kernel_spec.proofs.rows.PartLaws.{FileReadPart, OpenPart, PipePart}
+use Rattle.kernel_spec.proofs.steps.PipeWriteIsItsRow as pipes
+use Rattle.kernel_spec.proofs.steps.FileReadIsItsRow as files
+use Rattle.kernel_spec.proofs.steps.OpenPipeIsItsRow as news
 
 -- ---- a pipe that p is on is y now
 

@@ -1,27 +1,9 @@
 -- A read from a program's file: it is the step that its row tells.
-use Rattle.std.proofs.Common.{◌≡◌, ℕ, ◌<◌, ◌+◌, length, Bool, true, false, cond, List, refl, ap, sym, ◌∙◌, inl, inr}
-use Rattle.std.proofs.Math.Path.{fun_ext}
-use Rattle.std.specs.Prelude.{Option, None, Some, pos, option_map, nat_eq, nat_lt, unwrap_or}
-use Rattle.std.specs.FinMap.{get, insert}
-use Rattle.std.proofs.lemmas.Bool.{ltb-true}
-use Rattle.std.proofs.lemmas.Bool.Decides.{eqb_tells}
-use Rattle.xk_base.specs.declared.limits.TheConstants.{NOFILE}
-use Rattle.kernel_spec.specs.views.Words.{word, is_this}
-use Rattle.xk_base.specs.Words.{least_below}
-use Rattle.xk_base.specs.Bytes.{write_image}
-use Rattle.file_table.specs.declared.open_file.OpenFile.{OpenFile}
-use Rattle.file_table.specs.declared.open_file.Target.TheVariants.{Program as File}
-use Rattle.kernel_spec.specs.views.Processes.{Alive, Live}
-use Rattle.proc_table.specs.declared.process.Call.{Call}
-use Rattle.kernel_spec.specs.views.State.{State, live_part}
-use Rattle.kernel_spec.specs.views.View.{View, Descriptors, Descriptor, Shown, Shown_terminal, Shown_file, Shown_pipe, named, numbered}
-use Rattle.kernel_spec.specs.views.View.{rename, rename_shown, file_name, pipe_name, view_of, shown_pipe_name}
-use Rattle.kernel_spec.specs.steps.Own.{Called, goes_on}
-use Rattle.kernel_spec.specs.rows.Tables.{advance, advanced, advance_shown}
-use Rattle.kernel_spec.specs.rows.Calls.{with_a0}
-use Rattle.kernel_spec.specs.others.Quiet.{file_at}
+use Rattle.kernel_spec.proofs.Prelude.{ℕ, ◌+◌, ◌<◌, ◌∙◌, ◌≡◌, advance, advance_shown, advanced, Alive, ap, Bool, Call, Called, changed_state, cond, Descriptor, Descriptors, eqb_tells, false, File}
+use Rattle.kernel_spec.proofs.Prelude.{file_at, file_name, fun_ext, get, goes_on, inl, inr, insert, is_this, least_below, length, List, Live, live_part, ltb-true, named, nat_eq, nat_lt, NOFILE, None}
+use Rattle.kernel_spec.proofs.Prelude.{numbered, OpenFile, Option, option_map, pipe_name, pos, refl, rename, rename_shown, Shown, Shown_file, Shown_pipe, shown_pipe_name, Shown_terminal, Some, State}
+use Rattle.kernel_spec.proofs.Prelude.{sym, true, unwrap_or, View, view_of, with_a0, word, write_image}
 use Rattle.kernel_spec.proofs.steps.SeenByParts.{file_of, descriptor_at, descriptor_on}
-use Rattle.kernel_spec.specs.steps.Updates.{changed_state}
 use Rattle.kernel_spec.proofs.steps.MapsAfterChange.{get_at, get_other}
 use Rattle.kernel_spec.proofs.steps.OthersTableIsSeen.{Spares, kind}
 use Rattle.kernel_spec.proofs.steps.NamesAreChosenAgain.{choice, same_names}

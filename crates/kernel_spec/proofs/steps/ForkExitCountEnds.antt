@@ -1,17 +1,7 @@
 -- Fork and exit change every pipe that the process names, by the number of its descriptors on each end.
-use Rattle.std.proofs.Common.{◌≡◌, ℕ, ◌<◌, Bool, true, false, cond, ◌&&◌, refl, ap, sym, ◌∙◌}
-use Rattle.std.proofs.Math.Path.{fun_ext}
-use Rattle.std.specs.Prelude.{Option, None, Some, option_map, nat_lt, unwrap_or}
-use Rattle.std.proofs.lemmas.Bool.{ltb-true}
-use Rattle.xk_base.specs.declared.limits.TheConstants.{NOFILE}
-use Rattle.kernel_spec.specs.views.Words.{is_this}
-use Rattle.xk_base.specs.Words.{least_below}
-use Rattle.pipe_core.specs.Pipe.{Pipe}
-use Rattle.file_table.specs.declared.open_file.End.{End}
-use Rattle.file_table.specs.declared.open_file.End.TheVariants.{Reading, Writing}
-use Rattle.kernel_spec.specs.views.PipeEnds.{joined, parted}
-use Rattle.kernel_spec.specs.views.View.{Descriptors, Descriptor, Shown, Shown_terminal, Shown_file, Shown_pipe, named, rename, rename_shown, pipe_name, shown_pipe_name}
-use Rattle.kernel_spec.specs.rows.Tables.{change_pipes, changed, change_shown, ends, on_end, shown_on_end, is_end, doubled, all_closed}
+use Rattle.kernel_spec.proofs.Prelude.{ℕ, ◌&&◌, ◌<◌, ◌∙◌, ◌≡◌, all_closed, ap, Bool, change_pipes, change_shown, changed, cond, Descriptor, Descriptors, doubled, End, ends, false, fun_ext, is_end}
+use Rattle.kernel_spec.proofs.Prelude.{is_this, joined, least_below, ltb-true, named, nat_lt, NOFILE, None, on_end, Option, option_map, parted, Pipe, pipe_name, Reading, refl, rename, rename_shown}
+use Rattle.kernel_spec.proofs.Prelude.{Shown, Shown_file, shown_on_end, Shown_pipe, shown_pipe_name, Shown_terminal, Some, sym, true, unwrap_or, Writing}
 use Rattle.kernel_spec.proofs.steps.OnePipeChanges.{file_name_kept, pipe_name_kept}
 use Rattle.kernel_spec.proofs.steps.NamesAreChosenAgain.{same_names, choice, named_at}
 use Rattle.kernel_spec.proofs.Common.{count_below-same}

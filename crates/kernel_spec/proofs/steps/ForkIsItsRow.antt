@@ -1,25 +1,9 @@
 -- Fork: it is the step that its row tells.
-use Rattle.std.proofs.Common.{◌≡◌, ◌≢◌, ℕ, ◌<◌, ◌++◌, ◌∷◌, [], Bool, true, false, cond, ◌||◌, refl, ap, sym, ◌∙◌, inl, inr, arith}
-use Rattle.std.proofs.Math.Path.{fun_ext}
-use Rattle.std.specs.Prelude.{Option, None, Some, pos, option_map, is_some, nat_eq, IsSome}
-use Rattle.std.specs.FinMap.{get, keys, insert}
-use Rattle.std.proofs.lemmas.Bool.{eq-eqb}
-use Rattle.std.proofs.lemmas.Bool.Decides.{eqb_tells}
-use Rattle.xk_base.specs.declared.limits.TheConstants.{NOFILE}
-use Rattle.kernel_spec.specs.views.Words.{with_value}
-use Rattle.pipe_core.specs.Pipe.{Pipe}
-use Rattle.file_table.specs.declared.open_file.End.TheVariants.{Reading, Writing}
-use Rattle.kernel_spec.specs.views.PipeEnds.{joined}
-use Rattle.kernel_spec.specs.views.Processes.{Process, Alive, Live, Child, Running, Status, Zombie, parent_of}
-use Rattle.proc_table.specs.declared.process.Call.{Call}
-use Rattle.kernel_spec.specs.views.State.{State, live, live_part}
-use Rattle.kernel_spec.specs.views.View.{View, named, numbered, view, view_of, child_of, or_gone}
-use Rattle.kernel_spec.specs.steps.Own.{Own, Called, goes_on}
-use Rattle.kernel_spec.specs.rows.Tables.{doubled, ends}
-use Rattle.kernel_spec.specs.rows.Calls.{fork}
-use Rattle.kernel_spec.specs.others.Quiet.{pipe_at}
+use Rattle.kernel_spec.proofs.Prelude.{[], ℕ, ◌++◌, ◌<◌, ◌||◌, ◌∙◌, ◌∷◌, ◌≡◌, ◌≢◌, Alive, ap, arith, Bool, Call, Called, Child, child_of, cond, doubled, ends, eq-eqb, eqb_tells, false, fork}
+use Rattle.kernel_spec.proofs.Prelude.{forked_child, forked_state, forking, fun_ext, get, goes_on, inl, inr, insert, is_some, IsSome, joined, keys, Live, live, live_part, named, nat_eq, NOFILE, None}
+use Rattle.kernel_spec.proofs.Prelude.{numbered, Option, option_map, or_gone, Own, parent_of, Pipe, pipe_at, pos, Process, Reading, refl, Running, Some, State, Status, sym, true, View, view, view_of}
+use Rattle.kernel_spec.proofs.Prelude.{with_value, Writing, Zombie}
 use Rattle.kernel_spec.proofs.steps.SeenByParts.{pipe_of_file, file_of, descriptor_at}
-use Rattle.kernel_spec.specs.steps.Updates.{forking, forked_child, forked_state}
 use Rattle.kernel_spec.proofs.steps.MapsAfterChange.{get_at, get_same, get_other, keys_push}
 use Rattle.kernel_spec.proofs.steps.ViewsAfterSetLive.{same_child, same_keys, live-set_live_there}
 use Rattle.kernel_spec.proofs.steps.TableTells.{Leaves, own_table_tells}

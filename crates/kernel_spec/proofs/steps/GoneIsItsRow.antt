@@ -1,28 +1,9 @@
 -- A process that goes: it is the step that its row tells.
-use Rattle.std.proofs.Common.{◌≡◌, ◌≢◌, ℕ, ◌<◌, ◌≤◌, ◌+◌, ◌-◌, Bool, true, false, cond, ◌||◌, refl, ap, sym, ◌∙◌, subst, inl, inr, arith}
-use Rattle.std.specs.Prelude.{Option, None, Some, ℤ, option_map, is_some, nat_eq}
-use Rattle.std.specs.Option.{option_or}
-use Rattle.std.specs.FinMap.{FinMap, get, keys}
-use Rattle.std.specs.Ordering.{nat_cmp}
-use Rattle.std.specs.Cmp.{nat_cmp_total}
-use Rattle.std.proofs.lemmas.Bool.{eq-eqb}
-use Rattle.std.proofs.lemmas.Bool.Decides.{eqb_tells}
-use Rattle.xk_base.specs.declared.limits.TheConstants.{NOFILE}
-use Rattle.xk_base.specs.Image.{price}
-use Rattle.kernel_spec.specs.views.Words.{is_this}
-use Rattle.pipe_core.specs.Pipe.{Pipe}
-use Rattle.file_table.specs.declared.open_file.End.TheVariants.{Reading, Writing}
-use Rattle.kernel_spec.specs.views.PipeEnds.{parted, is_given_up}
-use Rattle.file_table.specs.declared.open_file.OpenFile.{OpenFile}
-use Rattle.kernel_spec.specs.views.Processes.{Process, Alive, Live, Child, Running, Status, Zombie, parent_of}
-use Rattle.kernel_spec.specs.views.State.{State, live, live_part}
-use Rattle.kernel_spec.specs.views.View.{Descriptors, named, numbered, view, view_of, child_of, or_gone}
-use Rattle.kernel_spec.specs.steps.Own.{Answer, gone_with}
-use Rattle.kernel_spec.specs.rows.Tables.{all_closed, ends}
-use Rattle.kernel_spec.specs.rows.Calls.{gone}
-use Rattle.kernel_spec.specs.others.Quiet.{pipe_at, seen_children}
+use Rattle.kernel_spec.proofs.Prelude.{ℕ, ℤ, ◌+◌, ◌-◌, ◌<◌, ◌||◌, ◌∙◌, ◌≡◌, ◌≢◌, ◌≤◌, Alive, all_closed, Answer, ap, arith, Bool, Child, child_of, cond, Descriptors, ends, eq-eqb, eqb_tells, false}
+use Rattle.kernel_spec.proofs.Prelude.{FinMap, get, given_to, gone, gone_state, gone_with, inl, inr, is_given_up, is_some, is_this, keys, Live, live, live_part, named, nat_cmp, nat_cmp_total, nat_eq}
+use Rattle.kernel_spec.proofs.Prelude.{NOFILE, None, numbered, OpenFile, Option, option_map, option_or, or_gone, orphan, orphans, parent_of, parted, Pipe, pipe_at, price, Process, Reading, refl}
+use Rattle.kernel_spec.proofs.Prelude.{Running, seen_children, Some, State, Status, subst, sym, true, view, view_of, Writing, Zombie}
 use Rattle.kernel_spec.proofs.steps.SeenByParts.{pipe_of_file, file_of, same_child}
-use Rattle.kernel_spec.specs.steps.Updates.{gone_state, orphans, orphan, given_to}
 use Rattle.kernel_spec.proofs.steps.MapsAfterChange.{get_at, get_same, keys_insert}
 use Rattle.kernel_spec.proofs.steps.OthersTableIsSeen.{Tells, OtherHas, OtherNames}
 use Rattle.kernel_spec.proofs.steps.TableTells.{Leaves}

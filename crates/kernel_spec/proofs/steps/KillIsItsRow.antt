@@ -1,16 +1,6 @@
 -- Kill: it is the step that its row tells.
-use Rattle.std.proofs.Common.{◌≡◌, ℕ, Bool, true, false, cond, not, ◌||◌, refl, ap, sym, ◌∙◌}
-use Rattle.std.specs.Prelude.{Option, None, Some, pos, option_map, nat_eq}
-use Rattle.std.specs.List.{list_any}
-use Rattle.std.specs.FinMap.{get, keys}
-use Rattle.kernel_spec.specs.views.Words.{is_this, word}
-use Rattle.kernel_spec.specs.views.Processes.{Process, Alive, Live}
-use Rattle.proc_table.specs.declared.process.Call.{Call}
-use Rattle.kernel_spec.specs.views.State.{State, live, live_part}
-use Rattle.kernel_spec.specs.views.View.{view, view_of, child_of}
-use Rattle.kernel_spec.specs.steps.Own.{Called, goes_on}
-use Rattle.kernel_spec.specs.rows.Calls.{done, with_a0}
-use Rattle.kernel_spec.specs.steps.Updates.{kill_state, own_state, marked}
+use Rattle.kernel_spec.proofs.Prelude.{ℕ, ◌||◌, ◌∙◌, ◌≡◌, Alive, ap, Bool, Call, Called, child_of, cond, done, false, get, goes_on, is_this, keys, kill_state, list_any, Live, live, live_part, marked}
+use Rattle.kernel_spec.proofs.Prelude.{nat_eq, None, not, Option, option_map, own_state, pos, Process, refl, Some, State, sym, true, view, view_of, with_a0, word}
 use Rattle.kernel_spec.proofs.steps.MapsAfterChange.{get_same}
 use Rattle.kernel_spec.proofs.steps.ViewsAfterSetLive.{same_child, same_keys, live-set_live_there}
 use Rattle.kernel_spec.proofs.steps.TableTells.{Leaves, own_table_tells}

@@ -1,8 +1,5 @@
 -- The least number below a bound that passes a test, and where none does.
-use Rattle.std.proofs.Common.{◌≡◌, ℕ, suc, zero, ◌<◌, Bool, true, false, refl, ap, sym, ◌∙◌, arith, inl, inr, ◌⊎◌}
-use Rattle.std.specs.Prelude.{Option, None, Some}
-use Rattle.xk_base.specs.Words.{least_below, or_here}
-use Rattle.xk_base.proofs.Least.{none_below, least_below-zero}
+use Rattle.kernel_spec.proofs.Prelude.{ℕ, ◌<◌, ◌∙◌, ◌≡◌, ◌⊎◌, ap, arith, Bool, false, inl, inr, least_below, least_below-zero, None, none_below, Option, or_here, refl, Some, suc, sym, true, zero}
 
 step : (n : ℕ) (P : ℕ → Bool) → least_below P (suc n) ≡ or_here (least_below P n) (P n) n
 unfolding least_below

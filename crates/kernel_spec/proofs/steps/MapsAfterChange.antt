@@ -1,18 +1,11 @@
 -- A map behind a change at one key: what stands in it, and its keys.
-use Rattle.std.proofs.Common.{◌≡◌, ℕ, Bool, true, false, cond, ◌&&◌, ◌<◌, ◌++◌, T, List, [], ◌∷◌, map, refl, ap, sym, ◌∙◌, subst}
-use Rattle.std.specs.Prelude.{Option, None, Some, is_some, filter, not}
-use Rattle.std.specs.Ordering.{nat_cmp, is_lt, is_eq, eq_by_cmp}
+use Rattle.kernel_spec.proofs.Prelude.{[], ℕ, ◌&&◌, ◌++◌, ◌<◌, ◌∙◌, ◌∷◌, ◌≡◌, ap, Bool, cond, entries, entries-from_sorted, entries-insert, entries_sorted, eq-eqb, eq_by_cmp, eqb_tells, false, filter}
+use Rattle.kernel_spec.proofs.Prelude.{FinMap, from_sorted, get, get-entries, get-from_sorted, get-remove, inl, inr, insert, is_eq, is_lt, is_some, IsTotalOrder, keys, List, map, nat_cmp}
+use Rattle.kernel_spec.proofs.Prelude.{nat_cmp-IsAntisymmetric, nat_cmp_is, nat_cmp_total, nat_eq, None, not, Option, refl, remove, same_map, Some, subst, sym, T, true, unsigned_tied}
 use Rattle.std.specs.declared.cmp.Ordering.{Ordering}
-use Rattle.std.specs.Cmp.{IsTotalOrder, nat_cmp_total, unsigned_tied, nat_cmp_is}
-use Rattle.std.specs.Prelude.{nat_eq}
 use Rattle.std.specs.declared.cmp.Ordering.TheVariants.{Less, Equal, Greater}
-use Rattle.std.proofs.Common.{inl, inr}
-use Rattle.std.proofs.lemmas.Bool.{eq-eqb}
-use Rattle.std.proofs.lemmas.Bool.Decides.{eqb_tells}
-use Rattle.std.specs.FinMap.{FinMap, get, insert, remove, from_sorted, keys, entries, entries_sorted}
-use Rattle.std.specs.FinMap.{get-entries, entries-insert, get-remove, get-from_sorted, entries-from_sorted, same_map, nat_cmp-IsAntisymmetric}
-pub use Rattle.xk_base.proofs.Maps.{get_at, get_same, get_other, insert-twice, insert_again}
 use Rattle.std.specs.FinMap.Entries.{find, put, is_sorted, below_all, by_order, where_key, is_sorted-where_key, find-where_key}
+pub use Rattle.xk_base.proofs.Maps.{get_at, get_same, get_other, insert-twice, insert_again}
 
 pub first : (a b : Bool) → T (a && b) → T a
 first true b p = tt

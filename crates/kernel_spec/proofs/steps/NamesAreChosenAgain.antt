@@ -1,18 +1,7 @@
 -- Names chosen anew from names that were chosen before are those chosen from the kernel's own numbers.
-use Rattle.std.proofs.Common.{◌≡◌, ℕ, ◌<◌, Bool, true, false, cond, refl, ap, sym, ◌∙◌, inl, inr, lt-ltb}
-use Rattle.std.proofs.Math.Path.{fun_ext}
-use Rattle.std.specs.Prelude.{Option, None, Some, option_map, nat_eq, nat_lt, unwrap_or}
-use Rattle.std.proofs.lemmas.Bool.{eq-eqb, ltb-true}
-use Rattle.std.proofs.lemmas.Bool.Decides.{eqb_tells}
-use Rattle.xk_base.specs.declared.limits.TheConstants.{NOFILE}
-use Rattle.kernel_spec.specs.views.Words.{is_this, with_value}
-use Rattle.xk_base.specs.Words.{least_below}
-use Rattle.xk_base.proofs.Least.{none_below}
-use Rattle.kernel_spec.specs.views.Processes.{Live}
-use Rattle.kernel_spec.specs.views.State.{State}
-use Rattle.kernel_spec.specs.views.View.{Descriptors, Descriptor, Shown, Shown_terminal, Shown_file, Shown_pipe, named, numbered}
-use Rattle.kernel_spec.specs.views.View.{rename, rename_shown, least_on_file, file_name, pipe_name, shown_pipe_name}
-use Rattle.kernel_spec.specs.others.Quiet.{is_same}
+use Rattle.kernel_spec.proofs.Prelude.{ℕ, ◌<◌, ◌∙◌, ◌≡◌, ap, Bool, cond, Descriptor, Descriptors, eq-eqb, eqb_tells, false, file_name, fun_ext, inl, inr, is_same, is_this, least_below, least_on_file}
+use Rattle.kernel_spec.proofs.Prelude.{Live, lt-ltb, ltb-true, named, nat_eq, nat_lt, NOFILE, None, none_below, numbered, Option, option_map, pipe_name, refl, rename, rename_shown, Shown, Shown_file}
+use Rattle.kernel_spec.proofs.Prelude.{Shown_pipe, shown_pipe_name, Shown_terminal, Some, State, sym, true, unwrap_or, with_value}
 use Rattle.kernel_spec.proofs.steps.LeastPasses.{least_passes, least_congr}
 use Rattle.kernel_spec.proofs.Common.{this_is}
 

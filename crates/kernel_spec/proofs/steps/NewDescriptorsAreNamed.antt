@@ -1,18 +1,7 @@
 -- New descriptors: open and pipe.
-use Rattle.std.proofs.Common.{◌≡◌, ◌≢◌, ℕ, ◌<◌, Bool, true, false, cond, refl, ap, sym, ◌∙◌, inl, inr}
-use Rattle.std.specs.Prelude.{Option, None, Some, option_map, nat_eq, unwrap_or}
-use Rattle.std.proofs.lemmas.Bool.{eq-eqb}
-use Rattle.std.proofs.lemmas.Bool.Decides.{eqb_tells}
-use Rattle.std.proofs.lemmas.Option.{same_Some}
-use Rattle.xk_base.specs.declared.limits.TheConstants.{NOFILE}
-use Rattle.kernel_spec.specs.views.Words.{with_value, is_this}
-use Rattle.xk_base.specs.Words.{least_below}
-use Rattle.xk_base.proofs.Least.{none_below}
-use Rattle.pipe_core.specs.Pipe.{Pipe}
-use Rattle.file_table.specs.declared.open_file.End.TheVariants.{Reading, Writing}
-use Rattle.kernel_spec.specs.views.View.{Descriptors, Descriptor, Shown, Shown_terminal, Shown_file, Shown_pipe, named, file_name, pipe_name, shown_pipe_name}
-use Rattle.kernel_spec.specs.rows.Tables.{with_descriptor}
-use Rattle.kernel_spec.specs.others.Quiet.{is_same}
+use Rattle.kernel_spec.proofs.Prelude.{ℕ, ◌<◌, ◌∙◌, ◌≡◌, ◌≢◌, ap, Bool, cond, Descriptor, Descriptors, eq-eqb, eqb_tells, false, file_name, inl, inr, is_same, is_this, least_below, named, nat_eq}
+use Rattle.kernel_spec.proofs.Prelude.{NOFILE, None, none_below, Option, option_map, Pipe, pipe_name, Reading, refl, same_Some, Shown, Shown_file, Shown_pipe, shown_pipe_name, Shown_terminal, Some}
+use Rattle.kernel_spec.proofs.Prelude.{sym, true, unwrap_or, with_descriptor, with_value, Writing}
 use Rattle.kernel_spec.proofs.steps.LeastPasses.{least_passes}
 use Rattle.kernel_spec.proofs.steps.NamesAreChosenAgain.{alike_named, named_alike, named_at, bare, choice, choice_has, file_renamed, pipe_renamed, same_names}
 use Rattle.kernel_spec.proofs.Common.{none_is_same, this_is, this_is_not}

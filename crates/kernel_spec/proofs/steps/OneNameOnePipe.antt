@@ -1,24 +1,8 @@
 -- In a view, descriptors on pipes of one name show one pipe.
-use Rattle.std.proofs.Common.{◌≡◌, ℕ, ◌<◌, Bool, true, false, cond, refl, ap, sym, ◌∙◌, subst}
-use Rattle.std.proofs.Math.Path.{fun_ext}
-use Rattle.std.specs.Prelude.{Option, None, Some, option_map, nat_eq, nat_lt, unwrap_or}
-use Rattle.std.specs.FinMap.{get}
-use Rattle.std.proofs.lemmas.Bool.{eq-eqb, eqb-true, ltb-true}
-use Rattle.std.proofs.lemmas.Option.{same_Some}
-use Rattle.xk_base.specs.declared.limits.TheConstants.{NOFILE}
-use Rattle.xk_base.proofs.Least.{none_below}
-use Rattle.pipe_core.specs.Pipe.{Pipe}
-use Rattle.file_table.specs.declared.open_file.End.{End}
-use Rattle.file_table.specs.declared.open_file.OpenFile.{OpenFile}
-use Rattle.file_table.specs.declared.open_file.Target.{Target}
-use Rattle.file_table.specs.declared.open_file.Target.TheVariants.{Console as Terminal, Program as File, Pipe as Pipe_end}
-use Rattle.kernel_spec.specs.views.Words.{is_this}
-use Rattle.kernel_spec.specs.views.Processes.{Live}
-use Rattle.kernel_spec.specs.views.State.{State}
-use Rattle.kernel_spec.specs.views.View.{Descriptors, Descriptor, Shown, Shown_terminal, Shown_file, Shown_pipe, named, numbered, rename}
-use Rattle.kernel_spec.specs.views.View.{or_gone, show, least_on_pipe, pipe_name, shown_pipe_name}
+use Rattle.kernel_spec.proofs.Prelude.{ℕ, ◌<◌, ◌∙◌, ◌≡◌, ap, Bool, change_pipe, change_shown, changed, cond, Descriptor, Descriptors, End, eq-eqb, eqb-true, false, File, fun_ext, get, is_this}
+use Rattle.kernel_spec.proofs.Prelude.{least_on_pipe, Live, ltb-true, named, nat_eq, nat_lt, NOFILE, None, none_below, numbered, OpenFile, Option, option_map, or_gone, Pipe, Pipe_end, pipe_name, refl}
+use Rattle.kernel_spec.proofs.Prelude.{rename, same_Some, show, Shown, Shown_file, Shown_pipe, shown_pipe_name, Shown_terminal, Some, State, subst, sym, Target, Terminal, true, unwrap_or}
 use Rattle.kernel_spec.proofs.steps.SeenByParts.{descriptor_at, descriptor_on}
-use Rattle.kernel_spec.specs.rows.Tables.{change_pipe, changed, change_shown}
 use Rattle.kernel_spec.proofs.steps.LeastPasses.{least_passes}
 use Rattle.kernel_spec.proofs.Common.{this_is}
 

@@ -1,26 +1,9 @@
 -- One pipe changes: what names and views are then.
-use Rattle.std.proofs.Common.{◌≡◌, ℕ, ◌<◌, Bool, true, false, cond, refl, ap, sym, ◌∙◌, inl, inr}
-use Rattle.std.proofs.Math.Path.{fun_ext}
-use Rattle.std.specs.Prelude.{Option, None, Some, option_map, is_some, nat_eq, nat_lt, unwrap_or}
-use Rattle.std.specs.FinMap.{get}
-use Rattle.std.proofs.lemmas.Bool.{eq-eqb, ltb-true}
-use Rattle.std.proofs.lemmas.Bool.Decides.{eqb_tells}
-use Rattle.xk_base.specs.declared.limits.TheConstants.{NOFILE}
-use Rattle.kernel_spec.specs.views.Words.{is_this}
-use Rattle.xk_base.specs.Words.{least_below}
-use Rattle.xk_base.proofs.Least.{none_below}
-use Rattle.pipe_core.specs.Pipe.{Pipe}
-use Rattle.file_table.specs.declared.open_file.OpenFile.{OpenFile}
-use Rattle.file_table.specs.declared.open_file.Target.{Target}
-use Rattle.file_table.specs.declared.open_file.Target.TheVariants.{Console as Terminal, Program as File, Pipe as Pipe_end}
-use Rattle.kernel_spec.specs.views.Processes.{Live}
-use Rattle.kernel_spec.specs.views.State.{State}
-use Rattle.kernel_spec.specs.views.View.{Descriptors, Descriptor, Shown, Shown_terminal, Shown_file, Shown_pipe, named}
-use Rattle.kernel_spec.specs.views.View.{numbered, rename, rename_shown, or_gone, show}
+use Rattle.kernel_spec.proofs.Prelude.{ℕ, ◌<◌, ◌∙◌, ◌≡◌, ap, Bool, change_pipe, change_shown, changed, cond, Descriptor, Descriptors, eq-eqb, eqb_tells, false, File, file_name, fun_ext, get, inl, inr}
+use Rattle.kernel_spec.proofs.Prelude.{is_some, is_this, least_below, least_on_file, least_on_pipe, Live, ltb-true, named, nat_eq, nat_lt, NOFILE, None, none_below, numbered, OpenFile, Option}
+use Rattle.kernel_spec.proofs.Prelude.{option_map, or_gone, Pipe, Pipe_end, pipe_name, refl, rename, rename_shown, set_pipe, show, Shown, Shown_file, Shown_pipe, Shown_terminal, Some, State, sym}
+use Rattle.kernel_spec.proofs.Prelude.{Target, Terminal, true, unwrap_or}
 use Rattle.kernel_spec.proofs.steps.SeenByParts.{descriptor_at, descriptor_on}
-use Rattle.kernel_spec.specs.views.View.{least_on_pipe, least_on_file, file_name, pipe_name}
-use Rattle.kernel_spec.specs.rows.Tables.{change_pipe, changed, change_shown}
-use Rattle.kernel_spec.specs.steps.Updates.{set_pipe}
 use Rattle.kernel_spec.proofs.steps.MapsAfterChange.{get_at}
 use Rattle.kernel_spec.proofs.steps.LeastPasses.{least_passes}
 use Rattle.kernel_spec.proofs.Common.{this_is}

@@ -1,29 +1,9 @@
 -- Open and pipe: they are the steps that their rows tell.
-use Rattle.std.proofs.Common.{◌≡◌, ◌≢◌, ℕ, ◌<◌, ◌-◌, ◌++◌, Bool, true, false, cond, refl, ap, sym, ◌∙◌}
-use Rattle.std.proofs.Math.Path.{fun_ext}
-use Rattle.std.specs.Prelude.{Option, None, Some, pos, nat_eq}
-use Rattle.std.specs.FinMap.{FinMap, get, insert}
-use Rattle.std.specs.Ordering.{nat_cmp}
-use Rattle.xk_base.specs.Image.{Image}
-use Rattle.xk_base.specs.declared.limits.TheConstants.{NOFILE}
-use Rattle.kernel_spec.specs.views.Words.{word}
-use Rattle.xk_base.specs.Words.{le_bytes}
-use Rattle.xk_base.specs.Bytes.{write_image}
-use Rattle.pipe_core.specs.Pipe.{new_pipe}
-use Rattle.file_table.specs.declared.open_file.End.TheVariants.{Reading, Writing}
-use Rattle.file_table.specs.declared.open_file.OpenFile.{OpenFile}
-use Rattle.file_table.specs.declared.open_file.Target.{Target}
-use Rattle.file_table.specs.declared.open_file.Target.TheVariants.{Console as Terminal, Program as File, Pipe as Pipe_end}
-use Rattle.kernel_spec.specs.views.Processes.{Alive, Live}
-use Rattle.proc_table.specs.declared.process.Call.{Call}
-use Rattle.kernel_spec.specs.views.State.{State, live_part}
-use Rattle.kernel_spec.specs.views.View.{Descriptors, Descriptor, Shown_pipe, named, numbered, show, or_gone, view_of, file_name, pipe_name, shown_pipe_name}
-use Rattle.kernel_spec.specs.steps.Own.{Called, goes_on}
-use Rattle.kernel_spec.specs.rows.Tables.{with_descriptor}
-use Rattle.kernel_spec.specs.rows.Calls.{with_a0}
-use Rattle.kernel_spec.specs.others.Quiet.{file_at, pipe_at, pipe_of_target}
+use Rattle.kernel_spec.proofs.Prelude.{ℕ, ◌++◌, ◌-◌, ◌<◌, ◌∙◌, ◌≡◌, ◌≢◌, Alive, ap, Bool, Call, Called, changed_state, cond, Descriptor, Descriptors, false, File, file_at, file_name, FinMap, fun_ext}
+use Rattle.kernel_spec.proofs.Prelude.{get, goes_on, Image, insert, le_bytes, Live, live_part, named, nat_cmp, nat_eq, new_pipe, NOFILE, None, numbered, OpenFile, Option, or_gone, pipe_at, Pipe_end}
+use Rattle.kernel_spec.proofs.Prelude.{pipe_name, pipe_of_target, pos, Reading, refl, show, Shown_pipe, shown_pipe_name, Some, State, sym, Target, Terminal, true, view_of, with_a0, with_descriptor}
+use Rattle.kernel_spec.proofs.Prelude.{word, write_image, Writing}
 use Rattle.kernel_spec.proofs.steps.SeenByParts.{file_of, pipe_of_file, pipe_of_open, descriptor_at, descriptor_on}
-use Rattle.kernel_spec.specs.steps.Updates.{changed_state}
 use Rattle.kernel_spec.proofs.steps.MapsAfterChange.{get_at, get_same, get_other}
 use Rattle.kernel_spec.proofs.steps.OthersTableIsSeen.{OtherNames, Tells, Spares, kind}
 use Rattle.kernel_spec.proofs.steps.DupIsItsRow.{wider_tells}

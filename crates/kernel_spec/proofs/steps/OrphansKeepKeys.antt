@@ -1,16 +1,8 @@
 -- The children of a process that is gone.
-use Rattle.std.proofs.Common.{◌≡◌, ℕ, Bool, true, false, cond, ◌||◌, List, [], ◌∷◌, refl, ap, sym, ◌∙◌, inl, inr}
-use Rattle.std.specs.Prelude.{Option, None, Some, option_map, is_some, nat_eq, fold}
-use Rattle.std.specs.List.{list_any}
-use Rattle.std.specs.FinMap.{FinMap, get, keys, contains_key-keys}
-use Rattle.std.specs.Ordering.{nat_cmp, eq_by_cmp}
-use Rattle.std.specs.Cmp.{unsigned_tied, nat_cmp_total}
-use Rattle.std.proofs.lemmas.Bool.Decides.{eqb_tells}
+use Rattle.kernel_spec.proofs.Prelude.{[], ℕ, ◌||◌, ◌∙◌, ◌∷◌, ◌≡◌, Alive, ap, Bool, change, cond, contains_key-keys, eq_by_cmp, eqb_tells, false, FinMap, fold, get, given_to, inl, inr, is_some}
+use Rattle.kernel_spec.proofs.Prelude.{is_this, keys, List, list_any, nat_cmp, nat_cmp_total, nat_eq, None, Option, option_map, orphan, orphans, parent_of, Process, refl, Some, State, sym, true}
+use Rattle.kernel_spec.proofs.Prelude.{unsigned_tied, Zombie}
 use Rattle.xk_base.proofs.Options.{same_either_way}
-use Rattle.kernel_spec.specs.views.Words.{is_this}
-use Rattle.kernel_spec.specs.views.Processes.{Process, Alive, Zombie, parent_of}
-use Rattle.kernel_spec.specs.views.State.{State}
-use Rattle.kernel_spec.specs.steps.Updates.{change, orphan, orphans, given_to}
 use Rattle.kernel_spec.proofs.steps.MapsAfterChange.{get_at, keys_insert}
 
 module _ (f : Process → Process) (again : (x : Process) → f (f x) ≡ f x) where

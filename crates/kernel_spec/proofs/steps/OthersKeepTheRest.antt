@@ -1,21 +1,8 @@
 -- An event that isn't a step of p leaves the rest of p's view.
-use Rattle.std.proofs.Common.{◌≡◌, ◌≢◌, ℕ, Bool, List, [], ◌∷◌, refl, ap, sym, ◌∙◌}
-use Rattle.std.specs.Prelude.{Option, None, Some, ℤ, option_map}
-use Rattle.std.proofs.lemmas.Option.{same_Some}
-use Rattle.console_core.specs.Lists.{Console}
-use Rattle.console_core.specs.Keys.{line}
-use Rattle.kernel_spec.specs.views.Processes.{Live}
-use Rattle.kernel_spec.specs.views.View.{View, Descriptor, Shown, Shown_terminal, Shown_file, Shown_pipe, view, view_of}
-use Rattle.kernel_spec.specs.views.State.{State, live}
-use Rattle.kernel_spec.specs.steps.Own.{Own}
-use Rattle.kernel_spec.specs.steps.Step.{own}
-use Rattle.kernel_spec.specs.others.Quiet.{seen, meets_on_file, meets_on_pipe}
+use Rattle.kernel_spec.proofs.Prelude.{[], ℕ, ℤ, ◌∙◌, ◌∷◌, ◌≡◌, ◌≢◌, ap, bare, Bool, Console, Descriptor, Event, Halted, Happens, Idle, IsStepOf, Key, KeyHappens, line, List, Live, live}
+use Rattle.kernel_spec.proofs.Prelude.{meets_on_file, meets_on_pipe, None, Option, option_map, Others, OthersKeep, Outcome, Own, own, refl, Run, RunHappens, same_Some, seen, Send, Sent, sent, Shown}
+use Rattle.kernel_spec.proofs.Prelude.{Shown_file, Shown_pipe, Shown_terminal, Some, State, Step_of, StepOf, sym, Tick, Ticked, TickHappens, Turn, TurnTaken, Typed, View, view, view_of, World}
 use Rattle.kernel_spec.proofs.steps.SeenByParts.{seen_descriptor, left_at}
-use Rattle.kernel_spec.specs.runs.Run.{World, Event, Run, Tick, Key, Send, Outcome, Turn, Idle, Step_of, Ticked}
-use Rattle.kernel_spec.specs.runs.Run.{Typed, Sent, Halted, Happens, RunHappens, TickHappens, KeyHappens, TurnTaken, StepOf, sent}
-use Rattle.kernel_spec.specs.laws.Worlds.{OthersKeep}
-use Rattle.kernel_spec.specs.views.Shared.{bare}
-use Rattle.kernel_spec.specs.runs.Moments.{IsStepOf, Others}
 use Rattle.kernel_spec.proofs.steps.ViewIsSharedAndRest.{rest}
 
 bare_seen_shown : (f p : Option Descriptor) (file : ℕ) (read write : Bool) (x : Shown)

@@ -1,24 +1,9 @@
 -- What another process sees of a step: its table, where the step told the open files and the pipes that both name, and spared all others.
-use Rattle.std.proofs.Common.{◌≡◌, ◌≢◌, ℕ, ◌<◌, Bool, true, false, cond, refl, ap, sym, ◌∙◌}
-use Rattle.std.proofs.Math.Path.{fun_ext}
-use Rattle.std.specs.Prelude.{Option, None, Some, option_map, nat_eq, nat_lt, unwrap_or}
-use Rattle.std.specs.FinMap.{get}
-use Rattle.std.proofs.lemmas.Bool.{eqb-true, eq-eqb}
-use Rattle.xk_base.specs.declared.limits.TheConstants.{NOFILE}
-use Rattle.kernel_spec.specs.views.Words.{is_this}
-use Rattle.xk_base.specs.Words.{least_below}
-use Rattle.xk_base.proofs.Least.{none_below}
-use Rattle.pipe_core.specs.Pipe.{Pipe}
-use Rattle.file_table.specs.declared.open_file.OpenFile.{OpenFile}
-use Rattle.file_table.specs.declared.open_file.Target.{Target}
-use Rattle.file_table.specs.declared.open_file.Target.TheVariants.{Console as Terminal, Program as File, Pipe as Pipe_end}
-use Rattle.kernel_spec.specs.views.Processes.{Live}
-use Rattle.kernel_spec.specs.views.State.{State, live}
-use Rattle.kernel_spec.specs.views.View.{Descriptors, Descriptor, Shown_file, Shown_pipe, named, numbered, rename, rename_shown}
-use Rattle.kernel_spec.specs.views.View.{show, or_gone, least_on_file, least_on_pipe, file_name, pipe_name}
-use Rattle.kernel_spec.specs.others.Quiet.{file_at, pipe_at, pipe_of_target, is_same, meets_on_file}
+use Rattle.kernel_spec.proofs.Prelude.{ℕ, ◌<◌, ◌∙◌, ◌≡◌, ◌≢◌, ap, Bool, cond, Descriptor, Descriptors, eq-eqb, eqb-true, false, File, file_at, file_name, fun_ext, get, is_same, is_this, least_below}
+use Rattle.kernel_spec.proofs.Prelude.{least_on_file, least_on_pipe, Live, live, meets_on_file, meets_on_pipe, named, nat_eq, nat_lt, NOFILE, None, none_below, numbered, OpenFile, Option, option_map}
+use Rattle.kernel_spec.proofs.Prelude.{or_gone, Pipe, pipe_at, Pipe_end, pipe_name, pipe_of_target, refl, rename, rename_shown, seen_shown, seen_table, show, Shown_file, Shown_pipe, Some, State, sym}
+use Rattle.kernel_spec.proofs.Prelude.{Target, Terminal, true, unwrap_or}
 use Rattle.kernel_spec.proofs.steps.SeenByParts.{file_of, pipe_of_file, pipe_of_open, left_at, offset_left, pipe_left, seen_descriptor, descriptor_at, descriptor_on}
-use Rattle.kernel_spec.specs.others.Quiet.{meets_on_pipe, seen_shown, seen_table}
 use Rattle.kernel_spec.proofs.steps.LeastPasses.{least_passes}
 
 -- another process than p names the open file, is on the pipe

@@ -1,14 +1,7 @@
 -- What every process sees of an event that is no step.
-use Rattle.std.proofs.Common.{◌≡◌, ℕ, ◌+◌, ◌%◌, refl, ap, sym, ◌∙◌, inl, inr, ◌⊎◌}
-use Rattle.std.specs.Prelude.{Option, None, Some, ℤ, IsSome, option_map}
-use Rattle.std.proofs.lemmas.Option.{same_Some}
-use Rattle.console_core.specs.Keys.{line}
-use Rattle.kernel_spec.specs.views.Words.{CLOCK_ROUND}
-use Rattle.kernel_spec.specs.views.Processes.{Live}
-use Rattle.kernel_spec.specs.views.State.{State, live}
-use Rattle.kernel_spec.specs.views.View.{View, view, view_of}
-use Rattle.kernel_spec.specs.runs.Run.{World, Event, Run, Tick, Key, Send, Outcome, Turn, Idle, Step_of, Ticked, Typed, Sent, Halted, Happens, RunHappens, TickHappens, KeyHappens, TurnTaken, sent}
-use Rattle.kernel_spec.specs.laws.Worlds.{OutsideSteps, HaltedStays}
+use Rattle.kernel_spec.proofs.Prelude.{ℕ, ℤ, ◌%◌, ◌+◌, ◌∙◌, ◌≡◌, ◌⊎◌, ap, CLOCK_ROUND, Event, Halted, HaltedStays, Happens, Idle, inl, inr, IsSome, Key, KeyHappens, line, Live, live, None, Option}
+use Rattle.kernel_spec.proofs.Prelude.{option_map, Outcome, OutsideSteps, refl, Run, RunHappens, same_Some, Send, Sent, sent, Some, State, Step_of, sym, Tick, Ticked, TickHappens, Turn, TurnTaken}
+use Rattle.kernel_spec.proofs.Prelude.{Typed, View, view, view_of, World}
 use Rattle.kernel_spec.specs.runs.Outside.{seen_outside}
 use Rattle.kernel_spec.proofs.steps.OthersKeepTheRest.{clock_view, console_view}
 

@@ -1,17 +1,6 @@
 -- A step that changes pipes: p's table after it, and what it tells of the pipes.
-use Rattle.std.proofs.Common.{◌≡◌, ◌≢◌, ℕ, ◌<◌, refl, ap, sym, ◌∙◌}
-use Rattle.std.specs.Prelude.{Option, None, Some, option_map}
-use Rattle.std.specs.FinMap.{get}
-use Rattle.xk_base.specs.declared.limits.TheConstants.{NOFILE}
-use Rattle.pipe_core.specs.Pipe.{Pipe}
-use Rattle.file_table.specs.declared.open_file.OpenFile.{OpenFile}
-use Rattle.file_table.specs.declared.open_file.Target.{Target}
-use Rattle.file_table.specs.declared.open_file.Target.TheVariants.{Console as Terminal, Program as File, Pipe as Pipe_end}
-use Rattle.kernel_spec.specs.views.Processes.{Live}
-use Rattle.kernel_spec.specs.views.State.{State, live}
-use Rattle.kernel_spec.specs.views.View.{Descriptors, Shown_pipe, named, numbered, rename, rename_shown, show, or_gone}
-use Rattle.kernel_spec.specs.rows.Tables.{change_pipes, changed, change_shown}
-use Rattle.kernel_spec.specs.others.Quiet.{file_at, pipe_at, pipe_of_target}
+use Rattle.kernel_spec.proofs.Prelude.{ℕ, ◌<◌, ◌∙◌, ◌≡◌, ◌≢◌, ap, change_pipes, change_shown, changed, Descriptors, File, file_at, get, Live, live, named, NOFILE, None, numbered, OpenFile, Option}
+use Rattle.kernel_spec.proofs.Prelude.{option_map, or_gone, Pipe, pipe_at, Pipe_end, pipe_of_target, refl, rename, rename_shown, show, Shown_pipe, Some, State, sym, Target, Terminal}
 use Rattle.kernel_spec.proofs.steps.SeenByParts.{file_of, pipe_of_file, pipe_of_open, offset_left, pipe_left, shown_offset, shown_pipe, descriptor_at, descriptor_on}
 use Rattle.kernel_spec.proofs.steps.OthersTableIsSeen.{OtherNames, OtherHas, Tells, Spares, open_offset, target_offset, kind}
 use Rattle.kernel_spec.proofs.steps.NamesAreChosenAgain.{named_at}

@@ -1,27 +1,9 @@
 -- One pipe changes, and a write to a pipe.
-use Rattle.std.proofs.Common.{◌≡◌, ℕ, ◌+◌, ◌-◌, Bool, true, false, cond, not, refl, ap, sym, ◌∙◌, lt-ltb}
-use Rattle.std.specs.Prelude.{Option, None, Some, ℤ, pos, option_map, nat_eq, nat_le, unwrap_or}
-use Rattle.std.specs.FinMap.{insert}
-use Rattle.xk_base.specs.declared.limits.TheConstants.{NOFILE}
-use Rattle.rv64i_core.specs.Registers.{Registers}
-use Rattle.xk_base.specs.Image.{Image}
-use Rattle.kernel_spec.specs.views.Words.{c_int, word, minus_one}
-use Rattle.kernel_spec.specs.rows.Buffers.{readable}
-use Rattle.pipe_core.specs.Pipe.{Pipe, with_more}
-use Rattle.file_table.specs.declared.open_file.End.{End}
-use Rattle.kernel_spec.specs.views.PipeEnds.{fit}
-use Rattle.file_table.specs.declared.open_file.OpenFile.{OpenFile}
-use Rattle.kernel_spec.specs.views.Processes.{Live}
-use Rattle.proc_table.specs.declared.process.Call.{Call}
-use Rattle.kernel_spec.specs.views.State.{State, live_part}
-use Rattle.kernel_spec.specs.views.View.{View, Shown_pipe, named, numbered, rename, or_gone, least_on_file, view_of, in_use}
-use Rattle.kernel_spec.specs.steps.Own.{Called, Blocked, goes_on}
-use Rattle.kernel_spec.specs.rows.Tables.{change_pipe}
-use Rattle.kernel_spec.specs.rows.Calls.{write, done, waits, with_a0, done_at, next_bytes}
-use Rattle.kernel_spec.specs.others.Quiet.{pipe_at}
+use Rattle.kernel_spec.proofs.Prelude.{ℕ, ℤ, ◌+◌, ◌-◌, ◌∙◌, ◌≡◌, ap, Blocked, Bool, c_int, Call, Called, change_pipe, changed_state, cond, done, done_at, End, false, fit, goes_on, Image, in_use}
+use Rattle.kernel_spec.proofs.Prelude.{insert, least_on_file, Live, live_part, lt-ltb, minus_one, named, nat_eq, nat_le, next_bytes, NOFILE, None, not, numbered, OnPipe, OpenFile, Option, option_map}
+use Rattle.kernel_spec.proofs.Prelude.{or_gone, Pipe, pipe_at, pos, readable, refl, Registers, rename, Shown_pipe, Some, State, sym, true, unwrap_or, View, view_of, waits, with_a0, with_more, word}
+use Rattle.kernel_spec.proofs.Prelude.{write}
 use Rattle.kernel_spec.proofs.steps.SeenByParts.{pipe_of_file, file_of, pipe_of_open, descriptor_at, descriptor_on}
-use Rattle.kernel_spec.specs.steps.Cases.{OnPipe}
-use Rattle.kernel_spec.specs.steps.Updates.{changed_state}
 use Rattle.kernel_spec.proofs.steps.MapsAfterChange.{get_other}
 use Rattle.kernel_spec.proofs.steps.OthersTableIsSeen.{Spares}
 use Rattle.kernel_spec.proofs.steps.OnePipeChanges.{numbered_set, named_change}

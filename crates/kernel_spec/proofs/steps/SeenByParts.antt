@@ -1,13 +1,6 @@
 -- What a descriptor is on, and what another process sees of a step, taken apart: a word for each part of `file_at`, `pipe_at` and `seen`, for lemmas to speak of.
-use Rattle.std.specs.Prelude.{ℕ, Option, None, Some, unwrap_or}
-use Rattle.std.specs.FinMap.{get}
-use Rattle.pipe_core.specs.Pipe.{Pipe}
-use Rattle.file_table.specs.declared.open_file.OpenFile.{OpenFile}
+use Rattle.kernel_spec.proofs.Prelude.{ℕ, Child, Descriptor, Descriptors, get, Live, None, offset_in, OpenFile, Option, Pipe, pipe_in, pipe_of_target, seen_shown, show, Shown, Some, State, unwrap_or}
 use Rattle.kernel_spec.specs.views.Words.{◌>>=◌}
-use Rattle.kernel_spec.specs.views.Processes.{Live, Child}
-use Rattle.kernel_spec.specs.views.State.{State}
-use Rattle.kernel_spec.specs.views.View.{Descriptors, Descriptor, Shown, show}
-use Rattle.kernel_spec.specs.others.Quiet.{pipe_of_target, offset_in, pipe_in, seen_shown}
 
 -- the descriptor on an open file, and on what a process names
 abbrev pub descriptor_on : State → ℕ → Option OpenFile → Option Descriptor

@@ -1,15 +1,7 @@
 -- What has to be known of a step for the state after it to be the one that `own` tells: of open files, of who lives, and of what all see.
-use Rattle.std.proofs.Common.{◌≡◌, ◌≢◌, ℕ, ◌⊎◌, refl, ap, sym, ◌∙◌, subst, inl, inr}
-use Rattle.std.specs.Prelude.{Option, None, Some, IsSome, MatchOption}
-use Rattle.std.proofs.lemmas.Bool.Decides.{eqb_tells}
-use Rattle.std.proofs.lemmas.Option.{same_Some}
-use Rattle.kernel_spec.specs.views.State.{State}
-use Rattle.kernel_spec.specs.views.View.{View, view}
-use Rattle.kernel_spec.specs.steps.Own.{Own}
-use Rattle.kernel_spec.specs.others.Quiet.{file_at, pipe_at}
+use Rattle.kernel_spec.proofs.Prelude.{ℕ, ◌∙◌, ◌≡◌, ◌≢◌, ◌⊎◌, ap, eqb_tells, file_at, FilesAfter, inl, inr, IsNewbornOf, IsSome, MatchOption, NobodyHas, NobodyNames, None, Option, Own, pipe_at, refl}
+use Rattle.kernel_spec.proofs.Prelude.{same_Some, Some, State, StateAfter, subst, sym, View, view}
 use Rattle.kernel_spec.proofs.steps.SeenByParts.{pipe_of_file}
-use Rattle.kernel_spec.specs.runs.Run.{FilesAfter, StateAfter, IsNewbornOf}
-use Rattle.kernel_spec.specs.steps.Cases.{NobodyNames, NobodyHas}
 use Rattle.kernel_spec.proofs.steps.TableTells.{Leaves, quiet_from}
 
 -- process p names the open file already, or it is new, and so is its pipe, if it is an end of one

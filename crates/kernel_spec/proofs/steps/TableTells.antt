@@ -1,20 +1,7 @@
 -- A process's own table tells what its descriptors are on.
-use Rattle.std.proofs.Common.{◌≡◌, ◌≢◌, ℕ, ◌<◌, Bool, cond, ◌||◌, refl, ap, sym, ◌∙◌}
-use Rattle.std.proofs.Common.{lt-ltb}
-use Rattle.std.specs.Prelude.{Option, None, Some, option_map}
-use Rattle.std.specs.FinMap.{get, keys}
-use Rattle.std.proofs.lemmas.Option.{same_Some}
-use Rattle.xk_base.specs.declared.limits.TheConstants.{NOFILE}
-use Rattle.kernel_spec.specs.views.Words.{is_this}
-use Rattle.pipe_core.specs.Pipe.{Pipe}
-use Rattle.file_table.specs.declared.open_file.OpenFile.{OpenFile}
-use Rattle.file_table.specs.declared.open_file.Target.{Target}
-use Rattle.file_table.specs.declared.open_file.Target.TheVariants.{Console as Terminal, Program as File, Pipe as Pipe_end}
-use Rattle.kernel_spec.specs.views.Processes.{Live}
-use Rattle.kernel_spec.specs.views.State.{State, live}
-use Rattle.kernel_spec.specs.steps.Own.{Own, gone_with}
-use Rattle.kernel_spec.specs.views.View.{View, Descriptors, named, numbered, rename, rename_shown, show, or_gone, view, view_of, child_of}
-use Rattle.kernel_spec.specs.others.Quiet.{file_at, pipe_of_target, seen, seen_children, Quiet}
+use Rattle.kernel_spec.proofs.Prelude.{ℕ, ◌<◌, ◌||◌, ◌∙◌, ◌≡◌, ◌≢◌, ap, Bool, child_of, cond, Descriptors, File, file_at, get, gone_with, is_this, keys, Live, live, lt-ltb, named, NOFILE, None}
+use Rattle.kernel_spec.proofs.Prelude.{numbered, OpenFile, Option, option_map, or_gone, Own, Pipe, Pipe_end, pipe_of_target, Quiet, refl, rename, rename_shown, same_Some, seen, seen_children, show}
+use Rattle.kernel_spec.proofs.Prelude.{Some, State, sym, Target, Terminal, View, view, view_of}
 use Rattle.kernel_spec.proofs.steps.SeenByParts.{file_of, pipe_of_file, pipe_of_open, offset_left, pipe_left, shown_offset, shown_pipe, descriptor_at, descriptor_on}
 use Rattle.kernel_spec.proofs.steps.OthersTableIsSeen.{open_offset, target_offset, kind, Tells, Spares, seen_table_is, kind_pipe}
 

@@ -1,9 +1,6 @@
 -- A view is what is shared of it together with the rest.
-use Rattle.std.proofs.Common.{◌≡◌, ℕ, Bool, false, [], refl, sym, ◌∙◌}
-use Rattle.std.specs.Prelude.{Option, None, Some}
-use Rattle.console_core.specs.Lists.{empty_console}
-use Rattle.kernel_spec.specs.views.View.{View, Descriptor, Shown, Shown_terminal, Shown_file, Shown_pipe}
-use Rattle.kernel_spec.specs.views.Shared.{bare, Part, Offset, Content, shared_part, Shared, shared}
+use Rattle.kernel_spec.proofs.Prelude.{[], ℕ, ◌∙◌, ◌≡◌, bare, Bool, Content, Descriptor, empty_console, false, None, Offset, Option, Part, refl, Shared, shared, shared_part, Shown, Shown_file}
+use Rattle.kernel_spec.proofs.Prelude.{Shown_pipe, Shown_terminal, Some, sym, View}
 
 -- what of a view is its own
 abbrev pub rest : View → View

@@ -1,14 +1,6 @@
 -- What changes of the state do to views.
-use Rattle.std.proofs.Common.{◌≡◌, ◌≢◌, ℕ, Bool, true, false, cond, refl, ap, sym, ◌∙◌}
-use Rattle.std.specs.Prelude.{Option, None, Some, is_some, nat_eq}
-use Rattle.std.specs.Cmp.{nat_cmp_total}
-use Rattle.std.specs.FinMap.{get, insert, keys}
-use Rattle.kernel_spec.specs.views.Processes.{Live, Alive, Running}
-use Rattle.kernel_spec.specs.views.State.{State, live, live_part}
-use Rattle.kernel_spec.specs.views.View.{view_of, child_of}
-use Rattle.kernel_spec.specs.steps.Updates.{set_live}
-use Rattle.std.proofs.lemmas.Bool.{eqb-true}
-use Rattle.kernel_spec.specs.views.Words.{is_this}
+use Rattle.kernel_spec.proofs.Prelude.{ℕ, ◌∙◌, ◌≡◌, ◌≢◌, Alive, ap, Bool, child_of, cond, eqb-true, false, get, insert, is_some, is_this, keys, Live, live, live_part, nat_cmp_total, nat_eq, None}
+use Rattle.kernel_spec.proofs.Prelude.{Option, refl, Running, set_live, Some, State, sym, true, view_of}
 use Rattle.kernel_spec.proofs.steps.MapsAfterChange.{keys_insert, get_at, get_same, get_other}
 
 -- ---- a live process is replaced by one with the same parent

@@ -1,22 +1,7 @@
 -- Wait for a child that is gone: it is the step that its row tells.
-use Rattle.std.proofs.Common.{◌≡◌, ◌≢◌, ℕ, Bool, true, false, cond, not, ◌&&◌, ◌||◌, refl, ap, sym, ◌∙◌, inl, inr}
-use Rattle.std.specs.Prelude.{Option, None, Some, ℤ, pos, nat_eq, filter}
-use Rattle.std.specs.FinMap.{get, keys, insert}
-use Rattle.std.specs.Int.{cast_unsigned, w32}
-use Rattle.std.proofs.lemmas.Bool.{eq-eqb}
-use Rattle.std.proofs.lemmas.Bool.Decides.{eqb_tells}
-use Rattle.xk_base.specs.Image.{Image}
-use Rattle.kernel_spec.specs.views.Words.{word}
-use Rattle.xk_base.specs.Words.{le_bytes}
-use Rattle.xk_base.specs.Bytes.{write_image}
-use Rattle.kernel_spec.specs.rows.Buffers.{writable_now}
-use Rattle.kernel_spec.specs.views.Processes.{Process, Alive, Live, Status, Zombie, child_status}
-use Rattle.proc_table.specs.declared.process.Call.{Call}
-use Rattle.kernel_spec.specs.views.State.{State, live, live_part}
-use Rattle.kernel_spec.specs.views.View.{View, view_of, child_of}
-use Rattle.kernel_spec.specs.steps.Own.{Called, goes_on}
-use Rattle.kernel_spec.specs.rows.Calls.{wait, least_zombie, done, with_a0}
-use Rattle.kernel_spec.specs.steps.Updates.{waited_state, told_image}
+use Rattle.kernel_spec.proofs.Prelude.{ℕ, ℤ, ◌&&◌, ◌||◌, ◌∙◌, ◌≡◌, ◌≢◌, Alive, ap, Bool, Call, Called, cast_unsigned, child_of, child_status, cond, done, eq-eqb, eqb_tells, false, filter, get}
+use Rattle.kernel_spec.proofs.Prelude.{goes_on, Image, inl, inr, insert, keys, le_bytes, least_zombie, Live, live, live_part, nat_eq, None, not, Option, pos, Process, refl, Some, State, Status, sym}
+use Rattle.kernel_spec.proofs.Prelude.{told_image, true, View, view_of, w32, wait, waited_state, with_a0, word, writable_now, write_image, Zombie}
 use Rattle.kernel_spec.proofs.steps.MapsAfterChange.{get_without, keys_remove}
 use Rattle.kernel_spec.proofs.steps.ViewsAfterSetLive.{same_child, same_keys, live-set_live_there}
 use Rattle.kernel_spec.proofs.steps.TableTells.{Leaves, own_table_tells}

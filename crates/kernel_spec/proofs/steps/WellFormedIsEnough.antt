@@ -1,24 +1,8 @@
 -- What the laws of fork and exit ask of a state stands in every well-formed one.
-use Rattle.std.proofs.Common.{◌≡◌, ◌≢◌, ℕ, ◌<◌, ◌≤◌, ◌+◌, ◌-◌, false, refl, ap, sym, ◌∙◌, arith, inl, inr}
-use Rattle.std.specs.Prelude.{Option, None, Some, is_some, nat_eq, IsSome}
-use Rattle.std.specs.FinMap.{get}
-use Rattle.std.proofs.lemmas.Bool.{eq-eqb, and_left, and_right}
-use Rattle.xk_base.specs.declared.limits.TheConstants.{NOFILE}
-use Rattle.kernel_spec.specs.views.Words.{is_this}
-use Rattle.pipe_core.specs.Pipe.{Pipe}
-use Rattle.file_table.specs.declared.open_file.End.{End}
-use Rattle.file_table.specs.declared.open_file.End.TheVariants.{Reading, Writing}
-use Rattle.kernel_spec.specs.views.PipeEnds.{is_given_up}
-use Rattle.file_table.specs.declared.open_file.OpenFile.{OpenFile}
-use Rattle.file_table.specs.declared.open_file.Target.{Target}
-use Rattle.file_table.specs.declared.open_file.Target.TheVariants.{Console as Terminal, Program as File, Pipe as Pipe_end}
-use Rattle.kernel_spec.specs.views.Processes.{Process, Alive, Live, parent_of}
-use Rattle.kernel_spec.specs.views.State.{State, live}
-use Rattle.kernel_spec.specs.views.View.{numbered}
-use Rattle.kernel_spec.specs.rows.Tables.{ends, on_end}
-use Rattle.kernel_spec.specs.others.Quiet.{pipe_at, pipe_of_target}
+use Rattle.kernel_spec.proofs.Prelude.{ℕ, ◌+◌, ◌-◌, ◌<◌, ◌∙◌, ◌≡◌, ◌≢◌, ◌≤◌, Alive, and_left, and_right, ap, arith, End, ends, eq-eqb, false, File, get, inl, inr, is_given_up, is_some, is_this}
+use Rattle.kernel_spec.proofs.Prelude.{IsSome, Live, live, nat_eq, NOFILE, None, numbered, on, on_end, OpenFile, Option, over_all, parent_of, Pipe, pipe_at, Pipe_end, pipe_of_target, Process, Reading}
+use Rattle.kernel_spec.proofs.Prelude.{refl, Some, State, sym, Target, Terminal, WellFormed, Writing}
 use Rattle.kernel_spec.proofs.steps.SeenByParts.{file_of, pipe_of_file, pipe_of_open}
-use Rattle.kernel_spec.specs.views.WellFormed.{WellFormed, over_all, on}
 use Rattle.kernel_spec.proofs.steps.OthersTableIsSeen.{OtherHas}
 use Rattle.kernel_spec.proofs.well.Sums.{sum_term, sum_terms}
 use Rattle.kernel_spec.proofs.steps.ClosingCountsDown.{fewer, count_some, on_an_end, name_of_pipe, nonzero}

@@ -1,18 +1,7 @@
 -- Writing to memory changes no right, and brings no page.
-use Rattle.std.proofs.Common.{◌≡◌, ℕ, ◌+◌, ◌*◌, ◌/◌, ◌%◌, ◌&&◌, ◌||◌, not, List, [], ◌∷◌, inl, inr, refl, ap, sym, ◌∙◌}
-use Rattle.std.specs.Prelude.{Bool, Option, None, Some, set, option_map, is_some, nat_lt}
-use Rattle.std.specs.List.{list_all, list_any, range_with_len}
-use Rattle.std.specs.FinMap.{get, insert}
-use Rattle.std.proofs.lemmas.Bool.Decides.{eqb_tells}
-use Rattle.xk_base.specs.declared.access.Access.TheVariants.{Store}
-use Rattle.xk_base.specs.declared.access.Rights.{Rights}
-use Rattle.xk_base.specs.Image.{Image, Page}
-use Rattle.xk_base.specs.Bytes.{write_image, put_in, put_byte}
-use Rattle.addr_space.specs.Absent.{is_absent}
-use Rattle.addr_space.specs.Changes.{perm_of_page}
-use Rattle.user_copy.specs.Reach.{allows, may}
-use Rattle.kernel_spec.specs.rows.Buffers.{may_touching, reaches_touching, writable}
-use Rattle.kernel_spec.specs.rows.Touches.{has_absent}
+use Rattle.kernel_spec.proofs.Prelude.{[], ℕ, ◌%◌, ◌&&◌, ◌*◌, ◌+◌, ◌/◌, ◌||◌, ◌∙◌, ◌∷◌, ◌≡◌, allows, ap, Bool, eqb_tells, get, has_absent, Image, inl, inr, insert, is_absent, is_some, List, list_all}
+use Rattle.kernel_spec.proofs.Prelude.{list_any, may, may_touching, nat_lt, None, not, Option, option_map, Page, perm_of_page, put_byte, put_in, range_with_len, reaches_touching, refl, Rights, set}
+use Rattle.kernel_spec.proofs.Prelude.{Some, Storing as Store, sym, writable, write_image}
 use Rattle.kernel_spec.proofs.steps.MapsAfterChange.{get_same, get_other}
 
 -- what a page allows, if it is there

@@ -1,27 +1,11 @@
 -- Each process keeps a slot of its own.
-use Rattle.std.proofs.Common.{◌≡◌, ◌≢◌, ℕ, ◌<◌, Bool, true, false, List, refl, ap, sym, ◌∙◌, subst, inl, inr, ◌⊎◌}
-use Rattle.std.proofs.Math.Path.{fun_ext}
-use Rattle.std.specs.Prelude.{Option, None, Some, IsSome, is_some, MatchOption, ℤ, option_map, Contains}
-use Rattle.std.specs.List.{list_any}
-use Rattle.std.specs.FinMap.{FinMap, get, keys, contains_key-keys}
-use Rattle.std.specs.Ordering.{nat_cmp}
-use Rattle.std.specs.Cmp.{unsigned_tied}
-use Rattle.std.proofs.lemmas.Bool.{eqb-true}
+use Rattle.kernel_spec.proofs.Prelude.{ℕ, ℤ, ◌<◌, ◌∙◌, ◌≡◌, ◌≢◌, ◌⊎◌, Answer, ap, Blocked, Bool, Called, Contains, contains_key-keys, eqb-true, Event, Exited, false, Faulted, FinMap, fun_ext, get}
+use Rattle.kernel_spec.proofs.Prelude.{gone_with, Halted, Happens, HasSlot, HasSlots, Idle, inl, inr, is_some, IsButWoken, IsLowestFree, IsNearest, IsNewbornOf, IsRunnable, IsSome, Key, KeyHappens}
+use Rattle.kernel_spec.proofs.Prelude.{keys, List, list_any, Live, live, live_part, MatchOption, nat_cmp, None, NPROC, Option, option_map, Outcome, Own, own, Process, refl, Run, RunHappens, same_Some}
+use Rattle.kernel_spec.proofs.Prelude.{Send, Sent, Sleeps, SlotsStay, Some, State, stays_current, Step_of, StepOf, Stepped, subst, sym, TakesNearest, Tick, Ticked, TickHappens, true, Turn, Turns}
+use Rattle.kernel_spec.proofs.Prelude.{TurnTaken, Typed, unsigned_tied, View, view, view_of, World}
 use Rattle.std.proofs.lemmas.Map.Views.{Contains-from_any, list_any-from_Contains}
 use Rattle.std.proofs.lemmas.Cmp.{nat_eq_equiv}
-use Rattle.std.proofs.lemmas.Option.{same_Some}
-use Rattle.xk_base.specs.declared.limits.TheConstants.{NPROC}
-use Rattle.kernel_spec.specs.views.Processes.{Process, Live}
-use Rattle.kernel_spec.specs.views.State.{State, live, live_part}
-use Rattle.kernel_spec.specs.views.View.{View, view, view_of}
-use Rattle.kernel_spec.specs.steps.Own.{Own, Answer, Stepped, Called, Blocked, Exited, Faulted, gone_with}
-use Rattle.kernel_spec.specs.steps.Step.{own}
-use Rattle.kernel_spec.specs.waking.Turns.{Turns, Sleeps, HasSlot, IsLowestFree}
-use Rattle.kernel_spec.specs.views.WellFormed.{HasSlots}
-use Rattle.kernel_spec.specs.runs.Run.{World, Event, Run, Tick, Key, Send, Outcome, Turn, Idle, Step_of, Ticked, Typed}
-use Rattle.kernel_spec.specs.runs.Run.{Sent, Halted, Happens, RunHappens, TickHappens, KeyHappens, TurnTaken, StepOf, IsNewbornOf, IsButWoken, stays_current}
-use Rattle.kernel_spec.specs.waking.Wakes.{TakesNearest, IsRunnable, IsNearest}
-use Rattle.kernel_spec.specs.laws.WakeLaws.{SlotsStay}
 use Rattle.kernel_spec.proofs.steps.OthersKeepTheRest.{pid_is}
 use Rattle.kernel_spec.proofs.rows.Pids.{has, own_sound}
 use Rattle.kernel_spec.proofs.Common.{view_pids}

@@ -1,18 +1,8 @@
 -- The turn of a process that may run comes.
-use Rattle.std.proofs.Common.{◌≡◌, ◌≢◌, ℕ, ◌<◌, ◌≤◌, ◌+◌, ◌-◌, Bool, false, cond, List, [], ◌∷◌, inl, inr, refl, ap, sym, ◌∙◌, subst, arith}
-use Rattle.std.specs.Prelude.{Option, None, Some, ℤ}
-use Rattle.std.specs.FinMap.{get}
-use Rattle.std.proofs.lemmas.Option.{same_Some}
-use Rattle.xk_base.specs.declared.limits.TheConstants.{NPROC}
-use Rattle.proc_table.specs.Turns.{distance}
-use Rattle.kernel_spec.specs.steps.Own.{Answer, Stepped, Called, Blocked, Exited, Faulted}
-use Rattle.kernel_spec.specs.steps.Step.{own}
-use Rattle.kernel_spec.specs.waking.Turns.{Turns, HasSlot}
-use Rattle.kernel_spec.specs.views.WellFormed.{HasSlots}
-use Rattle.kernel_spec.specs.runs.Run.{World, Event, Run, Tick, Key, Send, Outcome, Turn, Idle, Step_of, Ticked}
-use Rattle.kernel_spec.specs.runs.Run.{Typed, Sent, Halted, Happens, RunHappens, TickHappens, KeyHappens, TurnTaken, StepOf, IsButWoken, stays_current}
-use Rattle.kernel_spec.specs.waking.Wakes.{TakesNearest, IsRunnable, IsPromised, is_turn, turns_taken}
-use Rattle.kernel_spec.specs.laws.WakeLaws.{WaitsAtMost, TurnComes}
+use Rattle.kernel_spec.proofs.Prelude.{[], ℕ, ℤ, ◌+◌, ◌-◌, ◌<◌, ◌∙◌, ◌∷◌, ◌≡◌, ◌≢◌, ◌≤◌, Answer, ap, arith, Blocked, Bool, Called, cond, distance, Event, Exited, false, Faulted, get, Halted, Happens}
+use Rattle.kernel_spec.proofs.Prelude.{HasSlot, HasSlots, Idle, inl, inr, is_turn, IsButWoken, IsPromised, IsRunnable, Key, KeyHappens, List, None, NPROC, Option, Outcome, own, refl, Run, RunHappens}
+use Rattle.kernel_spec.proofs.Prelude.{same_Some, Send, Sent, Some, stays_current, Step_of, StepOf, Stepped, subst, sym, TakesNearest, Tick, Ticked, TickHappens, Turn, TurnComes, Turns, turns_taken}
+use Rattle.kernel_spec.proofs.Prelude.{TurnTaken, Typed, WaitsAtMost, World}
 use Rattle.kernel_spec.proofs.waking.NoLost.{stays_runnable, ready_may_run}
 use Rattle.kernel_spec.proofs.turns.Nearer.{comes_nearer, is_near}
 use Rattle.kernel_spec.proofs.well.FirstWell.{first_slots}

@@ -1,16 +1,7 @@
 -- Waking by conditions is waking where it is due.
-use Rattle.std.proofs.Common.{◌≡◌, ℕ, Bool, true, false, refl, ap, sym, ◌∙◌, subst, inl, inr, ◌⊎◌}
-use Rattle.std.specs.Prelude.{Option, None, Some, IsSome, option_map}
-use Rattle.std.proofs.lemmas.Bool.{or_parts, or_left, or_right, or_cases}
-use Rattle.kernel_spec.specs.views.Processes.{Live}
-use Rattle.kernel_spec.specs.views.State.{live}
-use Rattle.kernel_spec.specs.views.View.{View, view_of}
-use Rattle.kernel_spec.specs.waking.Ready.{ready}
-use Rattle.kernel_spec.specs.waking.Turns.{Sleeps}
-use Rattle.kernel_spec.specs.runs.Run.{World, Outcome, Ticked}
-use Rattle.kernel_spec.specs.waking.Wakes.{NoReadySleeper, IsInCall, IsEnd}
-use Rattle.kernel_spec.specs.waking.Conditions.{Condition, is_open, waits_for, WakesAnyway, WakesByConditions}
-use Rattle.kernel_spec.specs.laws.ConditionLaws.{ConditionsSuffice}
+use Rattle.kernel_spec.proofs.Prelude.{ℕ, ◌∙◌, ◌≡◌, ◌⊎◌, ap, Bool, Condition, ConditionsSuffice, false, inl, inr, is_open, IsEnd, IsInCall, IsSome, Live, live, None, NoReadySleeper, Option}
+use Rattle.kernel_spec.proofs.Prelude.{option_map, or_cases, or_left, or_parts, or_right, Outcome, ready, refl, Sleeps, Some, subst, sym, Ticked, true, View, view_of, waits_for, WakesAnyway}
+use Rattle.kernel_spec.proofs.Prelude.{WakesByConditions, World}
 use Rattle.kernel_spec.proofs.waking.Wakes.{ready_is, view_is}
 
 some_of : (o : Option Live) → IsSome o → (l : Live) × (o ≡ Some l)

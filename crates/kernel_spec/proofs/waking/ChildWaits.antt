@@ -1,16 +1,6 @@
 -- Who waits for a child is in the call wait, and waits for its own.
-use Rattle.std.proofs.Common.{◌≡◌, ℕ, Bool, true, false, Option, None, Some, refl, ap, sym, ◌∙◌}
-use Rattle.std.specs.Prelude.{ℤ, pos, negsuc}
-use Rattle.file_table.specs.declared.open_file.Target.{Target}
-use Rattle.file_table.specs.declared.open_file.Target.TheVariants.{Console as Terminal, Program as File, Pipe as Pipe_end}
-use Rattle.proc_table.specs.declared.process.Call.{Call}
-use Rattle.kernel_spec.specs.views.Words.{c_int}
-use Rattle.kernel_spec.specs.views.Processes.{Live}
-use Rattle.kernel_spec.specs.views.State.{State}
-use Rattle.kernel_spec.specs.views.View.{view_of}
-use Rattle.kernel_spec.specs.rows.Calls.{Row, Wait, Read, Sleep, Write, row_of}
-use Rattle.kernel_spec.specs.waking.Wakes.{IsInCall}
-use Rattle.kernel_spec.specs.waking.Conditions.{Child_of, read_waits_for, write_waits_for, target_at, sleep_waits_for, row_waits_for, call_waits_for, waits_for}
+use Rattle.kernel_spec.proofs.Prelude.{ℕ, ℤ, ◌∙◌, ◌≡◌, ap, Bool, c_int, Call, call_waits_for, Child_of, false, File, IsInCall, Live, negsuc, None, Option, Pipe_end, pos, Read, read_waits_for, refl}
+use Rattle.kernel_spec.proofs.Prelude.{Row, row_of, row_waits_for, Sleep, sleep_waits_for, Some, State, sym, Target, target_at, Terminal, true, view_of, Wait, waits_for, Write, write_waits_for}
 use Rattle.kernel_spec.proofs.rows.RowNumbers.{row-number}
 
 -- ---- its number is 3

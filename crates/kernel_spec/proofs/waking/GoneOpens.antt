@@ -1,40 +1,21 @@
 -- What the others wait for when a process goes, and what comes by it.
-use Rattle.std.proofs.Common.{◌≡◌, ◌≢◌, ℕ, Bool, true, false, cond, not, ◌||◌, ◌&&◌, List, [], ◌∷◌, refl, ap, sym, ◌∙◌, inl, inr, ◌⊎◌}
-use Rattle.std.specs.Prelude.{Option, None, Some, ℤ, pos, negsuc, option_map, is_some, nat_eq, nat_lt, length}
-use Rattle.std.specs.List.{list_any, find}
-use Rattle.std.specs.FinMap.{FinMap, get, keys, contains_key-keys}
-use Rattle.std.specs.Ordering.{nat_cmp, eq_by_cmp}
-use Rattle.std.specs.Cmp.{unsigned_tied}
-use Rattle.std.proofs.lemmas.Bool.{eq-eqb, eqb-true, or_left, or_right, or_cases, and_parts}
-use Rattle.xk_base.specs.declared.limits.TheConstants.{NOFILE, PIPE_BYTES}
-use Rattle.pipe_core.specs.Pipe.{Pipe}
-use Rattle.file_table.specs.declared.open_file.OpenFile.{OpenFile}
-use Rattle.proc_table.specs.declared.process.Call.{Call}
-use Rattle.proc_table.specs.declared.channel.Channel.{Channel}
-use Rattle.proc_table.specs.declared.channel.Channel.TheVariants as on
-use Rattle.kernel_spec.specs.views.PipeEnds.{is_given_up, has_bytes, has_room}
-use Rattle.kernel_spec.specs.views.Words.{is_this, c_int}
-use Rattle.kernel_spec.specs.views.Processes.{Process, Live, Alive, Zombie, Status, has_status}
-use Rattle.kernel_spec.specs.views.State.{State, live, live_part}
-use Rattle.kernel_spec.specs.views.View.{child_of, or_gone}
-use Rattle.kernel_spec.specs.steps.Own.{Exited}
-use Rattle.kernel_spec.specs.rows.Calls.{Row, Fork, Exit, Wait, Pipe_row, Read, Kill, Exec, Dup, Getpid, Sbrk, Sleep, Uptime, Open, Write, Close, Sbrklazy, row_of}
+use Rattle.kernel_spec.proofs.Prelude.{[], ℕ, ℤ, ◌&&◌, ◌||◌, ◌∙◌, ◌∷◌, ◌≡◌, ◌≢◌, ◌⊎◌, Alive, and_parts, ap, Bool, Bytes, c_int, Call, call_waits_for, Channel, Child_of, child_of, Close, closes_wake}
+use Rattle.kernel_spec.proofs.Prelude.{cond, Condition, contains_key-keys, Dup, end_of, end_wakes, eq-eqb, eq_by_cmp, eqb-true, Exec, Exit, Exited, false, FilesLeft, FinMap, Fork, get, Getpid}
+use Rattle.kernel_spec.proofs.Prelude.{given_to, gone_state, has_bytes, has_room, has_status, inl, inr, is_for, is_given_up, is_open, is_some, is_this, IsLive, Keys, keys, Kill, last_closes, length}
+use Rattle.kernel_spec.proofs.Prelude.{List, list_any, Live, live, live_part, MayOpenAtEnd, nat_cmp, nat_eq, nat_lt, negsuc, NOFILE, None, not, Nothing, Open, OpenFile, Option, option_map, or_cases}
+use Rattle.kernel_spec.proofs.Prelude.{or_gone, or_left, or_right, orphan, orphans, Pipe, PIPE_BYTES, Pipe_row, pos, Process, Read, read_waits_for, refl, Room, Row, row_of, row_waits_for, Sbrk}
+use Rattle.kernel_spec.proofs.Prelude.{Sbrklazy, Sending, Sleep, Some, State, Status, sym, target_at, target_of_open, Time, true, unsigned_tied, Uptime, Wait, waits_for, WellFormed, Write}
+use Rattle.kernel_spec.proofs.Prelude.{write_waits_for, Zombie}
+use Rattle.std.specs.List.{find}
 use Rattle.kernel_spec.proofs.steps.SeenByParts.{file_of}
-use Rattle.kernel_spec.specs.steps.Updates.{gone_state, given_to, orphan, orphans, end_of, target_of_open}
-use Rattle.kernel_spec.specs.views.WellFormed.{WellFormed}
-use Rattle.kernel_spec.specs.steps.Cases.{IsLive, FilesLeft}
-use Rattle.kernel_spec.specs.waking.Conditions.{Condition, Nothing, Child_of, Bytes, Room, Time, Keys, Sending}
-use Rattle.kernel_spec.specs.waking.Conditions.{is_open, read_waits_for, write_waits_for, target_at, row_waits_for, call_waits_for, waits_for, MayOpenAtEnd}
-use Rattle.kernel_spec.specs.waking.SleepsOn.{is_for}
 use Rattle.kernel_spec.proofs.steps.MapsAfterChange.{get_same}
 use Rattle.kernel_spec.proofs.steps.ClosingCountsDown.{kept, fewer}
 use Rattle.kernel_spec.proofs.steps.WellFormedIsEnough.{can_go}
+use Rattle.kernel_spec.proofs.waking.Openings.{opens_gone}
+use Rattle.kernel_spec.proofs.Common.{alive_part, or_false, this_is}
+use Rattle.proc_table.specs.declared.channel.Channel.TheVariants as on
 use Rattle.kernel_spec.proofs.steps.GoneIsItsRow as goes
 use Rattle.kernel_spec.proofs.steps.FamilyLawsHold as family
-use Rattle.kernel_spec.proofs.waking.Openings.{opens_gone}
-use Rattle.kernel_spec.specs.waking.SleepsOn.{last_closes, closes_wake}
-use Rattle.kernel_spec.specs.waking.SleepsOn.{end_wakes}
-use Rattle.kernel_spec.proofs.Common.{alive_part, or_false, this_is}
 
 -- ---- truth values
 

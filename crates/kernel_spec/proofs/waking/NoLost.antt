@@ -1,15 +1,7 @@
 -- No wake-up is lost, and who may run stays so until it runs.
-use Rattle.std.proofs.Common.{◌≡◌, ℕ, Bool, true, false, refl, ap, sym, ◌∙◌, subst, inl, inr, ◌⊎◌, List, [], ◌∷◌}
-use Rattle.std.specs.Prelude.{Option, None, Some, IsSome, ℤ, is_some}
-use Rattle.kernel_spec.specs.views.State.{live}
-use Rattle.kernel_spec.specs.views.View.{View, view}
-use Rattle.kernel_spec.specs.waking.Ready.{ready}
-use Rattle.kernel_spec.specs.waking.Turns.{Sleeps}
-use Rattle.kernel_spec.specs.runs.Run.{World, Event, Run, Tick, Key, Send, Outcome, Turn, Idle, Step_of, Ticked, Typed, Sent, Halted, Happens, RunHappens, TickHappens, KeyHappens, TurnTaken, StepOf}
-use Rattle.kernel_spec.specs.steps.Own.{Blocked}
-use Rattle.kernel_spec.specs.runs.Moments.{IsStepOf}
-use Rattle.kernel_spec.specs.waking.Wakes.{NoReadySleeper, IsPromised}
-use Rattle.kernel_spec.specs.laws.WakeLaws.{NoLostWakeUp, NeverLost, ReadyMayRun, FallsAsleepByItself, StaysRunnable}
+use Rattle.kernel_spec.proofs.Prelude.{[], ℕ, ℤ, ◌∙◌, ◌∷◌, ◌≡◌, ◌⊎◌, ap, Blocked, Bool, Event, FallsAsleepByItself, false, Halted, Happens, Idle, inl, inr, is_some, IsPromised, IsSome, IsStepOf, Key}
+use Rattle.kernel_spec.proofs.Prelude.{KeyHappens, List, live, NeverLost, NoLostWakeUp, None, NoReadySleeper, Option, Outcome, ready, ReadyMayRun, refl, Run, RunHappens, Send, Sent, Sleeps, Some}
+use Rattle.kernel_spec.proofs.Prelude.{StaysRunnable, Step_of, StepOf, subst, sym, Tick, Ticked, TickHappens, true, Turn, TurnTaken, Typed, View, view, World}
 use Rattle.kernel_spec.proofs.rows.Asleep.{own_unready}
 use Rattle.kernel_spec.proofs.well.FirstWell.{nobody_sleeps}
 use Rattle.kernel_spec.proofs.steps.OthersKeepTheRest.{kept, pid_is}

@@ -1,43 +1,21 @@
 -- What each update may make come that sleepers wait for.
-use Rattle.std.proofs.Common.{◌≡◌, ◌≢◌, ℕ, ◌<◌, ◌+◌, Bool, true, false, cond, not, ◌||◌, List, [], ◌∷◌, ◌++◌, length, arith, refl, ap, sym, ◌∙◌, inl, inr, ◌⊎◌}
-use Rattle.std.specs.Prelude.{Option, None, Some, ℤ, option_map, is_some, nat_eq, nat_lt, pos, filter}
-use Rattle.std.specs.List.{list_any, find}
-use Rattle.std.specs.FinMap.{FinMap, get, keys, insert}
-use Rattle.std.specs.Ordering.{nat_cmp}
-use Rattle.std.proofs.lemmas.Bool.Decides.{eqb_tells}
-use Rattle.pipe_core.specs.Pipe.{Pipe}
-use Rattle.console_core.specs.Lists.{Console}
-use Rattle.file_table.specs.declared.open_file.OpenFile.{OpenFile}
-use Rattle.kernel_spec.specs.views.Processes.{Process, Live, Alive, Zombie, Child, Running, Status, has_status}
-use Rattle.kernel_spec.specs.views.State.{State}
-use Rattle.kernel_spec.specs.views.View.{child_of, or_gone}
-use Rattle.kernel_spec.specs.steps.Updates.{changed_state, mark, marked, waited_state, forked_state, gone_state, orphan, orphans, given_to}
-use Rattle.kernel_spec.specs.waking.Conditions.{Nothing, Child_of, Bytes, Room, Time, Keys, Sending, is_open, OpensOnly}
-use Rattle.kernel_spec.specs.laws.ConditionLaws.{OpensAlone, OpensNothing, OpensPipe, OpensMarked, OpensReaped, OpensTick, OpensConsole, OpensForked, OpensGone}
-use Rattle.kernel_spec.specs.waking.Conditions.{MayOpenAtEnd}
-use Rattle.kernel_spec.specs.views.PipeEnds.{has_bytes, has_room}
+use Rattle.kernel_spec.proofs.Prelude.{[], ℕ, ℤ, ◌++◌, ◌+◌, ◌<◌, ◌||◌, ◌∙◌, ◌∷◌, ◌≡◌, ◌≢◌, ◌⊎◌, Alive, ap, arith, Bool, Bytes, Call, changed_state, Child, Child_of, child_of, cond, Console, eq-eqb}
+use Rattle.kernel_spec.proofs.Prelude.{eqb-true, eqb_tells, Exited, false, FilesLeft, filter, FinMap, forked_state, get, given_to, gone_state, has_bytes, has_room, has_status, inl, inr, insert}
+use Rattle.kernel_spec.proofs.Prelude.{is_open, is_some, is_this, Keys, keys, least_below, length, List, list_any, Live, mark, marked, MayOpenAtEnd, nat_cmp, nat_eq, nat_lt, NOFILE, None, none_below}
+use Rattle.kernel_spec.proofs.Prelude.{not, Nothing, OpenFile, OpensAlone, OpensConsole, OpensForked, OpensGone, OpensMarked, OpensNothing, OpensOnly, OpensPipe, OpensReaped, OpensTick, Option}
+use Rattle.kernel_spec.proofs.Prelude.{option_map, or_gone, or_right, orphan, orphans, Pipe, pipe_at, PIPE_BYTES, pos, Process, Reading, refl, Room, Running, same_Some, Sending, Some, State, Status}
+use Rattle.kernel_spec.proofs.Prelude.{sym, Time, true, waited_state, WellFormed, with_value, Writing, Zombie}
+use Rattle.std.specs.List.{find}
 use Rattle.kernel_spec.proofs.steps.ViewsAfterSetLive.{same_child, same_keys}
 use Rattle.kernel_spec.proofs.steps.OrphansKeepKeys.{get-change, keys-change}
 use Rattle.kernel_spec.proofs.steps.MapsAfterChange.{keys_remove, get_without, get_same}
-use Rattle.std.proofs.lemmas.Bool.{eq-eqb, eqb-true, or_right}
-use Rattle.std.proofs.lemmas.Option.{same_Some}
-use Rattle.xk_base.specs.declared.limits.TheConstants.{NOFILE, PIPE_BYTES}
-use Rattle.file_table.specs.declared.open_file.End.TheVariants.{Reading, Writing}
-use Rattle.proc_table.specs.declared.process.Call.{Call}
-use Rattle.kernel_spec.specs.views.Words.{with_value, is_this}
-use Rattle.xk_base.specs.Words.{least_below}
-use Rattle.xk_base.proofs.Least.{none_below}
-use Rattle.kernel_spec.specs.steps.Own.{Exited}
-use Rattle.kernel_spec.specs.others.Quiet.{pipe_at}
-use Rattle.kernel_spec.specs.steps.Cases.{FilesLeft}
 use Rattle.kernel_spec.proofs.steps.LeastPasses.{least_passes}
-use Rattle.kernel_spec.proofs.steps.GoneIsItsRow as goes
-use Rattle.kernel_spec.proofs.steps.FamilyLawsHold as family_files
-use Rattle.kernel_spec.specs.views.WellFormed.{WellFormed}
 use Rattle.kernel_spec.proofs.steps.EndsAreCounted.{plus, among, get-more_on_all}
 use Rattle.kernel_spec.proofs.steps.WellFormedIsEnough.{can_fork, can_go}
-use Rattle.kernel_spec.proofs.steps.ForkIsItsRow as forks
 use Rattle.kernel_spec.proofs.Common.{gone_child, marked_again, marked_child, this_is, this_is_not}
+use Rattle.kernel_spec.proofs.steps.GoneIsItsRow as goes
+use Rattle.kernel_spec.proofs.steps.FamilyLawsHold as family_files
+use Rattle.kernel_spec.proofs.steps.ForkIsItsRow as forks
 
 shut : {A : Type 0} (a b : Bool) → b ≡ a → a ≡ false → b ≡ true → A
 shut a b same e f = let no : ⊥ = cc in absurd no

@@ -1,21 +1,10 @@
 -- Who waits for ticks is in the call sleep, and sleeps on the clock's channel.
-use Rattle.std.proofs.Common.{◌≡◌, ℕ, Bool, true, false, Option, Some, None, refl, sym, ap, ◌∙◌}
-use Rattle.std.specs.Prelude.{ℤ, pos, negsuc}
-use Rattle.file_table.specs.declared.open_file.Target.{Target}
-use Rattle.file_table.specs.declared.open_file.Target.TheVariants.{Console as Terminal, Program as File, Pipe as Pipe_end}
+use Rattle.kernel_spec.proofs.Prelude.{ℕ, ℤ, ◌∙◌, ◌≡◌, ap, Bool, c_int, Call, call_waits_for, Channel, Condition, false, File, is_for, IsInCall, IsTime, Live, negsuc, None, Option, Pipe_end, pos}
+use Rattle.kernel_spec.proofs.Prelude.{Read, read_waits_for, refl, Row, row_of, row_waits_for, Sleep, sleep_waits_for, Some, State, sym, Target, target_at, Terminal, Time, true, View, view_of}
+use Rattle.kernel_spec.proofs.Prelude.{waits_for, Write, write_waits_for}
 use Rattle.proc_table.specs.Channels.{same_channel}
-use Rattle.proc_table.specs.declared.channel.Channel.{Channel}
-use Rattle.proc_table.specs.declared.channel.Channel.TheVariants as on
-use Rattle.proc_table.specs.declared.process.Call.{Call}
-use Rattle.kernel_spec.specs.views.Words.{c_int}
-use Rattle.kernel_spec.specs.views.Processes.{Live}
-use Rattle.kernel_spec.specs.views.State.{State}
-use Rattle.kernel_spec.specs.views.View.{View, view_of}
-use Rattle.kernel_spec.specs.rows.Calls.{Row, Read, Write, Sleep, row_of}
-use Rattle.kernel_spec.specs.waking.Wakes.{IsInCall}
-use Rattle.kernel_spec.specs.waking.Conditions.{Condition, Time, read_waits_for, write_waits_for, sleep_waits_for, target_at, row_waits_for, call_waits_for, waits_for, IsTime}
-use Rattle.kernel_spec.specs.waking.SleepsOn.{is_for}
 use Rattle.kernel_spec.proofs.rows.RowNumbers.{row-number}
+use Rattle.proc_table.specs.declared.channel.Channel.TheVariants as on
 
 abbrev is_sleep : Row → Bool
 is_sleep Sleep = true

@@ -1,30 +1,15 @@
 -- What everybody else waits for is the same after each update, and marks stay.
-use Rattle.std.proofs.Common.{◌≡◌, ◌≢◌, ℕ, ◌<◌, Bool, true, false, cond, arith, refl, ap, sym, ◌∙◌, inl, inr, ◌⊎◌}
-use Rattle.std.specs.Prelude.{Option, None, Some, ℤ, pos, negsuc, option_map, nat_eq, nat_lt}
-use Rattle.std.specs.FinMap.{FinMap, get, insert}
-use Rattle.std.specs.Ordering.{nat_cmp}
-use Rattle.xk_base.specs.declared.limits.TheConstants.{NOFILE}
-use Rattle.pipe_core.specs.Pipe.{Pipe}
-use Rattle.console_core.specs.Lists.{Console}
-use Rattle.file_table.specs.declared.open_file.OpenFile.{OpenFile}
-use Rattle.file_table.specs.declared.open_file.Target.{Target}
-use Rattle.file_table.specs.declared.open_file.Target.TheVariants.{Console as Terminal, Program as File, Pipe as Pipe_end}
-use Rattle.proc_table.specs.declared.process.Call.{Call}
-use Rattle.kernel_spec.specs.views.Words.{c_int}
-use Rattle.kernel_spec.specs.views.Processes.{Process, Live, Alive}
-use Rattle.kernel_spec.specs.views.State.{State, live, live_part}
+use Rattle.kernel_spec.proofs.Prelude.{ℕ, ℤ, ◌<◌, ◌∙◌, ◌≡◌, ◌≢◌, ◌⊎◌, Alive, ap, arith, at_start, Bool, c_int, Call, call_waits_for, changed_state, Close, cond, Console, Dup, end_of, Exec, Exit}
+use Rattle.kernel_spec.proofs.Prelude.{false, File, FilesLeft, FinMap, Fork, forked_child, forked_state, forking, get, Getpid, gone_state, inl, inr, insert, KeepsTargets, Kill, kill_state, Live, live}
+use Rattle.kernel_spec.proofs.Prelude.{live_part, marked, nat_cmp, nat_eq, nat_lt, negsuc, NOFILE, None, Open, OpenFile, Option, option_map, OthersWaitOn, own_state, Pipe, Pipe_end, Pipe_row, pos}
+use Rattle.kernel_spec.proofs.Prelude.{Process, Read, read_waits_for, refl, Row, row_of, row_waits_for, Sbrk, Sbrklazy, Sleep, Some, State, sym, Target, target_at, target_of_open, Terminal, true}
+use Rattle.kernel_spec.proofs.Prelude.{Uptime, Wait, waited_state, waits_for, WaitsStay, WellFormed, Write, write_waits_for}
 use Rattle.kernel_spec.proofs.steps.SeenByParts.{file_of}
-use Rattle.kernel_spec.specs.rows.Calls.{Row, Fork, Exit, Wait, Pipe_row, Read, Kill, Exec, Dup, Getpid, Sbrk, Sleep, Uptime, Open, Write, Close, Sbrklazy, row_of}
-use Rattle.kernel_spec.specs.steps.Updates.{marked, own_state, changed_state, kill_state, waited_state, forking, forked_child, forked_state, gone_state, end_of, target_of_open}
-use Rattle.kernel_spec.specs.views.WellFormed.{WellFormed}
-use Rattle.kernel_spec.specs.steps.Cases.{FilesLeft}
-use Rattle.kernel_spec.specs.waking.Conditions.{read_waits_for, write_waits_for, target_at, row_waits_for, call_waits_for, waits_for, OthersWaitOn, at_start, KeepsTargets}
-use Rattle.kernel_spec.specs.laws.ConditionLaws.{WaitsStay}
 use Rattle.kernel_spec.proofs.steps.MapsAfterChange.{get_other, get_without}
 use Rattle.kernel_spec.proofs.steps.OrphansKeepKeys.{get-change}
 use Rattle.kernel_spec.proofs.steps.ForkIsItsRow.{live_some}
-use Rattle.kernel_spec.proofs.waking.GoneOpens as gone
 use Rattle.kernel_spec.proofs.Common.{alive_part, marked_again}
+use Rattle.kernel_spec.proofs.waking.GoneOpens as gone
 
 -- ---- how far a file was read is nothing that anybody waits for
 

@@ -1,24 +1,9 @@
 -- Whether a process is ready depends on its mark and on what it waits for.
-use Rattle.std.proofs.Common.{◌≡◌, ℕ, Bool, true, false, cond, ◌||◌, refl, ap}
-use Rattle.std.specs.Prelude.{Option, None, Some, ℤ, pos, negsuc, option_map, nat_lt}
-use Rattle.std.specs.FinMap.{get}
-use Rattle.std.proofs.lemmas.Option.{same_Some}
-use Rattle.xk_base.specs.declared.limits.TheConstants.{NOFILE}
-use Rattle.kernel_spec.specs.views.Words.{c_int}
-use Rattle.file_table.specs.declared.open_file.OpenFile.{OpenFile}
-use Rattle.file_table.specs.declared.open_file.Target.{Target}
-use Rattle.file_table.specs.declared.open_file.Target.TheVariants.{Console as Terminal, Program as File, Pipe as Pipe_end}
-use Rattle.kernel_spec.specs.views.Processes.{Live}
-use Rattle.proc_table.specs.declared.process.Call.{Call}
-use Rattle.kernel_spec.specs.views.State.{State}
-use Rattle.kernel_spec.specs.views.View.{View, view_of, named, numbered, rename, in_use}
+use Rattle.kernel_spec.proofs.Prelude.{ℕ, ℤ, ◌||◌, ◌≡◌, ap, Bool, c_int, Call, call_ready, call_waits_for, can_read, can_write, Close, cond, Dup, end_of, Exec, Exit, false, File, Fork, get, Getpid}
+use Rattle.kernel_spec.proofs.Prelude.{has_passed, in_use, is_open, Kill, Live, named, nat_lt, negsuc, NOFILE, None, numbered, on_shown, Open, OpenFile, Option, option_map, Pipe_end, Pipe_row, pos}
+use Rattle.kernel_spec.proofs.Prelude.{Read, read_waits_for, ready, ReadyIsOpen, refl, rename, Row, row_of, row_ready, row_waits_for, same_Some, Sbrk, Sbrklazy, Sleep, sleep_waits_for, Some, State}
+use Rattle.kernel_spec.proofs.Prelude.{Target, target_at, target_of_open, Terminal, ticks_since, true, Uptime, View, view_of, Wait, waits_for, Write, write_waits_for}
 use Rattle.kernel_spec.proofs.steps.SeenByParts.{descriptor_at, descriptor_on}
-use Rattle.kernel_spec.specs.rows.Calls.{Row, Fork, Exit, Wait, Pipe_row, Read, Kill, Exec, Dup, Getpid, Sbrk, Sleep, Uptime, Open, Write, Close, Sbrklazy, row_of}
-use Rattle.kernel_spec.specs.waking.Ready.{ready, call_ready, row_ready, on_shown, can_read, can_write}
-use Rattle.kernel_spec.specs.steps.Updates.{end_of, target_of_open}
-use Rattle.kernel_spec.specs.waking.Conditions.{is_open, read_waits_for, write_waits_for, target_at, sleep_waits_for, row_waits_for, call_waits_for, waits_for}
-use Rattle.kernel_spec.specs.laws.ConditionLaws.{ReadyIsOpen}
-use Rattle.kernel_spec.specs.steps.Ticks.{ticks_since, has_passed}
 
 module _ (s : State) (p : ℕ) (l : Live) where
   abbrev v : View

@@ -1,31 +1,13 @@
 -- The state after boot is well-formed.
-use Rattle.std.proofs.Common.{◌≡◌, ◌≢◌, ℕ, ◌≤◌, ◌+◌, ◌-◌, Bool, true, false, cond, List, [], ◌∷◌, refl, ap, sym, ◌∙◌, subst, arith, inl, inr, lt-ltb}
-use Rattle.std.specs.Prelude.{Option, None, Some, IsSome, is_some, nat_eq, nat_lt, option_map, Result, Ok, Err}
-use Rattle.std.specs.FinMap.{get, empty, get-empty, len, len-empty}
-use Rattle.std.specs.Ordering.{nat_cmp}
-use Rattle.std.proofs.lemmas.Bool.Decides.{eqb_tells, leb_tells}
-use Rattle.xk_base.specs.declared.errors.ExecError.{ExecError}
-use Rattle.xk_base.specs.declared.errors.BootError.{BootError}
-use Rattle.xk_base.specs.declared.errors.BootError.TheVariants.{BadConfig}
-use Rattle.xk_base.specs.declared.errors.ExecError.TheVariants.{NoFrames}
-use Rattle.xk_base.specs.declared.limits.TheConstants.{TRACE_MAX}
-use Rattle.kernel_spec.specs.views.State.{ProgramFile, State, live_part}
-use Rattle.xk_base.specs.Image.{price}
-use Rattle.xk_base.specs.Loaded.{Loaded, loaded}
-use Rattle.pipe_core.specs.Pipe.{Pipe}
-use Rattle.kernel_spec.specs.views.Programs.{init_name, init_of}
-use Rattle.kernel_spec.specs.views.Processes.{Process, Alive, Live}
-use Rattle.kernel_spec.specs.views.View.{View, view, view_of}
-use Rattle.kernel_spec.specs.others.Quiet.{file_at}
+use Rattle.kernel_spec.proofs.Prelude.{[], ℕ, ◌+◌, ◌-◌, ◌∙◌, ◌∷◌, ◌≡◌, ◌≢◌, ◌≤◌, Alive, ap, arith, BadConfig, Bool, BootError, cond, contains, contains-empty, cost, empty, eqb_tells, Err, ExecError}
+use Rattle.kernel_spec.proofs.Prelude.{false, file_at, first, first_init, first_loaded, first_process, first_state, first_turns, get, get-empty, HasSlot, HasSlots, init_name, init_of, inl, inr}
+use Rattle.kernel_spec.proofs.Prelude.{is_some, IsSome, leb_tells, len, len-empty, List, Live, live_part, Loaded, loaded, lt-ltb, nat_cmp, nat_eq, nat_lt, NoFrames, None, Ok, Option, option_map}
+use Rattle.kernel_spec.proofs.Prelude.{over_all, Pipe, price, Process, ProgramFile, refl, Result, same_Some, Sleeps, Some, State, subst, sum_below, sym, TRACE_MAX, true, View, view, view_of}
+use Rattle.kernel_spec.proofs.Prelude.{WellFormed, within_frames, World}
 use Rattle.kernel_spec.proofs.steps.SeenByParts.{file_of}
-use Rattle.kernel_spec.specs.views.WellFormed.{WellFormed, HasSlots, over_all, cost, sum_below}
-use Rattle.kernel_spec.specs.runs.Run.{World}
-use Rattle.kernel_spec.specs.runs.First.{first, unless_refused, within_frames, first_init, first_loaded, first_state, first_turns, first_process}
+use Rattle.kernel_spec.specs.runs.First.{unless_refused}
 use Rattle.kernel_spec.specs.laws.FirstLaws.{FirstWell, FirstSlots}
 use Rattle.kernel_spec.specs.views.NewKernel.{refusal}
-use Rattle.kernel_spec.specs.waking.Turns.{Sleeps, HasSlot}
-use Rattle.std.specs.FinSet.{contains, contains-empty}
-use Rattle.std.proofs.lemmas.Option.{same_Some}
 use Rattle.kernel_spec.proofs.steps.MapsAfterChange.{get_at, get_same}
 use Rattle.kernel_spec.proofs.Common.{none_has_no_value, same_Ok}
 

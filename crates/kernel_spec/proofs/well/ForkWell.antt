@@ -1,30 +1,10 @@
 -- A fork leaves a well-formed state well-formed.
-use Rattle.std.proofs.Common.{◌≡◌, ◌≢◌, ℕ, zero, suc, ◌<◌, ◌≤◌, ◌+◌, ◌-◌, Bool, true, false, cond, ◌&&◌, refl, ap, sym, ◌∙◌, subst, arith, inl, inr, ◌⊎◌, length}
-use Rattle.std.specs.Prelude.{Option, None, Some, option_map, is_some, nat_eq, IsSome}
-use Rattle.std.specs.FinMap.{FinMap, get, insert, len, len-insert}
-use Rattle.std.specs.Ordering.{nat_cmp}
-use Rattle.std.specs.Cmp.{nat_cmp_total}
-use Rattle.std.proofs.lemmas.Bool.Decides.{eqb_tells}
-use Rattle.std.proofs.lemmas.Option.{same_Some}
-use Rattle.std.proofs.lemmas.Bool.{and_right}
-use Rattle.xk_base.specs.declared.limits.TheConstants.{NOFILE, PIPE_BYTES}
-use Rattle.xk_base.specs.Words.{count_below}
-use Rattle.xk_base.specs.Image.{price}
-use Rattle.pipe_core.specs.Pipe.{Pipe}
-use Rattle.file_table.specs.declared.open_file.End.{End}
-use Rattle.file_table.specs.declared.open_file.End.TheVariants.{Reading, Writing}
-use Rattle.kernel_spec.specs.views.PipeEnds.{joined, is_given_up}
-use Rattle.file_table.specs.declared.open_file.OpenFile.{OpenFile}
-use Rattle.file_table.specs.declared.open_file.Target.{Target}
-use Rattle.file_table.specs.declared.open_file.Target.TheVariants.{Console as Terminal, Program as File, Pipe as Pipe_end}
-use Rattle.kernel_spec.specs.views.Processes.{Process, Alive, Zombie, Live, parent_of}
-use Rattle.kernel_spec.specs.views.State.{State, live, live_part}
-use Rattle.kernel_spec.specs.views.View.{numbered}
-use Rattle.kernel_spec.specs.rows.Tables.{ends}
-use Rattle.kernel_spec.specs.others.Quiet.{file_at}
+use Rattle.kernel_spec.proofs.Prelude.{ℕ, ◌&&◌, ◌+◌, ◌-◌, ◌<◌, ◌∙◌, ◌≡◌, ◌≢◌, ◌≤◌, ◌⊎◌, Alive, and_right, ap, arith, Bool, cond, cost, count_below, End, end_of, ends, eqb_tells, false, File, file_at}
+use Rattle.kernel_spec.proofs.Prelude.{FinMap, forked_child, forked_state, forking, get, HasParent, inl, inr, insert, is_given_up, is_some, IsSome, joined, len, len-insert, length, Live, live}
+use Rattle.kernel_spec.proofs.Prelude.{live_part, more_at, more_on, more_on_all, nat_cmp, nat_cmp_total, nat_eq, NOFILE, None, numbered, on, OpenFile, Option, option_map, over_all, parent_of, Pipe}
+use Rattle.kernel_spec.proofs.Prelude.{PIPE_BYTES, Pipe_end, price, Process, Reading, refl, same_Some, Some, State, subst, suc, sum_below, sym, Target, Terminal, true, WellFormed, Writing, zero}
+use Rattle.kernel_spec.proofs.Prelude.{Zombie}
 use Rattle.kernel_spec.proofs.steps.SeenByParts.{file_of}
-use Rattle.kernel_spec.specs.steps.Updates.{forked_state, forking, forked_child, more_on_all, more_on, more_at, end_of}
-use Rattle.kernel_spec.specs.views.WellFormed.{WellFormed, HasParent, over_all, on, cost, sum_below}
 use Rattle.kernel_spec.proofs.steps.MapsAfterChange.{get_same, get_other}
 use Rattle.kernel_spec.proofs.steps.EndsAreCounted.{plus, hits, among, hits_at, get-more_on_all}
 use Rattle.kernel_spec.proofs.well.Sums.{sum_same}

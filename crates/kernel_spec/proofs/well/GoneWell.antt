@@ -1,30 +1,10 @@
 -- An exit leaves a well-formed state well-formed.
-use Rattle.std.proofs.Common.{◌≡◌, ◌≢◌, ℕ, zero, suc, ◌<◌, ◌≤◌, ◌+◌, ◌-◌, Bool, true, false, cond, refl, ap, sym, ◌∙◌, subst, arith, inl, inr, ◌⊎◌, length}
-use Rattle.std.specs.Prelude.{Option, None, Some, ℤ, option_map, is_some, nat_eq, IsSome}
-use Rattle.std.specs.FinMap.{FinMap, get, insert, remove, len, len-insert, len-remove, empty_of_len, get-empty}
-use Rattle.std.specs.Ordering.{nat_cmp}
-use Rattle.std.specs.Cmp.{nat_cmp_total}
-use Rattle.std.proofs.lemmas.Bool.Decides.{eqb_tells}
-use Rattle.std.proofs.lemmas.Option.{same_Some}
-use Rattle.xk_base.specs.declared.limits.TheConstants.{NOFILE, PIPE_BYTES}
-use Rattle.xk_base.specs.Words.{count_below}
-use Rattle.kernel_spec.specs.views.Words.{is_this}
-use Rattle.xk_base.specs.Image.{price}
-use Rattle.pipe_core.specs.Pipe.{Pipe}
-use Rattle.file_table.specs.declared.open_file.End.{End}
-use Rattle.file_table.specs.declared.open_file.End.TheVariants.{Reading, Writing}
-use Rattle.kernel_spec.specs.views.PipeEnds.{parted, is_given_up}
-use Rattle.file_table.specs.declared.open_file.OpenFile.{OpenFile}
-use Rattle.file_table.specs.declared.open_file.Target.{Target}
-use Rattle.file_table.specs.declared.open_file.Target.TheVariants.{Console as Terminal, Program as File, Pipe as Pipe_end}
-use Rattle.kernel_spec.specs.views.Processes.{Process, Alive, Zombie, Live, parent_of}
-use Rattle.kernel_spec.specs.views.State.{State, live, live_part}
-use Rattle.kernel_spec.specs.views.View.{numbered}
-use Rattle.kernel_spec.specs.rows.Tables.{ends}
-use Rattle.kernel_spec.specs.others.Quiet.{file_at, pipe_at, pipe_of_target}
+use Rattle.kernel_spec.proofs.Prelude.{ℕ, ℤ, ◌+◌, ◌-◌, ◌<◌, ◌∙◌, ◌≡◌, ◌≢◌, ◌≤◌, ◌⊎◌, Alive, ap, arith, Bool, cond, cost, count_below, empty_of_len, End, end_of, ends, eqb_tells, false, fewer_at}
+use Rattle.kernel_spec.proofs.Prelude.{fewer_on, fewer_on_all, File, file_at, FinMap, freed_at, freed_on, freed_on_all, get, get-empty, given_to, gone_state, HasParent, inl, inr, insert, is_given_up}
+use Rattle.kernel_spec.proofs.Prelude.{is_some, is_this, IsSome, len, len-insert, len-remove, length, Live, live, live_part, nat_cmp, nat_cmp_total, nat_eq, NOFILE, None, numbered, on, OpenFile}
+use Rattle.kernel_spec.proofs.Prelude.{Option, option_map, orphan, orphans, over_all, parent_of, parted, Pipe, pipe_at, PIPE_BYTES, Pipe_end, pipe_of_target, price, Process, Reading, refl, remove}
+use Rattle.kernel_spec.proofs.Prelude.{same_Some, Some, State, subst, suc, sym, Target, target_of_open, Terminal, true, WellFormed, Writing, zero, Zombie}
 use Rattle.kernel_spec.proofs.steps.SeenByParts.{file_of, pipe_of_file, pipe_of_open}
-use Rattle.kernel_spec.specs.steps.Updates.{gone_state, orphans, orphan, given_to, fewer_on_all, freed_on_all, fewer_on, freed_on, fewer_at, freed_at, end_of, target_of_open}
-use Rattle.kernel_spec.specs.views.WellFormed.{WellFormed, HasParent, over_all, on, cost}
 use Rattle.kernel_spec.proofs.steps.MapsAfterChange.{get_same, get_other}
 use Rattle.kernel_spec.proofs.steps.EndsAreCounted.{hits, hits_at}
 use Rattle.kernel_spec.proofs.steps.ClosingCountsDown.{kept, fewer, get-fewer_on_all}

@@ -1,22 +1,8 @@
 -- Well-formed states stay so: where a process changes itself, the console and the free frames.
-use Rattle.std.proofs.Common.{◌≡◌, ◌≢◌, ℕ, ◌≤◌, ◌+◌, Bool, refl, ap, sym, ◌∙◌, arith, inl, inr, ◌⊎◌, length}
-use Rattle.std.specs.Prelude.{Option, None, Some, option_map, is_some, IsSome}
-use Rattle.std.specs.FinMap.{get, len}
-use Rattle.std.proofs.lemmas.Bool.Decides.{eqb_tells}
-use Rattle.std.proofs.lemmas.Option.{same_Some}
-use Rattle.xk_base.specs.declared.limits.TheConstants.{CONSOLE_BYTES, SEND_BYTES}
-use Rattle.rv64i_core.specs.Registers.{Registers}
-use Rattle.xk_base.specs.Image.{Image, price}
-use Rattle.file_table.specs.declared.open_file.End.{End}
-use Rattle.file_table.specs.declared.open_file.End.TheVariants.{Reading, Writing}
-use Rattle.console_core.specs.Lists.{Console}
-use Rattle.kernel_spec.specs.views.Processes.{Process, Alive, Live, parent_of}
-use Rattle.proc_table.specs.declared.process.Call.{Call}
-use Rattle.kernel_spec.specs.views.State.{State, live, live_part}
-use Rattle.kernel_spec.specs.others.Quiet.{file_at}
+use Rattle.kernel_spec.proofs.Prelude.{ℕ, ◌+◌, ◌∙◌, ◌≡◌, ◌≢◌, ◌≤◌, ◌⊎◌, Alive, ap, arith, Bool, Call, changed_state, Console, CONSOLE_BYTES, cost, End, eqb_tells, file_at, get, HasParent, Image, inl}
+use Rattle.kernel_spec.proofs.Prelude.{inr, is_some, IsSome, len, length, Live, live, live_part, None, on, Option, option_map, over_all, parent_of, price, Process, Reading, refl, Registers, same_Some}
+use Rattle.kernel_spec.proofs.Prelude.{SEND_BYTES, Some, State, sym, WellFormed, Writing}
 use Rattle.kernel_spec.proofs.steps.SeenByParts.{file_of}
-use Rattle.kernel_spec.specs.steps.Updates.{changed_state}
-use Rattle.kernel_spec.specs.views.WellFormed.{WellFormed, HasParent, over_all, on, cost}
 use Rattle.kernel_spec.proofs.steps.MapsAfterChange.{get_same, get_other}
 use Rattle.kernel_spec.proofs.well.Sums.{sum_same, sum_change}
 use Rattle.kernel_spec.proofs.Common.{the_value}

@@ -1,17 +1,7 @@
 -- A wait that takes a zombie leaves a well-formed state well-formed: first the process changes itself (`alone_well`), then the zombie goes.
-use Rattle.std.proofs.Common.{◌≡◌, ◌≢◌, ℕ, ◌+◌, Bool, cond, refl, ap, sym, ◌∙◌, inl, inr, ◌⊎◌}
-use Rattle.std.specs.Prelude.{Option, None, Some, ℤ, option_map, is_some}
-use Rattle.std.specs.FinMap.{get, len}
-use Rattle.std.proofs.lemmas.Bool.{eq-eqb}
-use Rattle.std.proofs.lemmas.Bool.Decides.{eqb_tells}
-use Rattle.file_table.specs.declared.open_file.End.{End}
-use Rattle.file_table.specs.declared.open_file.End.TheVariants.{Reading, Writing}
-use Rattle.kernel_spec.specs.views.Processes.{Process, Zombie, parent_of}
-use Rattle.kernel_spec.specs.views.State.{State, live, live_part}
-use Rattle.kernel_spec.specs.others.Quiet.{file_at}
+use Rattle.kernel_spec.proofs.Prelude.{ℕ, ℤ, ◌+◌, ◌∙◌, ◌≡◌, ◌≢◌, ◌⊎◌, ap, Bool, cond, cost, End, eq-eqb, eqb_tells, file_at, get, HasParent, inl, inr, is_some, len, live, live_part, None, on, Option}
+use Rattle.kernel_spec.proofs.Prelude.{option_map, over_all, parent_of, Process, Reading, refl, remove_zombie, Some, State, sym, WellFormed, Writing, Zombie}
 use Rattle.kernel_spec.proofs.steps.SeenByParts.{file_of}
-use Rattle.kernel_spec.specs.steps.Updates.{remove_zombie}
-use Rattle.kernel_spec.specs.views.WellFormed.{WellFormed, HasParent, over_all, on, cost}
 use Rattle.kernel_spec.proofs.steps.MapsAfterChange.{get_without}
 use Rattle.kernel_spec.proofs.well.Sums.{sum_same}
 use Rattle.kernel_spec.proofs.Common.{the_value}

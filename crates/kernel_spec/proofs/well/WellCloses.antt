@@ -1,37 +1,17 @@
 -- Close and pipe keep a state well-formed.
-use Rattle.std.proofs.Common.{◌≡◌, ◌≢◌, ℕ, ◌<◌, ◌≤◌, ◌+◌, ◌-◌, Bool, true, false, cond, ◌&&◌, List, refl, ap, sym, ◌∙◌, subst, arith, inl, inr, ◌⊎◌, length}
-use Rattle.std.specs.Prelude.{Option, None, Some, is_some, nat_eq, IsSome}
-use Rattle.std.specs.FinMap.{FinMap, get, insert, remove, len, len-insert}
-use Rattle.std.specs.Ordering.{nat_cmp}
-use Rattle.std.specs.Cmp.{nat_cmp_total}
-use Rattle.std.proofs.lemmas.Bool.{eq-eqb}
-use Rattle.std.proofs.lemmas.Bool.Decides.{eqb_tells}
-use Rattle.std.proofs.lemmas.Option.{same_Some}
-use Rattle.xk_base.specs.declared.limits.TheConstants.{NOFILE, PIPE_BYTES}
-use Rattle.xk_base.specs.Words.{count_below}
-use Rattle.xk_base.specs.Image.{price}
-use Rattle.pipe_core.specs.Pipe.{Pipe, new_pipe}
-use Rattle.file_table.specs.declared.open_file.End.{End}
-use Rattle.file_table.specs.declared.open_file.End.TheVariants.{Reading, Writing}
-use Rattle.file_table.specs.declared.open_file.OpenFile.{OpenFile}
-use Rattle.file_table.specs.declared.open_file.Target.TheVariants.{Pipe as Pipe_end}
-use Rattle.kernel_spec.specs.views.PipeEnds.{parted, is_given_up}
-use Rattle.kernel_spec.specs.views.Processes.{Process, Alive, Live, Zombie}
-use Rattle.kernel_spec.specs.views.State.{State, live_part}
-use Rattle.kernel_spec.specs.rows.Tables.{is_end}
-use Rattle.kernel_spec.specs.others.Quiet.{file_at, pipe_of_target}
+use Rattle.kernel_spec.proofs.Prelude.{ℕ, ◌&&◌, ◌+◌, ◌-◌, ◌<◌, ◌∙◌, ◌≡◌, ◌≢◌, ◌≤◌, ◌⊎◌, Alive, ap, arith, Bool, changed_state, cond, count_below, End, end_of, eq-eqb, eqb_tells, false, file_at}
+use Rattle.kernel_spec.proofs.Prelude.{FilesLeft, FinMap, get, HasTable, inl, inr, insert, is_end, is_given_up, is_some, IsSome, len, len-insert, length, List, Live, live_part, nat_cmp, nat_cmp_total}
+use Rattle.kernel_spec.proofs.Prelude.{nat_eq, new_pipe, NobodyHas, NobodyNames, NOFILE, None, on, OnPipe, OpenFile, Option, over_all, parted, Pipe, PIPE_BYTES, Pipe_end, pipe_of_target, price}
+use Rattle.kernel_spec.proofs.Prelude.{Process, Reading, refl, remove, same_Some, settled, Some, State, subst, sym, target_of_open, true, WellClosed, WellClosedPipe, WellFormed, WellMadePipe, Writing}
+use Rattle.kernel_spec.proofs.Prelude.{Zombie}
 use Rattle.kernel_spec.proofs.steps.SeenByParts.{file_of, pipe_of_file, pipe_of_open}
-use Rattle.kernel_spec.specs.steps.Updates.{changed_state, settled, end_of, target_of_open}
-use Rattle.kernel_spec.specs.views.WellFormed.{WellFormed, over_all, on}
-use Rattle.kernel_spec.specs.laws.RowLaws.{WellClosed, WellClosedPipe, WellMadePipe}
-use Rattle.kernel_spec.specs.steps.Cases.{HasTable, NobodyNames, NobodyHas, OnPipe, FilesLeft}
 use Rattle.kernel_spec.proofs.steps.MapsAfterChange.{get_same, get_other, get_without}
 use Rattle.kernel_spec.proofs.steps.EndsAreCounted.{hits, one, among_nobody}
 use Rattle.kernel_spec.proofs.well.WellTable.{hits_of, count_put, count_take, count_files, total, table_well}
 use Rattle.kernel_spec.proofs.well.WellOpens.{no_hit, now, others, mine_then, mine_now, still_named, used_apart}
 use Rattle.kernel_spec.proofs.well.GoneWell.{settled_len}
-use Rattle.kernel_spec.proofs.steps.DupCloseLawsHold as descriptors
 use Rattle.kernel_spec.proofs.Common.{sum_below-zero}
+use Rattle.kernel_spec.proofs.steps.DupCloseLawsHold as descriptors
 
 module _ (frames : ℕ) (s : State) (p : ℕ) (l m : Live) (k f : ℕ) (x : OpenFile) (files : FinMap nat_cmp OpenFile) (pipes : FinMap nat_cmp Pipe) (freed : ℕ) (h : WellFormed frames s)
     (was : get s.processes p ≡ Some (Alive l)) (below : k < NOFILE) (used : get l.descriptors k ≡ Some f) (opened : get s.files f ≡ Some x) (table : HasTable l m (remove l.descriptors k))

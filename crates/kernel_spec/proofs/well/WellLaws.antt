@@ -1,30 +1,10 @@
 -- Well-formed states stay so, as laws.
-use Rattle.std.proofs.Common.{◌≡◌, ℕ, ◌+◌, ◌*◌, ◌/◌, ◌%◌, ◌^◌, Bool, cond, List, [], ◌∷◌, refl, ap, sym, ◌∙◌, inl, inr}
-use Rattle.std.proofs.Math.Path.{fun_ext}
-use Rattle.std.specs.Prelude.{Option, None, Some, ℤ, is_some, set}
-use Rattle.std.specs.FinMap.{FinMap, get, insert, len, len-insert}
-use Rattle.std.specs.Ordering.{nat_cmp}
-use Rattle.std.specs.Cmp.{nat_cmp_total}
-use Rattle.std.proofs.lemmas.Bool.Decides.{eqb_tells}
-use Rattle.xk_base.specs.Words.{count_below}
-use Rattle.xk_base.specs.Image.{Image, Page, price, some_below}
-use Rattle.xk_base.specs.Bytes.{write_image, put_in, put_byte}
-use Rattle.file_table.specs.declared.open_file.OpenFile.{OpenFile}
-use Rattle.kernel_spec.specs.views.Processes.{Process, Alive, Live, Zombie}
-use Rattle.kernel_spec.specs.views.State.{State}
-use Rattle.kernel_spec.specs.others.Quiet.{file_at}
+use Rattle.kernel_spec.proofs.Prelude.{[], ℕ, ℤ, ◌%◌, ◌*◌, ◌+◌, ◌/◌, ◌^◌, ◌∙◌, ◌∷◌, ◌≡◌, Alive, ap, Bool, cond, count_below, End, eqb_tells, Exited, file_at, FilesLeft, FinMap, fun_ext, get}
+use Rattle.kernel_spec.proofs.Prelude.{gone_state, Image, inl, inr, insert, insert_some, is_some, len, len-insert, List, Live, nat_cmp, nat_cmp_total, None, on, OpenFile, Option, Page, price, Process}
+use Rattle.kernel_spec.proofs.Prelude.{put_byte, put_in, Reading, refl, set, Some, some_below, State, StoresTakeNothing, sym, WellAlone, WellForked, WellFormed, WellGone, WellOutside, WellReaped}
+use Rattle.kernel_spec.proofs.Prelude.{with_store, write_image, write_pages, WritesTakeNothing, Writing, written, written_page, Zombie}
 use Rattle.kernel_spec.proofs.steps.OthersTableIsSeen.{OtherNames}
-use Rattle.kernel_spec.specs.steps.Updates.{gone_state}
-use Rattle.kernel_spec.specs.views.WellFormed.{WellFormed, on}
-use Rattle.file_table.specs.declared.open_file.End.{End}
-use Rattle.file_table.specs.declared.open_file.End.TheVariants.{Reading, Writing}
 use Rattle.kernel_spec.proofs.well.Sums.{sum_same}
-use Rattle.kernel_spec.specs.steps.Own.{Exited}
-use Rattle.kernel_spec.specs.laws.RowLaws.{WellOutside, WellForked, WellGone, WellReaped, WellAlone, WritesTakeNothing, StoresTakeNothing}
-use Rattle.kernel_spec.specs.steps.Cases.{FilesLeft}
-use Rattle.xk_base.specs.Gathered.{insert_some}
-use Rattle.rv64i_core.specs.Memory.{written}
-use Rattle.rv64i_core.specs.UserImage.{with_store, written_page, write_pages}
 use Rattle.kernel_spec.proofs.steps.MapsAfterChange.{get_same, get_other}
 use Rattle.kernel_spec.proofs.well.ForkWell as forks
 use Rattle.kernel_spec.proofs.well.GoneWell as goes

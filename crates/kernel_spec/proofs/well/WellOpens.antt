@@ -1,30 +1,9 @@
 -- Open, dup and close keep a state well-formed.
-use Rattle.std.proofs.Common.{◌≡◌, ◌≢◌, ℕ, ◌<◌, ◌≤◌, ◌+◌, Bool, false, cond, ◌&&◌, List, refl, ap, sym, ◌∙◌, subst, arith, inl, inr, ◌⊎◌, length}
-use Rattle.std.specs.Prelude.{Option, None, Some, is_some, nat_eq, IsSome}
-use Rattle.std.specs.FinMap.{FinMap, get, insert, len, len-insert}
-use Rattle.std.specs.Ordering.{nat_cmp}
-use Rattle.std.specs.Cmp.{nat_cmp_total}
-use Rattle.std.proofs.lemmas.Bool.{eq-eqb}
-use Rattle.std.proofs.lemmas.Bool.Decides.{eqb_tells}
-use Rattle.std.proofs.lemmas.Option.{same_Some}
-use Rattle.xk_base.specs.declared.limits.TheConstants.{NOFILE, PIPE_BYTES}
-use Rattle.xk_base.specs.Words.{count_below}
-use Rattle.pipe_core.specs.Pipe.{Pipe}
-use Rattle.file_table.specs.declared.open_file.End.{End}
-use Rattle.file_table.specs.declared.open_file.End.TheVariants.{Reading, Writing}
-use Rattle.file_table.specs.declared.open_file.OpenFile.{OpenFile}
-use Rattle.file_table.specs.declared.open_file.Target.{Target}
-use Rattle.file_table.specs.declared.open_file.Target.TheVariants.{Console as Terminal, Program as File, Pipe as Pipe_end}
-use Rattle.kernel_spec.specs.views.PipeEnds.{joined, is_given_up}
-use Rattle.kernel_spec.specs.views.Processes.{Alive, Live}
-use Rattle.kernel_spec.specs.views.State.{State, live_part}
-use Rattle.kernel_spec.specs.rows.Tables.{is_end}
-use Rattle.kernel_spec.specs.others.Quiet.{file_at, pipe_of_target}
+use Rattle.kernel_spec.proofs.Prelude.{ℕ, ◌&&◌, ◌+◌, ◌<◌, ◌∙◌, ◌≡◌, ◌≢◌, ◌≤◌, ◌⊎◌, Alive, ap, arith, Bool, changed_state, cond, count_below, End, end_of, eq-eqb, eqb_tells, false, File, file_at}
+use Rattle.kernel_spec.proofs.Prelude.{filed_state, FinMap, get, HasTable, inl, inr, insert, is_end, is_given_up, is_some, IsSome, joined, len, len-insert, length, List, Live, live_part, nat_cmp}
+use Rattle.kernel_spec.proofs.Prelude.{nat_cmp_total, nat_eq, NobodyNames, NOFILE, None, on, OnPipe, OpenFile, Option, over_all, own_state, Pipe, PIPE_BYTES, Pipe_end, pipe_of_target, piped_state}
+use Rattle.kernel_spec.proofs.Prelude.{Reading, refl, same_Some, Some, State, subst, sym, Target, target_of_open, Terminal, WellDup, WellDupPipe, WellFormed, WellOpened, Writing}
 use Rattle.kernel_spec.proofs.steps.SeenByParts.{file_of}
-use Rattle.kernel_spec.specs.steps.Updates.{changed_state, own_state, piped_state, filed_state, end_of, target_of_open}
-use Rattle.kernel_spec.specs.views.WellFormed.{WellFormed, over_all, on}
-use Rattle.kernel_spec.specs.laws.RowLaws.{WellOpened, WellDup, WellDupPipe}
-use Rattle.kernel_spec.specs.steps.Cases.{HasTable, NobodyNames, OnPipe}
 use Rattle.kernel_spec.proofs.steps.MapsAfterChange.{get_same, get_other}
 use Rattle.kernel_spec.proofs.steps.EndsAreCounted.{hits, one}
 use Rattle.kernel_spec.proofs.well.WellTable.{hits_of, count_put, count_files, total, table_well}

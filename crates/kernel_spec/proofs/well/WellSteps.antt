@@ -1,27 +1,9 @@
 -- Well-formed states stay so where a pipe gets other bytes, a file another offset, a process a mark.
-use Rattle.std.proofs.Common.{◌≡◌, ℕ, ◌≤◌, ◌+◌, Bool, true, false, cond, [], refl, ap, sym, ◌∙◌, subst, inl, inr, ◌⊎◌, length}
-use Rattle.std.specs.Prelude.{Option, None, Some, option_map, is_some, nat_eq, IsSome}
-use Rattle.std.specs.FinMap.{get, insert, len, len-insert}
-use Rattle.std.specs.Cmp.{nat_cmp_total}
-use Rattle.std.proofs.lemmas.Bool.Decides.{eqb_tells}
-use Rattle.std.proofs.lemmas.Option.{same_Some}
-use Rattle.xk_base.specs.declared.limits.TheConstants.{NOFILE, PIPE_BYTES}
-use Rattle.xk_base.specs.Words.{count_below}
-use Rattle.pipe_core.specs.Pipe.{Pipe}
-use Rattle.file_table.specs.declared.open_file.End.{End}
-use Rattle.file_table.specs.declared.open_file.End.TheVariants.{Reading, Writing}
-use Rattle.file_table.specs.declared.open_file.OpenFile.{OpenFile}
-use Rattle.file_table.specs.declared.open_file.Target.TheVariants.{Program as File, Pipe as Pipe_end}
-use Rattle.kernel_spec.specs.views.PipeEnds.{is_given_up}
-use Rattle.kernel_spec.specs.views.Processes.{Process, Alive, Live, Zombie, parent_of}
-use Rattle.kernel_spec.specs.views.State.{State, live, live_part}
-use Rattle.kernel_spec.specs.views.View.{numbered}
-use Rattle.kernel_spec.specs.rows.Tables.{ends}
-use Rattle.kernel_spec.specs.others.Quiet.{file_at}
+use Rattle.kernel_spec.proofs.Prelude.{[], ℕ, ◌+◌, ◌∙◌, ◌≡◌, ◌≤◌, ◌⊎◌, Alive, ap, Bool, cond, cost, count_below, End, end_of, ends, eqb_tells, false, File, file_at, get, inl, inr, insert, is_given_up}
+use Rattle.kernel_spec.proofs.Prelude.{is_some, IsSome, len, len-insert, length, Live, live, live_part, mark, marked, nat_cmp_total, nat_eq, NOFILE, None, numbered, on, OpenFile, Option, option_map}
+use Rattle.kernel_spec.proofs.Prelude.{over_all, parent_of, Pipe, PIPE_BYTES, Pipe_end, Process, Reading, refl, same_Some, set_file, set_pipe, Some, State, subst, sym, target_of_open, true}
+use Rattle.kernel_spec.proofs.Prelude.{WellFormed, WellMarked, WellMoved, WellPiped, Writing, Zombie}
 use Rattle.kernel_spec.proofs.steps.SeenByParts.{file_of}
-use Rattle.kernel_spec.specs.steps.Updates.{set_pipe, set_file, mark, marked, end_of, target_of_open}
-use Rattle.kernel_spec.specs.views.WellFormed.{WellFormed, over_all, on, cost}
-use Rattle.kernel_spec.specs.laws.RowLaws.{WellPiped, WellMoved, WellMarked}
 use Rattle.kernel_spec.proofs.steps.MapsAfterChange.{get_same, get_other}
 use Rattle.kernel_spec.proofs.steps.EndsAreCounted.{hits, hits_at}
 use Rattle.kernel_spec.proofs.well.Sums.{sum_same}

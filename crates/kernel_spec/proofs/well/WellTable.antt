@@ -1,28 +1,9 @@
 -- Well-formed states stay so where a process's descriptors change: what has to be known.
-use Rattle.std.proofs.Common.{◌≡◌, ◌≢◌, ℕ, zero, suc, ◌<◌, ◌≤◌, ◌+◌, Bool, false, cond, refl, ap, sym, ◌∙◌, subst, arith, inl, inr, length}
-use Rattle.std.specs.Prelude.{Option, None, Some, option_map, is_some, IsSome}
-use Rattle.std.specs.FinMap.{FinMap, get, insert, remove, len}
-use Rattle.std.specs.Ordering.{nat_cmp}
-use Rattle.std.proofs.lemmas.Bool.{eq-eqb}
-use Rattle.std.proofs.lemmas.Bool.Decides.{eqb_tells}
-use Rattle.std.proofs.lemmas.Option.{same_Some}
-use Rattle.xk_base.specs.declared.limits.TheConstants.{NOFILE, PIPE_BYTES, CONSOLE_BYTES, SEND_BYTES}
-use Rattle.xk_base.specs.Words.{count_below}
-use Rattle.xk_base.specs.Image.{price}
-use Rattle.pipe_core.specs.Pipe.{Pipe}
-use Rattle.file_table.specs.declared.open_file.End.{End}
-use Rattle.file_table.specs.declared.open_file.End.TheVariants.{Reading, Writing}
-use Rattle.file_table.specs.declared.open_file.OpenFile.{OpenFile}
-use Rattle.file_table.specs.declared.open_file.Target.TheVariants.{Pipe as Pipe_end}
-use Rattle.kernel_spec.specs.views.PipeEnds.{is_given_up}
-use Rattle.kernel_spec.specs.views.Processes.{Process, Alive, Live, Zombie, parent_of}
-use Rattle.kernel_spec.specs.views.State.{State, live, live_part}
-use Rattle.kernel_spec.specs.views.View.{numbered}
-use Rattle.kernel_spec.specs.rows.Tables.{ends}
-use Rattle.kernel_spec.specs.others.Quiet.{file_at}
+use Rattle.kernel_spec.proofs.Prelude.{ℕ, ◌+◌, ◌<◌, ◌∙◌, ◌≡◌, ◌≢◌, ◌≤◌, Alive, ap, arith, Bool, cond, CONSOLE_BYTES, cost, count_below, End, end_of, ends, eq-eqb, eqb_tells, false, file_at, FinMap}
+use Rattle.kernel_spec.proofs.Prelude.{get, inl, inr, insert, is_given_up, is_some, IsSome, len, length, Live, live, live_part, nat_cmp, NOFILE, None, numbered, on, OpenFile, Option, option_map}
+use Rattle.kernel_spec.proofs.Prelude.{over_all, parent_of, Pipe, PIPE_BYTES, Pipe_end, price, Process, Reading, refl, remove, same_Some, SEND_BYTES, Some, State, subst, suc, sum_below, sym}
+use Rattle.kernel_spec.proofs.Prelude.{target_of_open, WellFormed, Writing, zero, Zombie}
 use Rattle.kernel_spec.proofs.steps.SeenByParts.{file_of}
-use Rattle.kernel_spec.specs.steps.Updates.{end_of, target_of_open}
-use Rattle.kernel_spec.specs.views.WellFormed.{WellFormed, over_all, on, cost, sum_below}
 use Rattle.kernel_spec.proofs.steps.MapsAfterChange.{get_same, get_other, get_without}
 use Rattle.kernel_spec.proofs.steps.EndsAreCounted.{hits, hits_at, one}
 use Rattle.kernel_spec.proofs.well.Sums.{sum_change}

@@ -1,37 +1,15 @@
 -- Worked rows of the call table and of the console, computed from the definitions: a wrong row there fails a lemma here.
 -- The views are of a process in a call; what its memory costs, and which of its buffers are there, is given.
-use Rattle.std.proofs.Common.{◌≡◌, ℕ, ◌^◌, ◌-◌, ◌+◌, true, false, not, ◌&&◌, ◌||◌, Bool, cond, List, [], ◌∷◌, refl, ap, ◌∙◌, length, replicate}
-use Rattle.std.specs.Prelude.{Option, None, Some, Result, Ok, Err, pos, negsuc, nat_eq, nat_lt, codes}
-use Rattle.xk_base.specs.declared.limits.TheConstants.{MAXPATH, MAXARG, ARG_BYTES, NOFILE, PIPE_BYTES, SIZE_LIMIT}
-use Rattle.xk_base.specs.declared.errors.ExecError.{ExecError}
-use Rattle.xk_base.specs.Words.{least_below, count_below}
-use Rattle.xk_base.specs.Image.{Image, price}
-use Rattle.xk_base.specs.Bytes.{image_bytes, write_image}
-use Rattle.xk_base.specs.Loaded.{Loaded, loaded}
-use Rattle.pipe_core.specs.Pipe.{new_pipe}
-use Rattle.console_core.specs.Lists.{Console, empty_console}
-use Rattle.console_core.specs.Keys.{line}
-use Rattle.console_core.specs.Reads.{pulled}
-use Rattle.file_table.specs.declared.open_file.End.TheVariants.{Reading, Writing}
-use Rattle.proc_table.specs.declared.process.Call.{Call}
+use Rattle.kernel_spec.proofs.Prelude.{[], ℕ, ◌&&◌, ◌+◌, ◌-◌, ◌>>=◌, ◌>>◌, ◌^◌, ◌or◌, ◌when◌, ◌||◌, ◌∙◌, ◌∷◌, ◌≡◌, ap, ARG_BYTES, Blocked, Bool, Call, Called, close, codes, cond, Console, count_below}
+use Rattle.kernel_spec.proofs.Prelude.{Descriptor, Descriptors, done, dup, empty_console, Err, ExecError, Exited, false, grown, has_absent, Image, image_bytes, Key, kill, least_below, least_zombie}
+use Rattle.kernel_spec.proofs.Prelude.{length, line, List, Loaded, loaded, lowest_free, MAXARG, MAXPATH, named, nat_eq, nat_lt, negsuc, new_pipe, no_slashes, NOFILE, None, not, Ok, Option, out, Own}
+use Rattle.kernel_spec.proofs.Prelude.{own, pages_at, perform, PIPE_BYTES, pos, price, pulled, read, readable, Reading, ready, refl, replicate, Result, round, row, row_of, Run, Running, sbrk, Send}
+use Rattle.kernel_spec.proofs.Prelude.{Sent, Shown_file, Shown_pipe, Shown_terminal, shrunk, SIZE_LIMIT, sleep, Some, Status, Step_of, Stepped, text_at, texts_at, Tick, touch, true, Typed, View, wait}
+use Rattle.kernel_spec.proofs.Prelude.{word, writable, write, write_image, Writing}
 use Rattle.kernel_spec.proofs.worked.WorkedViews.{pc_of, reg_of, call, minus, in_call, ends_of, a0_after, is_marked, pids_of, free_of, moved_of, at_place, writers_of, image_of, console_of}
-use Rattle.kernel_spec.specs.rows.Touches.{has_absent, touch}
-use Rattle.addr_space.specs.Absent.{pages_at}
-use Rattle.kernel_spec.specs.views.Words.{word}
-use Rattle.kernel_spec.specs.rows.Buffers.{readable, writable, text_at, texts_at, no_slashes, grown, shrunk}
-use Rattle.kernel_spec.specs.views.Processes.{Running, Status}
-use Rattle.kernel_spec.specs.views.View.{View, Descriptors, Descriptor, Shown_terminal, Shown_pipe, Shown_file, named}
-use Rattle.kernel_spec.specs.steps.Own.{Own, Called, Blocked, Exited, Stepped}
-use Rattle.kernel_spec.specs.rows.Calls.{row_of, perform, done, least_zombie, row, close, dup, kill, read, sbrk, sleep, wait, write}
-use Rattle.kernel_spec.specs.steps.Step.{own}
-use Rattle.kernel_spec.specs.waking.Ready.{ready}
-use Rattle.kernel_spec.specs.rows.Tables.{lowest_free}
-use Rattle.kernel_spec.specs.runs.Run.{Run, Tick, Key, Send, Step_of, Typed, Sent, out}
-use Rattle.kernel_spec.proofs.rows.RowParts.{perform_row, forked, cannot_fork, unless, moving, read_from, write_to, piped_from}
-use Rattle.kernel_spec.proofs.rows.RowParts.{reaped, exec_loaded, exec_program, exec_path, perform_parts, fork_parts, running}
-use Rattle.kernel_spec.specs.rows.Lines.{◌>>=◌, ◌>>◌, ◌or◌, ◌when◌}
+use Rattle.kernel_spec.proofs.rows.RowParts.{perform_row, forked, cannot_fork, unless, moving, read_from, write_to, piped_from, reaped, exec_loaded, exec_program, exec_path, perform_parts, fork_parts}
+use Rattle.kernel_spec.proofs.rows.RowParts.{running}
 use Rattle.kernel_spec.proofs.rows.RowsByParts.{by_parts}
-use Rattle.kernel_spec.specs.runs.Rounds.{round}
 
 module _ (image : Image) where
   -- ---- numbers and arguments

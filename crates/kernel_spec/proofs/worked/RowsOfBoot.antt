@@ -1,23 +1,8 @@
 -- Worked cases of boot: the limits by their values, configurations and programs at them, and the first state of a machine.
-use Rattle.std.proofs.Common.{length, ◌≡◌, ℕ, ◌^◌, ◌-◌, ◌+◌, ◌*◌, true, false, Bool, cond, List, [], ◌∷◌, refl, ap, replicate, map}
-use Rattle.std.specs.Prelude.{None, Some, Result, Ok, Err, nat_lt, codes}
-use Rattle.xk_base.specs.declared.limits.TheConstants.{MAXPATH, MAXARG, ARG_BYTES, NOFILE, OPEN_FILES, NPROC}
-use Rattle.xk_base.specs.declared.limits.TheConstants.{PID_MAX, PIPE_BYTES, CONSOLE_BYTES, SEND_BYTES, SIZE_LIMIT, FRAMES_MIN}
-use Rattle.xk_base.specs.declared.limits.TheConstants.{FRAMES_MAX, TRACE_MAX, PROGRAMS_MAX, NAME_MAX, PROGRAM_BYTES}
-use Rattle.xk_base.specs.declared.errors.ExecError.{ExecError}
-use Rattle.xk_base.specs.declared.errors.ExecError.TheVariants.{NoFrames}
-use Rattle.xk_base.specs.declared.errors.BootError.{BootError}
-use Rattle.xk_base.specs.declared.errors.BootError.TheVariants.{BadConfig, BadPrograms, NoInit, Init}
-use Rattle.std.specs.List.{range_with_len}
-use Rattle.xk_base.specs.Image.{price}
-use Rattle.xk_base.specs.Loaded.{Loaded, loaded}
-use Rattle.xk_base.specs.Words.{least_below}
-use Rattle.rv64i_core.specs.Registers.{reg}
-use Rattle.console_core.specs.Lists.{empty_console}
-use Rattle.kernel_spec.specs.views.State.{ProgramFile}
-use Rattle.kernel_spec.specs.views.Programs.{is_bad_name, first_bad, is_bad_program, init_of, program_named}
-use Rattle.kernel_spec.specs.runs.First.{first, within_frames, first_loaded, first_regs, first_state, first_turns}
-use Rattle.kernel_spec.specs.runs.Run.{World}
+use Rattle.kernel_spec.proofs.Prelude.{[], ℕ, ◌*◌, ◌+◌, ◌-◌, ◌^◌, ◌∷◌, ◌≡◌, ap, ARG_BYTES, BadConfig, BadPrograms, Bool, BootError, codes, cond, CONSOLE_BYTES, empty_console, Err, ExecError, false}
+use Rattle.kernel_spec.proofs.Prelude.{first, first_bad, first_loaded, first_regs, first_state, first_turns, FRAMES_MAX, FRAMES_MIN, Init, init_of, is_bad_name, is_bad_program, least_below, length}
+use Rattle.kernel_spec.proofs.Prelude.{List, Loaded, loaded, map, MAXARG, MAXPATH, NAME_MAX, nat_lt, NOFILE, NoFrames, NoInit, None, NPROC, Ok, OPEN_FILES, PID_MAX, PIPE_BYTES, price, PROGRAM_BYTES}
+use Rattle.kernel_spec.proofs.Prelude.{program_named, ProgramFile, PROGRAMS_MAX, range_with_len, refl, reg, replicate, Result, SEND_BYTES, SIZE_LIMIT, Some, TRACE_MAX, true, within_frames, World}
 
 -- ---- the limits
 

@@ -1,26 +1,10 @@
 -- Worked rows of reads and writes: which bytes go, which are left, and what is shared by those who are on the same open file or pipe.
 -- Which of the caller's buffers are there is given.
-use Rattle.std.proofs.Common.{◌≡◌, ℕ, ◌-◌, true, false, Bool, cond, List, [], ◌∷◌, ◌++◌, refl, ap, replicate}
-use Rattle.std.specs.Prelude.{None, Some, pos, nat_eq, nat_lt, codes}
-use Rattle.xk_base.specs.declared.limits.TheConstants.{PIPE_BYTES}
-use Rattle.xk_base.specs.Image.{Image}
-use Rattle.xk_base.specs.Bytes.{image_bytes, write_image}
-use Rattle.xk_base.specs.Words.{least_below, count_below}
-use Rattle.pipe_core.specs.Pipe.{Pipe}
-use Rattle.console_core.specs.Lists.{Console, empty_console}
-use Rattle.console_core.specs.Keys.{line}
-use Rattle.file_table.specs.declared.open_file.End.TheVariants.{Reading, Writing}
-use Rattle.proc_table.specs.declared.process.Call.{Call}
-use Rattle.kernel_spec.specs.rows.Buffers.{readable, writable}
-use Rattle.kernel_spec.specs.views.View.{named, View, Descriptors, Descriptor, Shown_terminal, Shown_pipe, Shown_file}
-use Rattle.kernel_spec.specs.steps.Own.{Own, Called, Blocked}
-use Rattle.kernel_spec.specs.rows.Calls.{row_of, perform, row, close, dup}
-use Rattle.kernel_spec.specs.steps.Step.{own}
-use Rattle.kernel_spec.specs.rows.Touches.{has_absent}
-use Rattle.addr_space.specs.Absent.{pages_at}
+use Rattle.kernel_spec.proofs.Prelude.{[], ℕ, ◌++◌, ◌-◌, ◌>>=◌, ◌>>◌, ◌or◌, ◌when◌, ◌∷◌, ◌≡◌, ap, Blocked, Bool, Call, Called, close, codes, cond, Console, count_below, Descriptor, Descriptors, dup}
+use Rattle.kernel_spec.proofs.Prelude.{empty_console, false, has_absent, Image, image_bytes, least_below, line, List, named, nat_eq, nat_lt, None, Own, own, pages_at, perform, Pipe, PIPE_BYTES, pos}
+use Rattle.kernel_spec.proofs.Prelude.{readable, Reading, refl, replicate, row, row_of, Shown_file, Shown_pipe, Shown_terminal, Some, true, View, writable, write_image, Writing}
 use Rattle.kernel_spec.proofs.worked.WorkedViews.{call, in_call, ends_of, at_place, image_of, console_of, moved_of}
 use Rattle.kernel_spec.proofs.rows.RowParts.{perform_row, moving, read_from, write_to, perform_parts}
-use Rattle.kernel_spec.specs.rows.Lines.{◌>>=◌, ◌>>◌, ◌or◌, ◌when◌}
 use Rattle.kernel_spec.proofs.rows.RowsByParts.{by_parts}
 
 module _ (image : Image) where

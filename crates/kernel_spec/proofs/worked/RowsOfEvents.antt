@@ -1,25 +1,9 @@
 -- Worked cases of the events: a tick, a key, a byte to be sent, on a machine that goes on and on one that is halted; slots and turns; and what a run shows.
 -- Processes, open files, pipes and slots are any.
-use Rattle.std.proofs.Common.{inl, inr, ◌≡◌, ◌≢◌, ℕ, ◌^◌, ◌-◌, ◌<◌, ◌≤◌, true, false, List, [], ◌∷◌, refl, ap, sym, ◌∙◌, subst, arith, map}
-use Rattle.std.specs.Prelude.{IsSome, MatchOption, Contains, Option, None, Some, pos, negsuc, codes}
-use Rattle.std.specs.Ordering.{nat_cmp}
-use Rattle.std.specs.FinMap.{FinMap}
-use Rattle.std.specs.FinSet.{FinSet, contains}
-use Rattle.std.proofs.lemmas.Option.{none-some, same_Some}
-use Rattle.xk_base.specs.declared.access.Cause.TheVariants.{LoadPageFault}
-use Rattle.pipe_core.specs.Pipe.{Pipe}
-use Rattle.console_core.specs.Lists.{Console, empty_console}
-use Rattle.file_table.specs.declared.open_file.OpenFile.{OpenFile}
-use Rattle.proc_table.specs.Turns.{distance}
-use Rattle.kernel_spec.specs.views.Processes.{Process}
-use Rattle.kernel_spec.specs.views.State.{State}
-use Rattle.kernel_spec.specs.waking.Turns.{Turns, Sleeps, HasSlot, IsFreeSlot, IsLowestFree}
-use Rattle.kernel_spec.specs.steps.Own.{Own, Stepped, Called, Blocked, Exited, Faulted}
-use Rattle.kernel_spec.specs.runs.Run.{TurnsAfter, World, Run, Tick, Key, Send, Outcome, Step_of, Turn, Idle, Ticked, Typed, Sent, Halted, Happens, out, halted_by, stays_current}
-use Rattle.kernel_spec.specs.waking.Wakes.{IsRunnable, TakesNearest, WakesWhereDue}
-use Rattle.kernel_spec.specs.waking.Ready.{ready}
-use Rattle.kernel_spec.specs.views.View.{View, view}
-use Rattle.proc_table.specs.declared.process.Call.{Call}
+use Rattle.kernel_spec.proofs.Prelude.{[], ℕ, ◌-◌, ◌<◌, ◌^◌, ◌∙◌, ◌∷◌, ◌≡◌, ◌≢◌, ◌≤◌, ap, arith, Blocked, Call, Called, codes, Console, Contains, contains, distance, empty_console, Exited, false}
+use Rattle.kernel_spec.proofs.Prelude.{Faulted, FinMap, FinSet, Halted, halted_by, Happens, HasSlot, Idle, inl, inr, IsFreeSlot, IsLowestFree, IsRunnable, IsSome, Key, List, LoadPageFault, map}
+use Rattle.kernel_spec.proofs.Prelude.{MatchOption, nat_cmp, negsuc, None, none-some, OpenFile, Option, out, Outcome, Own, Pipe, pos, Process, ready, refl, Run, same_Some, Send, Sent, Sleeps, Some}
+use Rattle.kernel_spec.proofs.Prelude.{State, stays_current, Step_of, Stepped, subst, sym, TakesNearest, Tick, Ticked, true, Turn, Turns, TurnsAfter, Typed, View, view, WakesWhereDue, World}
 use Rattle.kernel_spec.proofs.worked.WorkedViews.{call}
 
 -- ---- a world with these parts

@@ -1,25 +1,11 @@
 -- Worked rows of the calls on descriptors: pipe, dup, open and close where descriptors or frames are used up, and which descriptor may be read and written.
 -- Which of the caller's buffers are there is given.
-use Rattle.std.proofs.Common.{◌≡◌, ℕ, ◌^◌, ◌+◌, ◌-◌, true, false, not, ◌||◌, Bool, cond, List, [], ◌∷◌, refl, ap}
-use Rattle.std.specs.Prelude.{Option, None, Some, pos, negsuc, nat_eq, nat_lt, codes, map}
-use Rattle.xk_base.specs.declared.limits.TheConstants.{MAXPATH, NOFILE}
-use Rattle.xk_base.specs.Image.{Image}
-use Rattle.xk_base.specs.Bytes.{write_image}
-use Rattle.xk_base.specs.Words.{least_below}
-use Rattle.pipe_core.specs.Pipe.{new_pipe}
-use Rattle.file_table.specs.declared.open_file.End.TheVariants.{Reading, Writing}
-use Rattle.proc_table.specs.declared.process.Call.{Call}
-use Rattle.kernel_spec.specs.rows.Buffers.{writable, readable, text_at, no_slashes}
-use Rattle.kernel_spec.specs.views.View.{View, Descriptors, Descriptor, Shown_terminal, Shown_pipe, Shown_file, named}
-use Rattle.kernel_spec.specs.rows.Tables.{lowest_free, lowest_free_above}
-use Rattle.kernel_spec.specs.steps.Own.{Own, Answer, Called}
-use Rattle.kernel_spec.specs.rows.Calls.{row_of, perform, row, close, dup, make_pipe, read, write}
-use Rattle.kernel_spec.specs.steps.Step.{own}
-use Rattle.kernel_spec.specs.rows.Touches.{has_absent}
-use Rattle.addr_space.specs.Absent.{pages_at}
+use Rattle.kernel_spec.proofs.Prelude.{[], ℕ, ◌+◌, ◌-◌, ◌>>=◌, ◌>>◌, ◌^◌, ◌or◌, ◌when◌, ◌||◌, ◌∷◌, ◌≡◌, Answer, ap, Bool, Call, Called, close, codes, cond, Descriptor, Descriptors, dup, false}
+use Rattle.kernel_spec.proofs.Prelude.{has_absent, Image, least_below, List, lowest_free, lowest_free_above, make_pipe, map, MAXPATH, named, nat_eq, nat_lt, negsuc, new_pipe, no_slashes, NOFILE, None}
+use Rattle.kernel_spec.proofs.Prelude.{not, Option, Own, own, pages_at, perform, pos, read, readable, Reading, refl, row, row_of, Shown_file, Shown_pipe, Shown_terminal, Some, text_at, true, View}
+use Rattle.kernel_spec.proofs.Prelude.{writable, write, write_image, Writing}
 use Rattle.kernel_spec.proofs.worked.WorkedViews.{call, minus, in_call, ends_of, free_of, at_place, image_of}
 use Rattle.kernel_spec.proofs.rows.RowParts.{perform_row, unless, moving, write_to, piped_from, open_path, perform_parts}
-use Rattle.kernel_spec.specs.rows.Lines.{◌>>=◌, ◌>>◌, ◌or◌, ◌when◌}
 use Rattle.kernel_spec.proofs.rows.RowsByParts.{by_parts}
 
 -- ---- tables with so many descriptors in use, all on one open file

@@ -1,35 +1,9 @@
 -- Worked cases of what a step leaves of open files and of all that is shared, of other processes' events, of memory by exec, and of runs from boot.
-use Rattle.std.proofs.Common.{◌≡◌, ◌≢◌, ℕ, Bool, true, ◌+◌, ◌*◌, List, [], ◌∷◌, None, Some, Option, inl, inr, refl, ap, sym, ◌∙◌, subst}
-use Rattle.std.specs.Prelude.{Ok, Err, Result, MatchOption, pos, negsuc, slice_index}
-use Rattle.std.specs.FinMap.{get, keys}
-use Rattle.std.proofs.lemmas.Option.{same_Some}
-use Rattle.xk_base.specs.declared.limits.TheConstants.{MAXPATH, MAXARG, ARG_BYTES}
-use Rattle.xk_base.specs.declared.errors.BootError.{BootError}
-use Rattle.xk_base.specs.declared.errors.BootError.TheVariants.{BadConfig}
-use Rattle.xk_base.specs.declared.errors.ExecError.{ExecError}
-use Rattle.xk_base.specs.Image.{Image, Page}
-use Rattle.xk_base.specs.Loaded.{Loaded, loaded}
-use Rattle.rv64i_core.specs.Registers.{Registers}
-use Rattle.pipe_core.specs.Pipe.{Pipe}
-use Rattle.console_core.specs.Lists.{Console}
-use Rattle.file_table.specs.declared.open_file.End.{End}
-use Rattle.proc_table.specs.declared.process.Call.{Call}
-use Rattle.kernel_spec.specs.views.State.{State, ProgramFile}
-use Rattle.kernel_spec.specs.views.View.{View, Descriptors, Descriptor, Shown, Shown_pipe, view}
-use Rattle.kernel_spec.specs.steps.Own.{Own, Left, Called}
-use Rattle.kernel_spec.specs.others.Quiet.{file_at, pipe_at}
-use Rattle.kernel_spec.specs.rows.Calls.{Read, Exec, row_of}
-use Rattle.kernel_spec.specs.steps.Step.{call_in}
-use Rattle.kernel_spec.specs.rows.Stores.{IsStored}
-use Rattle.kernel_spec.specs.rows.Buffers.{text_at, texts_at, no_slashes}
-use Rattle.kernel_spec.specs.views.Programs.{program_named}
-use Rattle.kernel_spec.specs.runs.Run.{World, Event, Run, Tick, Key, Outcome, Ticked, Typed, Happens, FilesAfter, IsLeft}
-use Rattle.kernel_spec.specs.runs.First.{first}
-use Rattle.kernel_spec.specs.runs.Moments.{IsStepOf, Others, Moment, Course, IsFromBoot}
-use Rattle.kernel_spec.specs.views.Shared.{SameRest}
-use Rattle.kernel_spec.specs.rows.Execs.{HasExeced}
-use Rattle.kernel_spec.specs.steps.KeptBytes.{IsOfItsOwn, IsNewPipe}
-use Rattle.kernel_spec.specs.runs.Sources.{Holds, IsPut, WasPut}
+use Rattle.kernel_spec.proofs.Prelude.{[], ℕ, ◌*◌, ◌+◌, ◌∙◌, ◌∷◌, ◌≡◌, ◌≢◌, ap, ARG_BYTES, BadConfig, Bool, BootError, Call, call_in, Called, Console, Course, Descriptor, Descriptors, End, Err, Event}
+use Rattle.kernel_spec.proofs.Prelude.{Exec, ExecError, file_at, FilesAfter, first, get, Happens, HasExeced, Holds, Image, inl, inr, IsFromBoot, IsLeft, IsNewPipe, IsOfItsOwn, IsPut, IsStepOf}
+use Rattle.kernel_spec.proofs.Prelude.{IsStored, Key, keys, Left, List, Loaded, loaded, MatchOption, MAXARG, MAXPATH, Moment, negsuc, no_slashes, None, Ok, Option, Others, Outcome, Own, Page, Pipe}
+use Rattle.kernel_spec.proofs.Prelude.{pipe_at, pos, program_named, ProgramFile, Read, refl, Registers, Result, row_of, Run, same_Some, SameRest, Shown, Shown_pipe, slice_index, Some, State, subst}
+use Rattle.kernel_spec.proofs.Prelude.{sym, text_at, texts_at, Tick, Ticked, true, Typed, View, view, WasPut, World}
 use Rattle.kernel_spec.proofs.worked.RowsOfRuns.{none_behind}
 
 -- ---- open files and pipes after a step of process 1

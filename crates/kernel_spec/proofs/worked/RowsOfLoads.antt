@@ -1,27 +1,11 @@
 -- Worked cases of instructions on absent pages. Page 2 is absent, and what the image costs is given; the word at 40 is what is fetched.
-use Rattle.std.proofs.Common.{◌≡◌, ℕ, true, false, [], ◌∷◌, Some, None, refl, ap, ◌∙◌}
-use Rattle.std.specs.Prelude.{Ok}
-use Rattle.std.specs.FinMap.{get}
-use Rattle.xk_base.specs.Image.{Image, price}
-use Rattle.xk_base.specs.declared.access.Cause.{Cause}
-use Rattle.xk_base.specs.declared.access.Cause.TheVariants.{FetchPageFault, LoadPageFault, LoadMisaligned, StorePageFault}
-use Rattle.phys_ram.specs.Ram.{zero_frame}
-use Rattle.rv64i_core.specs.Memory.{Store, bytes_at, fetched, loaded, storing}
-use Rattle.rv64i_core.specs.Registers.{Registers, fresh, put, with_pc}
-use Rattle.rv64i_core.specs.Step.{Next, Fault, address_used, data_address, instr, load_value, row}
-use Rattle.rv64i_core.specs.Table.{by_opcode, decoded, load_op, load_row, store_op, store_row}
-use Rattle.rv64i_core.specs.declared.instruction.Instr.TheVariants.{Load, Store as StoreInstr}
+use Rattle.kernel_spec.proofs.Prelude.{[], ℕ, ◌∙◌, ◌∷◌, ◌≡◌, address_used, after_instruction, ap, before_instruction, brought, by_opcode, bytes_at, Cause, data_address, decoded, false, Fault, Faulted}
+use Rattle.kernel_spec.proofs.Prelude.{fetched, FetchPageFault, fresh, get, goes_on, gone, Image, instr, instruction_now, instruction_row as row, is_absent, Load, load_op, load_row, load_value}
+use Rattle.kernel_spec.proofs.Prelude.{LoadMisaligned, LoadPageFault, Next, next_instruction, None, nothing_stored, Ok, Own, own, page_used, price, put, refl, Registers, Some, Stepped, Store}
+use Rattle.kernel_spec.proofs.Prelude.{store_op, store_row, stored_by, stored_by_instruction, StoreInstr, StorePageFault, storing, touch, true, user, View, with_pc, with_store, zero_frame}
+use Rattle.rv64i_core.specs.Memory.{loaded}
 use Rattle.rv64i_core.specs.declared.instruction.LoadOp.TheVariants.{Ld, Lw}
 use Rattle.rv64i_core.specs.declared.instruction.StoreOp.TheVariants.{Sb}
-use Rattle.rv64i_core.specs.UserImage.{user, with_store}
-use Rattle.addr_space.specs.Absent.{is_absent, brought}
-use Rattle.kernel_spec.specs.rows.Calls.{gone}
-use Rattle.kernel_spec.specs.steps.Instruction.{next_instruction}
-use Rattle.kernel_spec.specs.steps.Own.{Own, Stepped, Faulted, goes_on}
-use Rattle.kernel_spec.specs.steps.Step.{after_instruction, own}
-use Rattle.kernel_spec.specs.rows.Stores.{nothing_stored, stored_by, stored_by_instruction}
-use Rattle.kernel_spec.specs.rows.Touches.{before_instruction, instruction_now, page_used, touch}
-use Rattle.kernel_spec.specs.views.View.{View}
 use Rattle.kernel_spec.proofs.memory.OnAbsent.{before_same, before_touched, before_untouched, brought-one, page_not_on_absent, same_word, is_on_absent}
 use Rattle.kernel_spec.proofs.rows.Settled.{absent-not-there}
 use Rattle.kernel_spec.proofs.worked.WorkedViews.{call, in_call}

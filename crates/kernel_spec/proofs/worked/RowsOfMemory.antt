@@ -1,20 +1,10 @@
 -- Worked cases of what the kernel reads of a process's memory: buffers, texts and lists of texts. The cells that user code sees are given.
-use Rattle.std.proofs.Common.{◌≡◌, ℕ, suc, ◌+◌, ◌/◌, ◌%◌, true, false, Bool, List, [], ◌∷◌, refl, ap, ◌∙◌}
-use Rattle.std.specs.Prelude.{Option, None, Some, codes, cond, ◌&&◌, ◌||◌, if◌then◌else◌, option_map, map}
-use Rattle.std.specs.List.{range_with_len}
-use Rattle.std.specs.FinMap.{get}
-use Rattle.xk_base.specs.Words.{le}
-use Rattle.xk_base.specs.Bytes.{byte_in, image_byte, image_bytes}
-use Rattle.xk_base.specs.Image.{Image, Page}
-use Rattle.xk_base.specs.declared.access.Access.TheVariants.{Load, Store}
-use Rattle.rv64i_core.specs.Memory.{Cell}
-use Rattle.rv64i_core.specs.UserImage.{user, cell_in}
-use Rattle.addr_space.specs.Absent.{is_absent}
-use Rattle.addr_space.specs.Changes.{perm_of_page}
+use Rattle.kernel_spec.proofs.Prelude.{[], ℕ, ◌%◌, ◌&&◌, ◌+◌, ◌/◌, ◌||◌, ◌∙◌, ◌∷◌, ◌≡◌, allows, ap, Bool, byte_in, Cell, cell_in, codes, cond, false, get, if◌then◌else◌, Image, image_byte}
+use Rattle.kernel_spec.proofs.Prelude.{image_bytes, is_absent, le, List, map, may, no_slashes, None, Option, option_map, Page, perm_of_page, pointer_at, range_with_len, reaches, reaches_touching}
+use Rattle.kernel_spec.proofs.Prelude.{readable, refl, Some, Storing as Store, suc, text_at, text_from, texts_at, true, user, writable, writable_now}
+use Rattle.xk_base.specs.declared.access.Access.TheVariants.{Load}
 use Rattle.kernel_spec.proofs.memory.UserBytes.{may_read, may_write, cell_text, byte-read, byte-write}
 use Rattle.kernel_spec.proofs.rows.Settled.{there-not-absent, absent-not-there}
-use Rattle.user_copy.specs.Reach.{allows, may, reaches}
-use Rattle.kernel_spec.specs.rows.Buffers.{reaches_touching, readable, writable, writable_now, text_at, text_from, texts_at, pointer_at, no_slashes}
 use Rattle.kernel_spec.proofs.memory.TextsByParts.{texts_from, with_text}
 
 -- a byte that may be read and written, one that may be read alone, and one that may be run alone

@@ -1,24 +1,10 @@
 -- Worked rows of the calls on processes: fork, wait, kill, sleep and sbrk at their limits, numbers that are no call, and arguments that are C ints.
 -- What an image costs is given.
-use Rattle.std.proofs.Common.{◌≡◌, ℕ, ◌^◌, ◌-◌, ◌+◌, true, false, ◌||◌, Bool, cond, List, [], ◌∷◌, refl, ap, ◌∙◌, replicate}
-use Rattle.std.specs.Prelude.{None, Some, pos, negsuc, nat_eq, nat_lt, map}
-use Rattle.xk_base.specs.declared.limits.TheConstants.{SIZE_LIMIT}
-use Rattle.xk_base.specs.Image.{Image, price}
-use Rattle.xk_base.specs.Words.{count_below}
-use Rattle.pipe_core.specs.Pipe.{new_pipe}
-use Rattle.proc_table.specs.declared.process.Call.{Call}
-use Rattle.kernel_spec.specs.rows.Buffers.{grown, shrunk}
-use Rattle.kernel_spec.specs.views.Processes.{Live, Alive, Zombie, Running, Status}
-use Rattle.kernel_spec.specs.views.View.{View}
-use Rattle.kernel_spec.specs.steps.Own.{Own, Answer, Called, Blocked, Exited}
-use Rattle.kernel_spec.specs.rows.Calls.{row_of, perform, fork, done, row, kill, sbrk, sleep, wait}
-use Rattle.kernel_spec.specs.steps.Step.{own}
-use Rattle.kernel_spec.specs.rows.Touches.{touch}
-use Rattle.kernel_spec.specs.waking.Ready.{ready}
-use Rattle.kernel_spec.specs.steps.Updates.{marked}
+use Rattle.kernel_spec.proofs.Prelude.{[], ℕ, ◌+◌, ◌-◌, ◌>>=◌, ◌>>◌, ◌^◌, ◌or◌, ◌when◌, ◌||◌, ◌∙◌, ◌∷◌, ◌≡◌, Alive, Answer, ap, Blocked, Bool, Call, Called, cond, count_below, done, Exited, false}
+use Rattle.kernel_spec.proofs.Prelude.{fork, grown, Image, kill, List, Live, map, marked, nat_eq, nat_lt, negsuc, new_pipe, None, Own, own, perform, pos, price, ready, refl, replicate, row, row_of}
+use Rattle.kernel_spec.proofs.Prelude.{Running, sbrk, shrunk, SIZE_LIMIT, sleep, Some, Status, touch, true, View, wait, Zombie}
 use Rattle.kernel_spec.proofs.worked.WorkedViews.{call, minus, in_call, ends_of, a0_after, pids_of, free_of, at_place, writers_of, readers_of, image_of, child_at, pid_of, next_pid_of}
 use Rattle.kernel_spec.proofs.rows.RowParts.{perform_row, forked, cannot_fork, unless, grow_to, perform_parts, fork_parts}
-use Rattle.kernel_spec.specs.rows.Lines.{◌>>=◌, ◌>>◌, ◌or◌, ◌when◌}
 use Rattle.kernel_spec.proofs.rows.RowsByParts.{by_parts}
 
 module _ (image : Image) where

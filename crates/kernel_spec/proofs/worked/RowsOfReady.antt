@@ -1,13 +1,6 @@
 -- Worked cases of what a read, a write and a sleep wait for.
-use Rattle.std.proofs.Common.{◌≡◌, ℕ, ◌-◌, ◌^◌, ◌||◌, true, false, [], ◌∷◌, replicate, refl, ap}
-use Rattle.std.specs.Prelude.{pos, negsuc, nat_lt}
-use Rattle.std.proofs.lemmas.List.{length-replicate}
-use Rattle.xk_base.specs.declared.limits.TheConstants.{PIPE_BYTES, SEND_BYTES}
-use Rattle.pipe_core.specs.Pipe.{new_pipe}
-use Rattle.console_core.specs.Lists.{empty_console}
-use Rattle.kernel_spec.specs.views.PipeEnds.{has_bytes, has_room}
-use Rattle.kernel_spec.specs.rows.Terminal.{has_committed, has_room_to_send}
-use Rattle.kernel_spec.specs.steps.Ticks.{ticks_since, has_passed}
+use Rattle.kernel_spec.proofs.Prelude.{[], ℕ, ◌-◌, ◌^◌, ◌||◌, ◌∷◌, ◌≡◌, ap, empty_console, false, has_bytes, has_committed, has_passed, has_room, has_room_to_send, length-replicate, nat_lt, negsuc}
+use Rattle.kernel_spec.proofs.Prelude.{new_pipe, PIPE_BYTES, pos, refl, replicate, SEND_BYTES, ticks_since, true}
 
 -- ---- a pipe: one byte, none, and none with nobody left to write any
 

@@ -1,16 +1,6 @@
 -- Worked cases of two worlds that can't be told apart, and of what is so of every world that a machine comes to.
-use Rattle.std.proofs.Common.{◌≡◌, ◌≢◌, ℕ, ◌<◌, ◌⊎◌, true, false, None, Some, inl, inr, refl, ap, sym, ◌∙◌, arith}
-use Rattle.std.specs.Prelude.{is_some}
-use Rattle.std.specs.FinMap.{get, keys}
-use Rattle.xk_base.specs.declared.limits.TheConstants.{NOFILE}
-use Rattle.kernel_spec.specs.views.State.{State}
-use Rattle.kernel_spec.specs.views.View.{view}
-use Rattle.kernel_spec.specs.others.Quiet.{file_at, pipe_at, is_same}
-use Rattle.kernel_spec.specs.waking.Turns.{Sleeps}
-use Rattle.kernel_spec.specs.views.WellFormed.{AreShown}
-use Rattle.kernel_spec.specs.runs.Run.{World}
-use Rattle.kernel_spec.specs.waking.Wakes.{HidesNothing}
-use Rattle.kernel_spec.specs.runs.Alike.{meet_on_file, AreAlike, IsOrderly}
+use Rattle.kernel_spec.proofs.Prelude.{ℕ, ◌<◌, ◌∙◌, ◌≡◌, ◌≢◌, ◌⊎◌, ap, AreAlike, AreShown, arith, false, file_at, get, HidesNothing, inl, inr, is_same, is_some, IsOrderly, keys, meet_on_file, NOFILE}
+use Rattle.kernel_spec.proofs.Prelude.{None, pipe_at, refl, Sleeps, Some, State, sym, true, view, World}
 
 -- ---- two worlds that can't be told apart
 

@@ -1,13 +1,7 @@
 -- Worked cases of the rounds that a driver plays: whole plans, so many rounds, and plans that are cut off before a round and behind an event.
-use Rattle.std.proofs.Common.{◌≡◌, ℕ, true, false, ◌||◌, Bool, List, [], ◌∷◌, ◌++◌, refl, ap, sym, ◌∙◌, subst, arith, length, replicate, map, take, inl, inr}
-use Rattle.std.specs.Prelude.{None, is_some, drop}
-use Rattle.std.proofs.Math.Seq.{take-append_seam, drop-append_seam}
-use Rattle.std.proofs.lemmas.List.{append-nil, append_assoc, map-append, length-map}
-use Rattle.std.proofs.lemmas.List.Folds.{list_any-append}
-use Rattle.xk_base.specs.declared.access.Cause.TheVariants.{LoadPageFault}
-use Rattle.kernel_spec.specs.steps.Own.{Faulted}
-use Rattle.kernel_spec.specs.runs.Run.{Event, Run, Tick, Key, Send, Outcome, Step_of, Idle, Ticked, Typed, Sent, Halted, halted_by}
-use Rattle.kernel_spec.specs.runs.Rounds.{round, events, halts, Planned, AreRounds, StopsBeforeRound, EndsInRound}
+use Rattle.kernel_spec.proofs.Prelude.{[], ℕ, ◌++◌, ◌||◌, ◌∙◌, ◌∷◌, ◌≡◌, ap, append-nil, append_assoc, AreRounds, arith, Bool, drop, drop-append_seam, EndsInRound, Event, events, false, Faulted}
+use Rattle.kernel_spec.proofs.Prelude.{Halted, halted_by, halts, Idle, inl, inr, is_some, Key, length, length-map, List, list_any-append, LoadPageFault, map, map-append, None, Outcome, Planned, refl}
+use Rattle.kernel_spec.proofs.Prelude.{replicate, round, Run, Send, Sent, Step_of, StopsBeforeRound, subst, sym, take, take-append_seam, Tick, Ticked, true, Typed}
 use Rattle.kernel_spec.proofs.runs.Plans.{plan_goes_by_rounds, cut_ends_in_round}
 
 -- ---- whole plans

@@ -1,22 +1,9 @@
 -- Worked cases of how a run is cut at a process's steps, and of what a step's answer tells.
-use Rattle.std.proofs.Common.{◌≡◌, zero, suc, ◌^◌, ◌+◌, ◌-◌, ◌<◌, List, [], ◌∷◌, None, Some, inl, inr, refl, arith, ℕ, true, false, Option, ap, sym, ◌∙◌}
-use Rattle.std.specs.Prelude.{pos, negsuc, Contains, is_some}
-use Rattle.std.proofs.lemmas.Option.{same_Some}
-use Rattle.xk_base.specs.declared.limits.TheConstants.{PIPE_BYTES}
-use Rattle.xk_base.specs.Image.{Image}
-use Rattle.rv64i_core.specs.Registers.{fresh, put}
-use Rattle.file_table.specs.declared.open_file.End.TheVariants.{Writing}
-use Rattle.proc_table.specs.declared.process.Call.{Call}
-use Rattle.kernel_spec.specs.views.Words.{c_int}
-use Rattle.kernel_spec.specs.views.View.{View, Descriptor, Shown, Shown_terminal, Shown_file, Shown_pipe, view}
-use Rattle.kernel_spec.specs.steps.Own.{Stepped, Called, Blocked, Exited, goes_on}
-use Rattle.kernel_spec.specs.steps.Step.{own}
-use Rattle.kernel_spec.specs.rows.Calls.{perform, row_of, row, kill}
-use Rattle.kernel_spec.specs.runs.Run.{World, Event, Run, Tick, Key, Outcome, Step_of, Turn, Ticked, Typed, Happens}
-use Rattle.kernel_spec.specs.runs.Moments.{IsStepOf, Moment, IsCut, steps_of}
-use Rattle.kernel_spec.specs.steps.Waiting.{IsBrokenWrite, regs_in_call, waiting_calls}
+use Rattle.kernel_spec.proofs.Prelude.{[], ℕ, ◌+◌, ◌-◌, ◌<◌, ◌>>=◌, ◌>>◌, ◌^◌, ◌or◌, ◌when◌, ◌∙◌, ◌∷◌, ◌≡◌, ap, arith, Blocked, c_int, Call, Called, Contains, Descriptor, Event, Exited, false, fresh}
+use Rattle.kernel_spec.proofs.Prelude.{goes_on, Happens, Image, inl, inr, is_some, IsBrokenWrite, IsCut, IsStepOf, Key, kill, List, Moment, negsuc, None, Option, Outcome, own, perform, PIPE_BYTES}
+use Rattle.kernel_spec.proofs.Prelude.{pos, put, refl, regs_in_call, row, row_of, Run, same_Some, Shown, Shown_file, Shown_pipe, Shown_terminal, Some, Step_of, Stepped, steps_of, suc, sym, Tick}
+use Rattle.kernel_spec.proofs.Prelude.{Ticked, true, Turn, Typed, View, view, waiting_calls, World, Writing, zero}
 use Rattle.kernel_spec.proofs.worked.WorkedViews.{call, in_call, ends_of}
-use Rattle.kernel_spec.specs.rows.Lines.{◌>>=◌, ◌>>◌, ◌when◌, ◌or◌}
 
 -- ---- which outcomes are those of process 2
 

@@ -1,16 +1,6 @@
 -- Worked cases of where a byte is from.
-use Rattle.std.proofs.Common.{◌≡◌, ℕ, ◌*◌, ◌+◌, ◌<◌, length, [], Option, None, Some, inl, inr, refl, ap, sym, ◌∙◌, subst, arith}
-use Rattle.std.specs.Prelude.{pos, slice_index}
-use Rattle.std.specs.FinMap.{get}
-use Rattle.std.proofs.lemmas.Option.{same_Some}
-use Rattle.xk_base.specs.Image.{Page}
-use Rattle.kernel_spec.specs.views.View.{View, view}
-use Rattle.kernel_spec.specs.steps.Own.{Called, Stepped}
-use Rattle.kernel_spec.specs.steps.Step.{own, call_in}
-use Rattle.rv64i_core.specs.Memory.{Store}
-use Rattle.kernel_spec.specs.rows.Stores.{nothing_stored, stored_by}
-use Rattle.kernel_spec.specs.runs.Run.{World, Run, Tick}
-use Rattle.kernel_spec.specs.runs.Sources.{Holds, IsPut, Passes, Stands}
+use Rattle.kernel_spec.proofs.Prelude.{[], ℕ, ◌*◌, ◌+◌, ◌<◌, ◌∙◌, ◌≡◌, ap, arith, call_in, Called, get, Holds, inl, inr, IsPut, length, None, nothing_stored, Option, own, Page, Passes, pos, refl, Run}
+use Rattle.kernel_spec.proofs.Prelude.{same_Some, slice_index, Some, Stands, Stepped, Store, stored_by, subst, sym, Tick, View, view, World}
 
 -- ---- memory passes to nobody but a child that a step makes
 

@@ -1,27 +1,10 @@
 -- Worked cases of what a step begins with, of whether a process that waits could go on, and of what others see of a step.
-use Rattle.std.proofs.Common.{◌≡◌, ℕ, ◌^◌, ◌-◌, ◌+◌, true, false, Bool, cond, List, [], ◌∷◌, refl, replicate, map}
-use Rattle.std.specs.Prelude.{Option, None, Some, pos, negsuc, nat_eq, codes}
-use Rattle.xk_base.specs.declared.access.Cause.TheVariants.{LoadPageFault}
-use Rattle.xk_base.specs.declared.limits.TheConstants.{PIPE_BYTES}
-use Rattle.xk_base.specs.Image.{Image}
-use Rattle.xk_base.specs.Words.{count_below}
-use Rattle.rv64i_core.specs.Registers.{fresh, put}
-use Rattle.rv64i_core.specs.Step.{Next, Ecall, Fault}
-use Rattle.pipe_core.specs.Pipe.{new_pipe}
-use Rattle.console_core.specs.Lists.{Console, empty_console}
-use Rattle.file_table.specs.declared.open_file.End.TheVariants.{Reading, Writing}
-use Rattle.proc_table.specs.declared.process.Call.{Call}
-use Rattle.kernel_spec.specs.views.Processes.{Child, Running, Status}
-use Rattle.kernel_spec.specs.views.State.{State}
-use Rattle.kernel_spec.specs.views.View.{View, Descriptors, Descriptor, Shown_terminal, Shown_pipe, Shown_file}
-use Rattle.kernel_spec.specs.steps.Own.{Stepped, Called, Blocked, Exited, Faulted, gone_with}
-use Rattle.kernel_spec.specs.rows.Calls.{row_of, perform, row, close, kill, sleep}
-use Rattle.kernel_spec.specs.steps.Step.{own, call_begun, after_instruction}
-use Rattle.kernel_spec.specs.waking.Ready.{ready}
-use Rattle.kernel_spec.specs.others.Quiet.{seen, seen_table, meets_on_file, meets_on_pipe}
+use Rattle.kernel_spec.proofs.Prelude.{[], ℕ, ◌+◌, ◌-◌, ◌>>=◌, ◌>>◌, ◌^◌, ◌or◌, ◌when◌, ◌∷◌, ◌≡◌, after_instruction, Blocked, Bool, Call, call_begun, Called, Child, close, codes, cond, Console}
+use Rattle.kernel_spec.proofs.Prelude.{count_below, Descriptor, Descriptors, Ecall, empty_console, Exited, false, Fault, Faulted, fresh, gone_with, Image, kill, List, LoadPageFault, map}
+use Rattle.kernel_spec.proofs.Prelude.{meets_on_file, meets_on_pipe, nat_eq, negsuc, new_pipe, Next, None, Option, own, perform, PIPE_BYTES, pos, put, Reading, ready, refl, replicate, row, row_of}
+use Rattle.kernel_spec.proofs.Prelude.{Running, seen, seen_table, Shown_file, Shown_pipe, Shown_terminal, sleep, Some, State, Status, Stepped, true, View, Writing}
 use Rattle.kernel_spec.proofs.steps.SeenByParts.{left_at, offset_left, pipe_left}
 use Rattle.kernel_spec.proofs.worked.WorkedViews.{call, minus, in_call, ends_of, a0_after, pc_of, call_of}
-use Rattle.kernel_spec.specs.rows.Lines.{◌>>=◌, ◌>>◌, ◌or◌, ◌when◌}
 
 module _ (image : Image) where
   -- ---- an ECALL begins the call in a7 with a0 to a2, and moves the pc by 4

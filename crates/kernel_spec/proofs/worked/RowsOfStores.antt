@@ -1,22 +1,8 @@
 -- Worked cases of which bytes a step stores.
-use Rattle.std.proofs.Common.{◌≡◌, ◌≤◌, ◌<◌, ◌+◌, ◌-◌, ℕ, subst, ap, ◌∙◌, sym, length, arith, cond, true, List, [], ◌∷◌, None, Some, refl}
-use Rattle.std.specs.Prelude.{pos, negsuc, slice_index, nat_eq}
-use Rattle.xk_base.specs.Words.{least_below}
-use Rattle.xk_base.specs.Image.{Image, Page}
-use Rattle.rv64i_core.specs.Memory.{Store}
-use Rattle.rv64i_core.specs.Registers.{fresh}
-use Rattle.rv64i_core.specs.Step.{Next, Ecall, Fault}
-use Rattle.xk_base.specs.declared.access.Cause.TheVariants.{StorePageFault}
-use Rattle.file_table.specs.declared.open_file.End.TheVariants.{Reading}
-use Rattle.pipe_core.specs.Pipe.{new_pipe}
-use Rattle.kernel_spec.specs.views.Processes.{Status}
-use Rattle.kernel_spec.specs.views.View.{View, Shown, Shown_terminal, Shown_file, Shown_pipe}
-use Rattle.kernel_spec.specs.steps.Own.{Stepped, Called, Blocked, Faulted}
-use Rattle.kernel_spec.specs.rows.Calls.{Wait, Pipe_row, Read, Write, Sbrk, perform, row, row_of}
-use Rattle.kernel_spec.specs.rows.Stores.{nothing_stored, stored_by, stored_by_row, stored_by_instruction, IsStored, IsStoredAs}
-use Rattle.kernel_spec.specs.steps.KeptBytes.{NewBytesAreZeros, IsNewPage}
-use Rattle.kernel_spec.specs.steps.Step.{own}
-use Rattle.kernel_spec.specs.rows.Lines.{◌>>=◌, ◌or◌}
+use Rattle.kernel_spec.proofs.Prelude.{[], ℕ, ◌+◌, ◌-◌, ◌<◌, ◌>>=◌, ◌or◌, ◌∙◌, ◌∷◌, ◌≡◌, ◌≤◌, ap, arith, Blocked, Called, cond, Ecall, Fault, Faulted, fresh, Image, IsNewPage, IsStored, IsStoredAs}
+use Rattle.kernel_spec.proofs.Prelude.{least_below, length, List, nat_eq, negsuc, new_pipe, NewBytesAreZeros, Next, None, nothing_stored, own, Page, perform, Pipe_row, pos, Read, Reading, refl, row}
+use Rattle.kernel_spec.proofs.Prelude.{row_of, Sbrk, Shown, Shown_file, Shown_pipe, Shown_terminal, slice_index, Some, Status, Stepped, Store, stored_by, stored_by_instruction, stored_by_row}
+use Rattle.kernel_spec.proofs.Prelude.{StorePageFault, subst, sym, true, View, Wait, Write}
 use Rattle.kernel_spec.proofs.worked.WorkedViews.{call, in_call}
 
 abbrev stored : ℕ → List ℕ → Store

@@ -1,26 +1,9 @@
 -- Worked cases of absent pages: in which pages a buffer lies, what comes of an image, and of a view, once they are touched, and the calls that touch them.
 -- What an image costs, and which of a buffer's bytes may be written, is given.
-use Rattle.std.proofs.Common.{◌≡◌, ℕ, true, false, cond, ◌-◌, ◌+◌, ◌^◌, List, [], ◌∷◌, Some, None, refl, ◌∙◌}
-use Rattle.std.specs.Prelude.{pos, negsuc, nat_eq, codes, map}
-use Rattle.file_table.specs.declared.open_file.End.TheVariants.{Reading, Writing}
-use Rattle.proc_table.specs.declared.process.Call.{Call}
-use Rattle.std.specs.Ordering.{nat_cmp}
-use Rattle.std.specs.FinMap.{empty, get, get-empty}
-use Rattle.xk_base.specs.Image.{Page, Image, price, with_page}
-use Rattle.xk_base.specs.Bytes.{write_image}
-use Rattle.xk_base.specs.Words.{least_below}
-use Rattle.phys_ram.specs.Ram.{zero_frame}
-use Rattle.addr_space.specs.Absent.{is_absent, pages_at, bring, brought}
-use Rattle.kernel_spec.specs.rows.Buffers.{no_slashes, readable, writable}
-use Rattle.kernel_spec.specs.rows.Touches.{has_absent, touch}
-use Rattle.pipe_core.specs.Pipe.{new_pipe}
-use Rattle.console_core.specs.Lists.{empty_console}
-use Rattle.kernel_spec.specs.views.Processes.{Child, Running, Status}
-use Rattle.kernel_spec.specs.views.View.{View, Shown_terminal, Shown_file, Shown_pipe}
-use Rattle.kernel_spec.specs.steps.Own.{Called, Blocked}
-use Rattle.kernel_spec.specs.rows.Calls.{perform, row, row_of, make_pipe, open_file, read, sbrklazy, wait, write}
-use Rattle.kernel_spec.specs.steps.Step.{own}
-use Rattle.kernel_spec.specs.rows.Lines.{◌>>=◌, ◌>>◌, ◌when◌, ◌or◌}
+use Rattle.kernel_spec.proofs.Prelude.{[], ℕ, ◌+◌, ◌-◌, ◌>>=◌, ◌>>◌, ◌^◌, ◌or◌, ◌when◌, ◌∙◌, ◌∷◌, ◌≡◌, Blocked, bring, brought, Call, Called, Child, codes, cond, empty, empty_console, false, get}
+use Rattle.kernel_spec.proofs.Prelude.{get-empty, has_absent, Image, is_absent, least_below, List, make_pipe, map, nat_cmp, nat_eq, negsuc, new_pipe, no_slashes, None, open_file, own, Page, pages_at}
+use Rattle.kernel_spec.proofs.Prelude.{perform, pos, price, read, readable, Reading, refl, row, row_of, Running, sbrklazy, Shown_file, Shown_pipe, Shown_terminal, Some, Status, touch, true, View}
+use Rattle.kernel_spec.proofs.Prelude.{wait, with_page, writable, write, write_image, Writing, zero_frame}
 use Rattle.kernel_spec.proofs.steps.MapsAfterChange.{get_same, get_other}
 use Rattle.kernel_spec.proofs.rows.Settled.{absent-not-there}
 use Rattle.kernel_spec.proofs.worked.RowsOfMemory.{text_absent}

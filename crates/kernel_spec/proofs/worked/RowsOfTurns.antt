@@ -1,13 +1,6 @@
 -- Worked cases of who has no turn in a run, of how many turns are given, and of who is ready.
-use Rattle.std.proofs.Common.{◌≡◌, ℕ, true, false, [], ◌∷◌, map, Some, refl, sym, ◌∙◌}
-use Rattle.std.specs.Prelude.{pos}
-use Rattle.std.proofs.lemmas.Option.{same_Some}
-use Rattle.kernel_spec.specs.views.View.{View, view}
-use Rattle.kernel_spec.specs.steps.Own.{Stepped, Blocked}
-use Rattle.kernel_spec.specs.waking.Ready.{ready}
-use Rattle.kernel_spec.specs.waking.Turns.{Sleeps}
-use Rattle.kernel_spec.specs.runs.Run.{World, Run, Tick, Turn, Idle, Step_of, Ticked}
-use Rattle.kernel_spec.specs.waking.Wakes.{IsReady, IsRunnable, NoReadySleeper, HasNoTurn, is_turn, turns_taken}
+use Rattle.kernel_spec.proofs.Prelude.{[], ℕ, ◌∙◌, ◌∷◌, ◌≡◌, Blocked, false, HasNoTurn, Idle, is_turn, IsReady, IsRunnable, map, NoReadySleeper, pos, ready, refl, Run, same_Some, Sleeps, Some}
+use Rattle.kernel_spec.proofs.Prelude.{Step_of, Stepped, sym, Tick, Ticked, true, Turn, turns_taken, View, view, World}
 
 -- ---- who has no turn: nobody has one if nothing happens, and a turn of another, a step or a tick is none
 

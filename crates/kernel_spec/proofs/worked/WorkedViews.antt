@@ -1,15 +1,6 @@
 -- What the worked cases share: a process in a call, what it may have its descriptors on, and what is asked of its next view.
-use Rattle.std.proofs.Common.{ℕ, ◌^◌, ◌-◌, true, false, Bool, cond, List, [], ◌∷◌}
-use Rattle.std.specs.Prelude.{Option, None, Some, pos, option_map, nat_eq}
-use Rattle.xk_base.specs.Image.{Image, no_pages}
-use Rattle.rv64i_core.specs.Registers.{reg, fresh}
-use Rattle.pipe_core.specs.Pipe.{Pipe}
-use Rattle.console_core.specs.Lists.{Console, empty_console}
-use Rattle.file_table.specs.declared.open_file.End.TheVariants.{Reading, Writing}
-use Rattle.proc_table.specs.declared.process.Call.{Call}
-use Rattle.kernel_spec.specs.views.Words.{A0}
-use Rattle.kernel_spec.specs.views.Processes.{Child}
-use Rattle.kernel_spec.specs.views.View.{View, Descriptors, Descriptor, Shown_terminal, Shown_pipe, Shown_file}
+use Rattle.kernel_spec.proofs.Prelude.{[], ℕ, ◌-◌, ◌^◌, ◌∷◌, A0, Bool, Call, Child, cond, Console, Descriptor, Descriptors, empty_console, false, fresh, Image, List, nat_eq, no_pages, None, Option}
+use Rattle.kernel_spec.proofs.Prelude.{option_map, Pipe, pos, Reading, reg, Shown_file, Shown_pipe, Shown_terminal, Some, true, View, Writing}
 
 -- ---- calls and views
 

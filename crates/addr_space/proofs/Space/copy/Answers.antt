@@ -1,8 +1,4 @@
-use Rattle.std.proofs.Common.{None, cond, refl, ap, ◌∙◌, arith}
-use Rattle.std.specs.FinMap.{get}
-use Rattle.std.proofs.lemmas.Bool.{le-ltb}
-use Rattle.sv39_core.specs.Tree.{page_at}
-use Rattle.xk_base.proofs.Gathered.{gathered-get}
+use Rattle.addr_space.proofs.Prelude.{◌∙◌, ap, arith, cond, gathered-get, get, le-ltb, None, page_at, refl}
 use Rattle.addr_space.proofs.Trades.{belongs-made}
 use Rattle.addr_space.proofs.Prices.{length-kinds}
 use Rattle.addr_space.proofs.Copies.{copied-none, copied-step, copied-all, room-for}

@@ -1,10 +1,4 @@
-use Rattle.std.proofs.Common.{sym, ap, ◌∙◌, arith}
-use Rattle.sv39_core.specs.Sv39.{page_entry}
-use Rattle.sv39_core.specs.Tree.{frame_of, page_of}
-use Rattle.addr_space.specs.Changes.{zeroed}
-use Rattle.xk_base.specs.Image.{with_page}
-use Rattle.addr_space.specs.Space.{image_of}
-use Rattle.sv39_core.proofs.Places.{root-inside, page-owned}
+use Rattle.addr_space.proofs.Prelude.{◌∙◌, ap, arith, frame_of, image_of, page-owned, page_entry, page_of, root-inside, sym, with_page, zeroed}
 use Rattle.addr_space.proofs.Copies.{came-page, no-leaf, page-copied}
 use Rattle.addr_space.proofs.Space.copy_page.Goals as goal
 

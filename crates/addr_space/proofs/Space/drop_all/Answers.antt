@@ -1,8 +1,4 @@
-use Rattle.std.proofs.Common.{◌≡◌, ℕ, ◌<◌, [], None, refl, ap, ◌∙◌, arith}
-use Rattle.sv39_core.specs.Sv39.{page_entry}
-use Rattle.sv39_core.specs.Tree.{frame_of, owned}
-use Rattle.sv39_core.proofs.Places.{root-inside, table-owned}
-use Rattle.frame_list.proofs.Trades.{trade-join}
+use Rattle.addr_space.proofs.Prelude.{[], ℕ, ◌<◌, ◌∙◌, ◌≡◌, ap, arith, frame_of, None, owned, page_entry, refl, root-inside, table-owned, trade-join}
 use Rattle.addr_space.proofs.Trades.{belongs-after}
 use Rattle.addr_space.proofs.Freeing.{only-root, root-given}
 use Rattle.addr_space.proofs.Isolation.{spared}

@@ -1,7 +1,4 @@
-use Rattle.std.proofs.Common.{◌≡◌, ◌+◌, ◌-◌, ◌<◌, sym, ap, ◌∙◌, subst, arith, rules}
-use Rattle.std.specs.FinMap.{get}
-use Rattle.sv39_core.specs.Tree.{pages_of}
-use Rattle.addr_space.specs.Changes.{zeroed, with_absent}
+use Rattle.addr_space.proofs.Prelude.{◌+◌, ◌-◌, ◌<◌, ◌∙◌, ◌≡◌, ap, arith, get, pages_of, rules, subst, sym, with_absent, zeroed}
 use Rattle.addr_space.proofs.Grown.{perm-none, perm-some, no-refusal, SoFar, so_far-none, so_far-new, so_far-same}
 use Rattle.addr_space.proofs.Isolation.{spared}
 use Rattle.addr_space.proofs.Space.fill.Goals.{in-None+in-Ok, in_default}

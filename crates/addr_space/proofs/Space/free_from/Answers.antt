@@ -1,4 +1,4 @@
-use Rattle.std.proofs.Common.{◌∙◌, rules}
+use Rattle.addr_space.proofs.Prelude.{◌∙◌, rules}
 use Rattle.addr_space.proofs.Freeing.{changed-join}
 use Rattle.addr_space.proofs.Trades.{belongs-after}
 use Rattle.addr_space.proofs.Space.free_from.Goals as goal

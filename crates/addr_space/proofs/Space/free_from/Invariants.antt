@@ -1,7 +1,4 @@
-use Rattle.std.proofs.Common.{◌≡◌, ℕ, ◌-◌, ◌<◌, ◌≤◌, None}
-use Rattle.sv39_core.specs.Sv39.{page_entry}
-use Rattle.sv39_core.specs.Tree.{page_at, frame_of}
-use Rattle.addr_space.specs.Space.{Belongs, Changed}
+use Rattle.addr_space.proofs.Prelude.{ℕ, ◌-◌, ◌<◌, ◌≡◌, ◌≤◌, Belongs, Changed, frame_of, None, page_at, page_entry}
 use Rattle.addr_space.proofs.Space.free_from.Given as goal
 
 abbrev pub invariant-pages : goal.invariant-pages

@@ -1,6 +1,4 @@
-use Rattle.std.proofs.Common.{◌≡◌, Some, None, sym, ap, ◌∙◌, subst, arith}
-use Rattle.addr_space.specs.Space.{Usual}
-use Rattle.sv39_core.specs.Tree.{frame_of}
+use Rattle.addr_space.proofs.Prelude.{◌∙◌, ◌≡◌, ap, arith, frame_of, None, Some, subst, sym, Usual}
 use Rattle.addr_space.proofs.Paths.{leaves-after, beside-join}
 use Rattle.addr_space.proofs.Prices.{page-none-counted}
 use Rattle.addr_space.proofs.Freeing.{freed-join, no-lowers, tables-freed, page-went, lower-went, upper-went}

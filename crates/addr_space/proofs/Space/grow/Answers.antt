@@ -1,7 +1,5 @@
-use Rattle.std.proofs.Common.{◌-◌, arith}
+use Rattle.addr_space.proofs.Prelude.{◌-◌, arith, pages_of, with_absent, zeroed}
 use Rattle.std.proofs.lemmas.Result.{err_from_is_err_and}
-use Rattle.sv39_core.specs.Tree.{pages_of}
-use Rattle.addr_space.specs.Changes.{zeroed, with_absent}
 use Rattle.addr_space.proofs.PriceTo.{cost-size}
 use Rattle.addr_space.proofs.Trades.{belongs-resized}
 use Rattle.addr_space.proofs.Space.grow.Goals as goal

@@ -1,7 +1,4 @@
-use Rattle.std.proofs.Common.{◌≡◌, ◌+◌, ◌*◌, ◌/◌, Some, None, sym, ap, ◌∙◌, arith}
-use Rattle.sv39_core.specs.Sv39.{table_at}
-use Rattle.sv39_core.specs.Tree.{frame_of}
-use Rattle.sv39_core.proofs.Places.{root-inside, table-owned}
+use Rattle.addr_space.proofs.Prelude.{◌*◌, ◌+◌, ◌/◌, ◌∙◌, ◌≡◌, ap, arith, frame_of, None, root-inside, Some, sym, table-owned, table_at}
 use Rattle.addr_space.proofs.Clearing.{entry-page}
 use Rattle.addr_space.proofs.Prices.{page-none-counted, some-of-is}
 use Rattle.addr_space.proofs.Space.lower_in_use.Goals as goal

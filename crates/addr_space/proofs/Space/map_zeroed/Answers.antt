@@ -1,9 +1,4 @@
-use Rattle.std.proofs.Common.{◌≡◌, ℕ, ◌+◌, ◌-◌, ◌/◌, ◌≤◌, List, Option, Some, None, refl, ap, ◌∙◌, subst, arith}
-use Rattle.sv39_core.specs.Sv39.{table_at}
-use Rattle.addr_space.specs.Steps.{PageAdded, missing, rise}
-use Rattle.sv39_core.specs.Tree.{page_at}
-use Rattle.addr_space.specs.Changes.{zeroed}
-use Rattle.sv39_core.proofs.Places.{root-inside}
+use Rattle.addr_space.proofs.Prelude.{ℕ, ◌+◌, ◌-◌, ◌/◌, ◌∙◌, ◌≡◌, ◌≤◌, ap, arith, List, missing, None, Option, page_at, PageAdded, refl, rise, root-inside, Some, subst, table_at, zeroed}
 use Rattle.addr_space.proofs.Mapping.{absent-at, costs, mapped, image-more, small-counts, needs-some}
 use Rattle.addr_space.proofs.Isolation.{spared}
 use Rattle.addr_space.proofs.Translations.{page-more-stays}

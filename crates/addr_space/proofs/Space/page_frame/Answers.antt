@@ -1,8 +1,4 @@
-use Rattle.std.proofs.Common.{refl, sym, ap, ◌∙◌, arith}
-use Rattle.phys_ram.specs.Ram.{frame_at}
-use Rattle.sv39_core.specs.Tree.{frame_of, page_of, page_at}
-use Rattle.sv39_core.specs.Sv39.{page_entry}
-use Rattle.sv39_core.proofs.Places.{root-inside, page-owned}
+use Rattle.addr_space.proofs.Prelude.{◌∙◌, ap, arith, frame_at, frame_of, page-owned, page_at, page_entry, page_of, refl, root-inside, sym}
 use Rattle.addr_space.proofs.Pages.{page-is}
 use Rattle.addr_space.proofs.Prices.{page-got}
 use Rattle.addr_space.proofs.FromFrames.{no-page, no-frame}

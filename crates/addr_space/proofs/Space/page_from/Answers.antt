@@ -1,5 +1,4 @@
-use Rattle.std.proofs.Common.{arith}
-use Rattle.sv39_core.proofs.Places.{root-inside}
+use Rattle.addr_space.proofs.Prelude.{arith, root-inside}
 use Rattle.addr_space.proofs.Space.page_from.Goals as goal
 
 pub returns-then-self-from-clause-none : goal.returns-then-self-from-clause-none

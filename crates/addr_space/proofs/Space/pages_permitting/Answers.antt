@@ -1,10 +1,4 @@
-use Rattle.std.proofs.Common.{◌≡◌, ◌+◌, ◌/◌, ◌%◌, Some, None, inl, inr, sym, ap, ◌∙◌, arith}
-use Rattle.std.proofs.lemmas.Bool.{cases_lt}
-use Rattle.sv39_core.specs.Sv39.{table_at, entry_at, entry_permits}
-use Rattle.sv39_core.proofs.Places.{root-inside, table-owned}
-use Rattle.std.specs.FinMap.{get}
-use Rattle.addr_space.specs.Space.{image_of}
-use Rattle.addr_space.specs.Permits.{page_permits}
+use Rattle.addr_space.proofs.Prelude.{◌%◌, ◌+◌, ◌/◌, ◌∙◌, ◌≡◌, ap, arith, cases_lt, entry_at, entry_permits, get, image_of, inl, inr, None, page_permits, root-inside, Some, sym, table-owned, table_at}
 use Rattle.addr_space.proofs.Permits.{page-permitted, page-refused}
 use Rattle.addr_space.proofs.Space.pages_permitting.Goals as goal
 

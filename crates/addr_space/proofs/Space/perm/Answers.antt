@@ -1,7 +1,4 @@
-use Rattle.std.proofs.Common.{sym, ap, ◌∙◌, arith}
-use Rattle.std.specs.Prelude.{option_map}
-use Rattle.sv39_core.specs.Tree.{page_at}
-use Rattle.addr_space.specs.Changes.{perm_of_page}
+use Rattle.addr_space.proofs.Prelude.{◌∙◌, ap, arith, option_map, page_at, perm_of_page, sym}
 use Rattle.addr_space.proofs.Prices.{page-got}
 use Rattle.addr_space.proofs.PriceTo.{got-none}
 use Rattle.addr_space.proofs.Space.perm.Goals as goal

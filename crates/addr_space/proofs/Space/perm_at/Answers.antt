@@ -1,4 +1,4 @@
-use Rattle.sv39_core.proofs.Places.{root-inside}
+use Rattle.addr_space.proofs.Prelude.{root-inside}
 use Rattle.addr_space.proofs.Space.perm_at.Goals as goal
 
 pub entry_of_page-requires-clause-root_in : goal.entry_of_page-requires-clause-root_in

@@ -1,5 +1,4 @@
-use Rattle.std.proofs.Common.{rules, Some, sym, ap, ◌∙◌}
-use Rattle.addr_space.specs.Space.{image_of}
+use Rattle.addr_space.proofs.Prelude.{◌∙◌, ap, image_of, rules, Some, sym}
 use Rattle.addr_space.proofs.Touching.{absent-allows, away-absent, other-allows, present-allows}
 use Rattle.addr_space.proofs.Space.perm_touched.Goals as goal
 

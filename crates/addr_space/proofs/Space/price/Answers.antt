@@ -1,4 +1,4 @@
-use Rattle.std.proofs.Common.{sym, ◌∙◌, arith}
+use Rattle.addr_space.proofs.Prelude.{◌∙◌, arith, sym}
 use Rattle.addr_space.proofs.Trades.{space-price, space-counts, counts-few}
 use Rattle.addr_space.proofs.PlainPrice.{tree-plain}
 use Rattle.addr_space.proofs.Space.price.Goals as goal

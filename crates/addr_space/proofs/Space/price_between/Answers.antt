@@ -1,13 +1,8 @@
-use Rattle.std.proofs.Common.{◌≡◌, ℕ, ◌+◌, ◌-◌, ◌/◌, ◌<◌, List, Some, None, inl, inr, refl, sym, ap, ◌∙◌, arith}
-use Rattle.std.proofs.lemmas.Bool.{cases_eq}
-use Rattle.sv39_core.specs.Sv39.{table_at}
-use Rattle.sv39_core.specs.Tree.{pages_of}
-use Rattle.addr_space.specs.Changes.{zeroed, with_absent}
-use Rattle.sv39_core.proofs.Places.{root-inside, no-lower}
+use Rattle.addr_space.proofs.Prelude.{ℕ, ◌+◌, ◌-◌, ◌/◌, ◌<◌, ◌∙◌, ◌≡◌, ap, arith, cases_eq, inl, inr, List, no-lower, None, pages_of, refl, root-inside, Some, sym, table_at, with_absent, zeroed}
 use Rattle.addr_space.proofs.Growing.{cost}
 use Rattle.addr_space.proofs.PriceTo.{price-span, price-run, price-one, price-rest}
-use Rattle.addr_space.proofs.Space.price_between.Goals as goal
 use Rattle.addr_space.proofs.Touching.{least-of}
+use Rattle.addr_space.proofs.Space.price_between.Goals as goal
 
 pub lower_table-requires-clause-root_in : goal.lower_table-requires-clause-root_in
 lower_table-requires-clause-root_in c = root-inside c.args.ram.now c.args.self.now.root c.requires.whole.tree

@@ -1,8 +1,4 @@
-use Rattle.std.proofs.Common.{◌≡◌, ◌+◌, ◌*◌, ◌/◌, ◌%◌, ◌<◌, ◌≤◌, ◌-◌, None}
-use Rattle.xk_base.specs.declared.access.Rights.{Rights}
-use Rattle.sv39_core.specs.Sv39.{table_at}
-use Rattle.sv39_core.specs.Tree.{pages_of}
-use Rattle.addr_space.specs.Changes.{zeroed, with_absent}
+use Rattle.addr_space.proofs.Prelude.{◌%◌, ◌*◌, ◌+◌, ◌-◌, ◌/◌, ◌<◌, ◌≡◌, ◌≤◌, None, pages_of, Rights, table_at, with_absent, zeroed}
 use Rattle.addr_space.proofs.Growing.{cost}
 use Rattle.addr_space.proofs.Space.price_between.Given as goal
 

@@ -1,6 +1,4 @@
-use Rattle.std.proofs.Common.{◌∙◌, ◌-◌, arith}
-use Rattle.sv39_core.specs.Tree.{pages_of}
-use Rattle.addr_space.specs.Changes.{zeroed, with_absent}
+use Rattle.addr_space.proofs.Prelude.{◌-◌, ◌∙◌, arith, pages_of, with_absent, zeroed}
 use Rattle.addr_space.proofs.PriceTo.{cost-size}
 use Rattle.addr_space.proofs.Space.price_to.Goals as goal
 

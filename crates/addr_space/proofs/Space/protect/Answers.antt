@@ -1,19 +1,10 @@
-use Rattle.std.proofs.Common.{None, ◌≡◌, ◌+◌, ◌*◌, ◌/◌, ◌%◌, Some, false, sym, ap, ◌∙◌, subst, arith}
-use Rattle.std.proofs.lemmas.Option.{same_Some}
-use Rattle.phys_ram.specs.Ram.{frame_at, WordWritten}
-use Rattle.sv39_core.specs.declared.entry.Entry.TheVariants.{Leaf}
-use Rattle.sv39_core.specs.Sv39.{table_at, last, page_entry, leaf_word}
-use Rattle.sv39_core.specs.Tree.{page_of, page_at}
-use Rattle.addr_space.specs.Space.{image_of}
-use Rattle.addr_space.specs.Changes.{protected}
-use Rattle.xk_base.specs.Image.{with_page}
-use Rattle.sv39_core.proofs.Places.{root-inside, table-owned}
+use Rattle.addr_space.proofs.Prelude.{◌%◌, ◌*◌, ◌+◌, ◌/◌, ◌∙◌, ◌≡◌, ap, arith, false, frame_at, image_of, last, Leaf, leaf_word, None, page_at, page_entry, page_of, protected, Rights, root-inside}
+use Rattle.addr_space.proofs.Prelude.{same_Some, Some, subst, sym, table-owned, table_at, with_page, WordWritten}
 use Rattle.addr_space.proofs.Clearing.{entry-page}
 use Rattle.addr_space.proofs.Pages.{rewritten, perm-changed, perm-image, page-is}
 use Rattle.addr_space.proofs.Isolation.{spared}
 use Rattle.addr_space.proofs.Trades.{belongs-after}
 use Rattle.addr_space.proofs.Translations.{walks-beside}
-use Rattle.xk_base.specs.declared.access.Rights.{Rights}
 use Rattle.addr_space.proofs.Prices.{page-got}
 use Rattle.addr_space.proofs.Copies.{no-leaf, there-at, leaf-allowed}
 use Rattle.addr_space.proofs.Space.protect.Goals.{After-write_u64}

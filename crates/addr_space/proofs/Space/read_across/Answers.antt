@@ -1,9 +1,5 @@
-use Rattle.std.proofs.Common.{rules, arith, ◌≡◌, ◌+◌, ◌*◌, ◌-◌, ◌≤◌, ◌++◌, length, take, drop, sym, ap, ◌∙◌}
-use Rattle.std.proofs.lemmas.List.{length-take-le, length-drop}
+use Rattle.addr_space.proofs.Prelude.{◌*◌, ◌++◌, ◌+◌, ◌-◌, ◌∙◌, ◌≡◌, ◌≤◌, ap, arith, drop, image_bytes, image_of, length, length-drop, length-take-le, put_mid, rules, sym, take}
 use Rattle.std.proofs.lemmas.Slice.{take-put_mid}
-use borrow.Rule.Slice.PartMut.{put_mid}
-use Rattle.xk_base.specs.Bytes.{image_bytes}
-use Rattle.addr_space.specs.Space.{image_of}
 use Rattle.addr_space.proofs.Parts.{length-image_bytes, image_bytes-append}
 use Rattle.addr_space.proofs.Space.read_across.Goals as goal
 

@@ -1,6 +1,4 @@
-use Rattle.std.proofs.Common.{◌≡◌, ◌-◌, ◌≤◌, length, take}
-use Rattle.xk_base.specs.Bytes.{image_bytes}
-use Rattle.addr_space.specs.Space.{image_of}
+use Rattle.addr_space.proofs.Prelude.{◌-◌, ◌≡◌, ◌≤◌, image_bytes, image_of, length, take}
 use Rattle.addr_space.proofs.Space.read_across.Given as goal
 
 abbrev pub invariant-parts : goal.invariant-parts

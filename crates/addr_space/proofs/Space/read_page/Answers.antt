@@ -1,9 +1,4 @@
-use Rattle.std.proofs.Common.{◌≡◌, ℕ, ◌+◌, ◌-◌, List, length, take, drop, sym, ap, ◌∙◌, arith}
-use Rattle.std.proofs.lemmas.Option.{same_Some}
-use Rattle.sv39_core.specs.Tree.{frame_of, page_of}
-use Rattle.sv39_core.proofs.Places.{root-inside, page-owned}
-use Rattle.phys_ram.specs.Ram.{frame_at}
-use Rattle.xk_base.specs.Image.{Page}
+use Rattle.addr_space.proofs.Prelude.{ℕ, ◌+◌, ◌-◌, ◌∙◌, ◌≡◌, ap, arith, drop, frame_at, frame_of, length, List, Page, page-owned, page_of, root-inside, same_Some, sym, take}
 use Rattle.addr_space.proofs.Pages.{page-is}
 use Rattle.addr_space.proofs.Copies.{no-leaf, there-at}
 use Rattle.addr_space.proofs.Space.read_page.Goals as goal

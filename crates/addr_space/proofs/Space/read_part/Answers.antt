@@ -1,6 +1,4 @@
-use Rattle.std.proofs.Common.{rules, arith, ◌≡◌, ◌+◌, ◌*◌, ◌-◌, ◌/◌, ◌%◌, length, take, drop, None, sym, ap, ◌∙◌}
-use Rattle.std.specs.FinMap.{get}
-use Rattle.addr_space.specs.Space.{image_of}
+use Rattle.addr_space.proofs.Prelude.{◌%◌, ◌*◌, ◌+◌, ◌-◌, ◌/◌, ◌∙◌, ◌≡◌, ap, arith, drop, get, image_of, length, None, rules, sym, take}
 use Rattle.addr_space.proofs.Parts.{part-read, part-zeros}
 use Rattle.addr_space.proofs.Space.read_part.Goals as goal
 

@@ -1,6 +1,4 @@
-use Rattle.std.proofs.Common.{◌≡◌, ◌+◌, ◌/◌, min, ap, ◌∙◌, arith}
-use Rattle.sv39_core.specs.Sv39.{page_entry}
-use Rattle.sv39_core.specs.Tree.{pages_of, frame_of}
+use Rattle.addr_space.proofs.Prelude.{◌+◌, ◌/◌, ◌∙◌, ◌≡◌, ap, arith, frame_of, min, page_entry, pages_of}
 use Rattle.addr_space.proofs.Freeing.{pages-below}
 use Rattle.addr_space.proofs.Isolation.{spared}
 use Rattle.addr_space.proofs.Translations.{walks-below}

@@ -1,4 +1,4 @@
-use Rattle.std.proofs.Common.{rules}
+use Rattle.addr_space.proofs.Prelude.{rules}
 use Rattle.addr_space.proofs.Space.size.Goals as goal
 
 pub returns : goal.returns

@@ -1,10 +1,5 @@
-use Rattle.std.proofs.Common.{◌≡◌, ◌≤◌, ◌+◌, ◌-◌, ◌<◌, length, ap, ◌∙◌, subst}
+use Rattle.addr_space.proofs.Prelude.{◌+◌, ◌-◌, ◌<◌, ◌∙◌, ◌≡◌, ◌≤◌, ap, brought, filled, free_in, image_of, length, pages_at, price, subst, Unchanged}
 use Rattle.std.specs.Result.{IfOk, IfErr}
-use Rattle.xk_base.specs.Image.{price}
-use Rattle.frame_list.specs.Pool.{free_in}
-use Rattle.addr_space.specs.Changes.{filled}
-use Rattle.addr_space.specs.Absent.{pages_at, brought}
-use Rattle.addr_space.specs.Space.{image_of, Unchanged}
 use Rattle.addr_space.proofs.Touching.{filled-brought, run-of-range}
 use Rattle.addr_space.proofs.Space.touch.Goals.{After-fill}
 use Rattle.addr_space.proofs.Space.touch.Goals as goal

@@ -1,8 +1,4 @@
-use Rattle.std.proofs.Common.{sym, ap, ◌∙◌}
-use Rattle.xk_base.specs.Image.{price}
-use Rattle.xk_base.specs.Access.{data_rights}
-use Rattle.addr_space.specs.Absent.{pages_at}
-use Rattle.addr_space.specs.Space.{image_of}
+use Rattle.addr_space.proofs.Prelude.{◌∙◌, ap, data_rights, image_of, pages_at, price, sym}
 use Rattle.addr_space.proofs.Touching.{filled-brought, run-of-range}
 use Rattle.addr_space.proofs.Space.touch_price.Goals as goal
 

@@ -1,9 +1,7 @@
-use Rattle.std.proofs.Common.{◌≡◌, ◌+◌, ◌*◌, ◌/◌, Some, None, sym, ◌∙◌, arith}
-use Rattle.sv39_core.specs.Sv39.{table_at}
-use Rattle.sv39_core.proofs.Places.{root-inside, table-owned}
+use Rattle.addr_space.proofs.Prelude.{◌*◌, ◌+◌, ◌/◌, ◌∙◌, ◌≡◌, arith, None, root-inside, Some, sym, table-owned, table_at}
 use Rattle.addr_space.proofs.Clearing.{entry-lower}
-use Rattle.addr_space.proofs.Space.upper_in_use.Goals as goal
 use Rattle.addr_space.proofs.Prices.{some-of-is}
+use Rattle.addr_space.proofs.Space.upper_in_use.Goals as goal
 
 -- the space has no page, and so no lower table
 pub returns-then-self-eq0-clause-unused : goal.returns-then-self-eq0-clause-unused

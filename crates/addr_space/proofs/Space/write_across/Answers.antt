@@ -1,7 +1,4 @@
-use Rattle.std.proofs.Common.{rules, arith, ◌≡◌, ◌+◌, ◌*◌, ◌/◌, ◌≤◌, length, take, sym, subst}
-use Rattle.xk_base.specs.Bytes.{HasPage}
-use Rattle.xk_base.proofs.Bytes.{write_image-nil, has-write_image}
-use Rattle.addr_space.specs.Space.{image_of, frames_of}
+use Rattle.addr_space.proofs.Prelude.{◌*◌, ◌+◌, ◌/◌, ◌≡◌, ◌≤◌, arith, frames_of, has-write_image, HasPage, image_of, length, rules, subst, sym, take, write_image-nil}
 use Rattle.addr_space.proofs.Isolation.{spared}
 use Rattle.addr_space.proofs.InPlace.{page-small, in_place-none, in_place-join}
 use Rattle.addr_space.proofs.Freeing.{changed-none, changed-join}

@@ -1,8 +1,4 @@
-use Rattle.std.proofs.Common.{◌≡◌, ◌-◌, ◌≤◌, length, take}
-use Rattle.xk_base.specs.Bytes.{write_image}
-use Rattle.frame_list.specs.declared.Pool.{Pool}
-use Rattle.addr_space.specs.Space.{image_of, Belongs, Changed}
-use Rattle.addr_space.specs.InPlace.{WrittenInPlace}
+use Rattle.addr_space.proofs.Prelude.{◌-◌, ◌≡◌, ◌≤◌, Belongs, Changed, image_of, length, Pool, take, write_image, WrittenInPlace}
 use Rattle.addr_space.proofs.Space.write_across.Given as goal
 
 abbrev pub invariant-parts : goal.invariant-parts

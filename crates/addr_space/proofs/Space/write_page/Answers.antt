@@ -1,20 +1,12 @@
-use Rattle.std.proofs.Common.{rules, ◌≡◌, ℕ, ◌+◌, ◌-◌, ◌<◌, List, length, take, drop, ◌++◌, set, Some, refl, sym, ap, ◌∙◌, arith}
-use Rattle.std.proofs.lemmas.Option.{same_Some}
-use Rattle.phys_ram.specs.Ram.{frame_at}
-use Rattle.sv39_core.specs.Tree.{frame_of, page_of, page_at}
-use Rattle.addr_space.specs.Space.{image_of}
-use Rattle.addr_space.specs.Changes.{overwritten}
-use Rattle.xk_base.specs.Image.{Page, with_page}
-use Rattle.sv39_core.proofs.Places.{root-inside, page-owned}
+use Rattle.addr_space.proofs.Prelude.{ℕ, ◌++◌, ◌+◌, ◌-◌, ◌<◌, ◌∙◌, ◌≡◌, ap, arith, drop, frame_at, frame_of, image_of, length, List, overwritten, Page, page-owned, page_at, page_of, Post-is, post_of}
+use Rattle.addr_space.proofs.Prelude.{refl, root-inside, rules, same_Some, set, Some, sym, take, with_page, write_image-page}
 use Rattle.addr_space.proofs.Pages.{bytes-changed, bytes-image, page-is, still-entries, kept-but}
 use Rattle.addr_space.proofs.Isolation.{spared}
 use Rattle.addr_space.proofs.Trades.{belongs-after}
 use Rattle.addr_space.proofs.Translations.{walks-same}
 use Rattle.addr_space.proofs.Prices.{page-got}
 use Rattle.addr_space.proofs.Copies.{no-leaf, there-at, set-stays, set-here}
-use Rattle.xk_base.proofs.Bytes.{write_image-page}
 use Rattle.addr_space.proofs.InPlace.{written-in-place}
-use borrow.Rule.Slice.PartMut.{post_of, Post-is}
 use Rattle.addr_space.proofs.Space.write_page.Goals as goal
 
 pub entry_of_page-requires-clause-root_in : goal.entry_of_page-requires-clause-root_in

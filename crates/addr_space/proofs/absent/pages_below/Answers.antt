@@ -1,5 +1,4 @@
-use Rattle.std.proofs.Common.{◌-◌, ◌*◌, inl, inr, ap, ◌∙◌, arith}
-use Rattle.addr_space.specs.Absent.{is_among, pages_at}
+use Rattle.addr_space.proofs.Prelude.{◌*◌, ◌-◌, ◌∙◌, ap, arith, inl, inr, is_among, pages_at}
 use Rattle.addr_space.proofs.Touching.{among-yes, among-before, among-behind, among-none, least-of}
 use Rattle.addr_space.proofs.absent.pages_below.Goals as goal
 

@@ -1,8 +1,4 @@
-use Rattle.std.proofs.Common.{ℕ, ap, ◌∙◌, subst, arith}
-use Rattle.hart_core.specs.Translations.{FitsBut, but_not}
-use Rattle.hart_core.specs.declared.hart.Hart.{Hart}
-use Rattle.hart_core.proofs.Caches.{fits_root}
-use Rattle.kcall_core.specs.Memories.{is_between}
+use Rattle.kcall_core.proofs.Prelude.{ℕ, ◌∙◌, ap, arith, but_not, fits_root, FitsBut, Hart, is_between, subst}
 use Rattle.kcall_core.proofs.memory.Runs.{but-next, but-none}
 use Rattle.kcall_core.proofs.memories.forget_from.Goals as goal
 

@@ -1,6 +1,4 @@
-use Rattle.std.proofs.Common.{◌≡◌, ℕ, ◌<◌, ◌≤◌, List}
-use Rattle.hart_core.specs.Translations.{FitsBut, kept_frame}
-use Rattle.kcall_core.specs.Memories.{is_between}
+use Rattle.kcall_core.proofs.Prelude.{ℕ, ◌<◌, ◌≡◌, ◌≤◌, FitsBut, is_between, kept_frame, List}
 use Rattle.kcall_core.proofs.memories.forget_from.Given as goal
 
 abbrev pub invariant-loop-page : goal.invariant-loop-page

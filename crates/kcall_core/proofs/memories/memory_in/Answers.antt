@@ -1,5 +1,4 @@
-use Rattle.std.proofs.Common.{None, sym, ◌∙◌, arith}
-use Rattle.std.proofs.lemmas.List.{get_or_read}
+use Rattle.kcall_core.proofs.Prelude.{◌∙◌, arith, get_or_read, None, sym}
 use Rattle.kcall_core.proofs.memory.Changes.{some-inside, read-some}
 use Rattle.kcall_core.proofs.memories.memory_in.Goals as goal
 

@@ -1,5 +1,4 @@
-use Rattle.std.proofs.Common.{◌≡◌, ℕ, ◌+◌, ◌<◌, true}
-use Rattle.sv39_core.specs.Sv39.{entry_at, entry_permits}
+use Rattle.addr_space.proofs.Prelude.{ℕ, ◌+◌, ◌<◌, ◌≡◌, entry_at, entry_permits, true}
 use Rattle.addr_space.proofs.fast.permitting.count_permitting.Given as goal
 
 abbrev pub invariant-loop-passed : goal.invariant-loop-passed

@@ -1,6 +1,4 @@
-use Rattle.std.proofs.Common.{IsSome, refl, sym, subst, arith, rules}
-use Rattle.std.proofs.lemmas.List.{length-map}
-use Rattle.kcall_core.specs.Memories.{each_of, held_in}
+use Rattle.kcall_core.proofs.Prelude.{arith, each_of, held_in, IsSome, length-map, refl, rules, subst, sym}
 use Rattle.kcall_core.proofs.table.States.{slot-inside}
 use Rattle.kcall_core.proofs.processes.FreeSlot.{slot-for}
 use Rattle.kcall_core.proofs.kernel.Kernel.bear.Goals as goal

@@ -1,4 +1,4 @@
-use Rattle.std.proofs.Common.{Some}
+use Rattle.kcall_core.proofs.Prelude.{Some}
 use Rattle.kcall_core.proofs.table.InCall.{progress-set}
 use Rattle.kcall_core.proofs.making.CallAnswers.{asked-begun, has-begun, begun-whole}
 use Rattle.kcall_core.proofs.kernel.Kernel.begin.Goals as goal

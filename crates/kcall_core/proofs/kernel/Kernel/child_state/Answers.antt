@@ -1,10 +1,4 @@
-use Rattle.std.proofs.Common.{sym, ap, ◌∙◌, subst, refl, cond, Some, None}
-use Rattle.std.specs.Prelude.{IsSome, option_map}
-use Rattle.std.specs.FinMap.{get}
-use Rattle.kernel_spec.specs.views.View.{child_of}
-use Rattle.kcall_core.specs.Kernel.{state_of}
-use Rattle.kcall_core.specs.Observers.{if_live, child_seen}
-use Rattle.proc_table.specs.Processes.{status_of}
+use Rattle.kcall_core.proofs.Prelude.{◌∙◌, ap, child_of, child_seen, cond, get, if_live, IsSome, None, option_map, refl, Some, state_of, status_of, subst, sym}
 use Rattle.kcall_core.proofs.table.Observed.{slot-found, child-told, child-missing, child-held}
 use Rattle.kcall_core.proofs.kernel.Kernel.child_state.Goals as goal
 

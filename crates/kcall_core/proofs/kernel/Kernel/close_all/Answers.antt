@@ -1,6 +1,4 @@
-use Rattle.std.proofs.Common.{◌-◌, ◌∙◌, subst, arith}
-use Rattle.xk_base.specs.declared.limits.TheConstants.{NOFILE}
-use Rattle.kcall_core.specs.Closings.{ClosesFrom}
+use Rattle.kcall_core.proofs.Prelude.{◌-◌, ◌∙◌, arith, ClosesFrom, NOFILE, subst}
 use Rattle.kcall_core.proofs.files.AllClosed.{closes-none, closes-on}
 use Rattle.kcall_core.proofs.kernel.Kernel.close_all.Goals as goal
 

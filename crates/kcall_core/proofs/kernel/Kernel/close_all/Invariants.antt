@@ -1,7 +1,4 @@
-use Rattle.std.proofs.Common.{◌≡◌, ◌-◌, Some}
-use Rattle.xk_base.specs.declared.limits.TheConstants.{NOFILE}
-use Rattle.hart_core.specs.declared.hart.Hart.{Hart}
-use Rattle.kcall_core.specs.Closings.{IsClosing, ClosesFrom}
+use Rattle.kcall_core.proofs.Prelude.{◌-◌, ◌≡◌, ClosesFrom, Hart, IsClosing, NOFILE, Some}
 use Rattle.kcall_core.proofs.kernel.Kernel.close_all.Given as goal
 
 abbrev pub invariant-loop-closed : goal.invariant-loop-closed

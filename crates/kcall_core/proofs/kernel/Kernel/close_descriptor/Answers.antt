@@ -1,11 +1,4 @@
-use Rattle.std.proofs.Common.{refl, sym, ap, ◌∙◌}
-use Rattle.std.specs.FinMap.{get}
-use Rattle.proc_table.specs.Slots.{Slots, each_changed}
-use Rattle.kcall_core.specs.Closings.{woken_by}
-use Rattle.kernel_spec.specs.waking.SleepsOn.{closes_wake}
-use Rattle.kcall_core.specs.Memories.{pipes_of}
-use Rattle.kcall_core.specs.Kernel.{state_of}
-use Rattle.kcall_core.specs.declared.kernel.Kernel.{Kernel}
+use Rattle.kcall_core.proofs.Prelude.{◌∙◌, ap, closes_wake, each_changed, get, Kernel, pipes_of, refl, Slots, state_of, sym, woken_by}
 use Rattle.kcall_core.proofs.memory.PipeEdges.{there-is}
 use Rattle.kcall_core.proofs.table.States.{slot-inside}
 use Rattle.kcall_core.proofs.files.OneClosed.{used-below, used-open, plain-closed, pipe-closed, pipe-there, pipe-counts}

@@ -1,5 +1,4 @@
-use Rattle.std.proofs.Common.{sym, ap, ◌∙◌}
-use Rattle.file_table.specs.Named.{named_by}
+use Rattle.kcall_core.proofs.Prelude.{◌∙◌, ap, named_by, sym}
 use Rattle.kcall_core.proofs.table.States.{slot-inside}
 use Rattle.kcall_core.proofs.files.AllClosed.{unused-closed}
 use Rattle.kcall_core.proofs.kernel.Kernel.close_if_used.Goals as goal

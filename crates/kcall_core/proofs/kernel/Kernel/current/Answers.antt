@@ -1,7 +1,4 @@
-use Rattle.std.proofs.Common.{refl, sym, ap, ◌∙◌, subst, Some}
-use Rattle.std.specs.Prelude.{IsSome, option_map}
-use Rattle.kcall_core.specs.Kernel.{pid_now}
-use Rattle.kcall_core.specs.Machine.{turns_of}
+use Rattle.kcall_core.proofs.Prelude.{◌∙◌, ap, IsSome, option_map, pid_now, refl, Some, subst, sym, turns_of}
 use Rattle.kcall_core.proofs.table.States.{slot-inside}
 use Rattle.kcall_core.proofs.table.Stops.{now-slot}
 use Rattle.kcall_core.proofs.turns.Chosen.{pid-told}

@@ -1,8 +1,4 @@
-use Rattle.std.proofs.Common.{◌∙◌, sym, ap}
-use Rattle.file_table.specs.Named.{named_by}
-use Rattle.kcall_core.specs.Observers.{opened}
-use Rattle.kcall_core.specs.Kernel.{state_of}
-use Rattle.kernel_spec.proofs.steps.SeenByParts.{file_of}
+use Rattle.kcall_core.proofs.Prelude.{◌∙◌, ap, file_of, named_by, opened, state_of, sym}
 use Rattle.kcall_core.proofs.files.DescriptorsTold.{told-inside, named-open, named-below, descriptor-told, descriptor-unused}
 use Rattle.kcall_core.proofs.kernel.Kernel.descriptor.Goals as goal
 

@@ -1,6 +1,4 @@
-use Rattle.std.proofs.Common.{rules, ◌≡◌, None}
-use Rattle.kernel_spec.specs.views.Words.{word}
-use Rattle.kernel_spec.specs.rows.Calls.{with_a0}
+use Rattle.kcall_core.proofs.Prelude.{◌≡◌, None, rules, with_a0, word}
 use Rattle.kcall_core.proofs.table.InCall.{is-in-call, progress-set}
 use Rattle.kcall_core.proofs.kernel.Kernel.done.Goals as goal
 

@@ -1,10 +1,4 @@
-use Rattle.std.proofs.Common.{pos, sym, ap, ◌∙◌, subst, w32, w64, refl}
-use Rattle.std.proofs.lemmas.Int.{to_z-of_z}
-use Rattle.std.specs.Prelude.{is_none, position}
-use Rattle.file_table.specs.Named.{named_by}
-use Rattle.kernel_spec.specs.views.Words.{c_int, minus_one}
-use Rattle.kernel_spec.specs.steps.Own.{Own, Called}
-use Rattle.kcall_core.specs.Makes.{Makes, view_now, answer_of}
+use Rattle.kcall_core.proofs.Prelude.{◌∙◌, answer_of, ap, c_int, Called, is_none, Makes, minus_one, named_by, Own, pos, position, refl, subst, sym, to_z-of_z, view_now, w32, w64}
 use Rattle.kcall_core.proofs.processes.Exits.{whole-closing}
 use Rattle.kcall_core.proofs.making.CallAnswers.{IsDone, done-at-once}
 use Rattle.kcall_core.proofs.files.OneClosed.{used-open}

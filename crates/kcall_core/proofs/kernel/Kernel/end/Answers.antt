@@ -1,8 +1,4 @@
-use Rattle.std.proofs.Common.{None, refl, ap, ◌∙◌}
-use Rattle.std.proofs.lemmas.Int.{to_z-of_z}
-use Rattle.proc_table.specs.Processes.{ended}
-use Rattle.proc_table.specs.Slots.{changed_at}
-use Rattle.hart_core.specs.declared.hart.Hart.{Hart}
+use Rattle.kcall_core.proofs.Prelude.{◌∙◌, ap, changed_at, ended, Hart, None, refl, to_z-of_z}
 use Rattle.kcall_core.proofs.table.Stops.{now-slot, ended-sound, ended-state}
 use Rattle.kcall_core.proofs.kernel.Kernel.end.Goals as goal
 

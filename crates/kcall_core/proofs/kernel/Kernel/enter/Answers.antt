@@ -1,4 +1,4 @@
-use Rattle.std.proofs.Common.{refl}
+use Rattle.kcall_core.proofs.Prelude.{refl}
 use Rattle.kcall_core.proofs.table.Stops.{rests-fit, entered-state}
 use Rattle.kcall_core.proofs.kernel.Kernel.enter.Goals as goal
 

@@ -1,5 +1,4 @@
-use Rattle.std.proofs.Common.{map, refl, subst}
-use Rattle.kernel_spec.specs.views.State.{named_file}
+use Rattle.kcall_core.proofs.Prelude.{map, named_file, refl, subst}
 use Rattle.kcall_core.proofs.table.Stops.{now-slot}
 use Rattle.kcall_core.proofs.processes.ExecSteps.{Replaced, Unreplaced, exec-prepared, exec-count, exec-made, exec-answer, refused-prepared, refused-made, refused-answer}
 use Rattle.kcall_core.proofs.kernel.Kernel.exec.Goals as goal

@@ -1,11 +1,6 @@
-use Rattle.std.proofs.Common.{ap, ◌∙◌}
-use Rattle.std.proofs.lemmas.Int.{to_z-of_z}
-use Rattle.proc_table.specs.Processes.{given, woken, ended}
-use Rattle.proc_table.specs.Slots.{each_changed, changed_at}
-use Rattle.proc_table.specs.declared.channel.Channel.TheVariants as on
-use Rattle.kernel_spec.specs.steps.Updates.{gone_state}
-use Rattle.kcall_core.specs.Kernel.{state_of, slot_now, pid_now, live_now}
+use Rattle.kcall_core.proofs.Prelude.{◌∙◌, ap, changed_at, each_changed, ended, given, gone_state, live_now, pid_now, slot_now, state_of, to_z-of_z, woken}
 use Rattle.kcall_core.proofs.processes.Exits.{whole-closing, no-descriptors, not-own-parent, parent-now, exit-makes}
+use Rattle.proc_table.specs.declared.channel.Channel.TheVariants as on
 use Rattle.kcall_core.proofs.kernel.Kernel.exit.Goals as goal
 
 pub close_all-requires : goal.close_all-requires

@@ -1,7 +1,6 @@
-use Rattle.std.proofs.Common.{sym, ◌∙◌, subst, refl, IsSome}
+use Rattle.kcall_core.proofs.Prelude.{◌∙◌, IsSome, none_from_is_some, refl, subst, sym}
 use Rattle.kcall_core.proofs.table.Observed.{slot-found, status-told, missing-live, ended-live}
 use Rattle.kcall_core.proofs.kernel.Kernel.find_live.Goals as goal
-use Rattle.kernel_spec.proofs.Common.{none_from_is_some}
 
 pub status-requires-clause-held : goal.status-requires-clause-held
 status-requires-clause-held c = subst (λ o. IsSome o) (sym (slot-found c.args.self.now.table c.args.pid c.in_ok-slot.slot (sym c.in_ok-slot.ensures.value)).1) refl

@@ -1,11 +1,4 @@
-use Rattle.std.proofs.Common.{◌≡◌, pos, sym, ap, ◌∙◌, subst, arith, w64}
-use Rattle.std.proofs.lemmas.Int.{to_z-of_z}
-use Rattle.xk_base.specs.declared.limits.TheConstants.{NOFILE}
-use Rattle.file_table.specs.Named.{named_by}
-use Rattle.proc_table.specs.Slots.{descriptors_at}
-use Rattle.kernel_spec.specs.steps.Own.{Own, Called}
-use Rattle.kcall_core.specs.Makes.{answer_of}
-use Rattle.kcall_core.specs.Kernel.{state_of, slot_now}
+use Rattle.kcall_core.proofs.Prelude.{◌∙◌, ◌≡◌, answer_of, ap, arith, Called, descriptors_at, named_by, NOFILE, Own, pos, slot_now, state_of, subst, sym, to_z-of_z, w64}
 use Rattle.kcall_core.proofs.processes.HandedDown.{IsHanded}
 use Rattle.kcall_core.proofs.table.Stops.{now-slot}
 use Rattle.kcall_core.proofs.making.Imaged.{image-makes}

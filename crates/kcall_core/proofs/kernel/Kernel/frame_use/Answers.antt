@@ -1,8 +1,5 @@
-use Rattle.std.proofs.Common.{◌<◌, ◌≤◌, ◌∙◌, sym, subst, arith}
-use Rattle.kcall_core.specs.Kernel.{frame_count}
-use Rattle.kcall_core.specs.ObservedFrames.{IsUsed}
-use Rattle.kcall_core.specs.declared.kernel.observers.frame_uses.FrameUse.{FrameUse}
-use Rattle.kcall_core.specs.declared.kernel.observers.frame_uses.FrameUse.TheVariants.{Free, Pipe}
+use Rattle.kcall_core.proofs.Prelude.{◌<◌, ◌∙◌, ◌≤◌, arith, frame_count, FrameUse, Free, IsUsed, subst, sym}
+use Rattle.kcall_core.specs.declared.kernel.observers.frame_uses.FrameUse.TheVariants.{Pipe}
 use Rattle.kcall_core.proofs.memory.PipesTold.{keeps-told}
 use Rattle.kcall_core.proofs.table.FrameUses.{told-none, told-some, left-free, owned-used, some-counted}
 use Rattle.kcall_core.proofs.kernel.Kernel.frame_use.Goals as goal

@@ -1,9 +1,5 @@
-use Rattle.std.proofs.Common.{◌≡◌, sym, ap, ◌∙◌}
-use Rattle.std.specs.Prelude.{pos}
+use Rattle.kcall_core.proofs.Prelude.{◌∙◌, ◌≡◌, ap, pid_now, pos, sym, to_z-of_z, view_of}
 use Rattle.std.specs.Int.{w64}
-use Rattle.std.proofs.lemmas.Int.{to_z-of_z}
-use Rattle.kcall_core.specs.Kernel.{pid_now}
-use Rattle.kernel_spec.specs.views.View.{view_of}
 use Rattle.kcall_core.proofs.table.Stops.{now-slot}
 use Rattle.kcall_core.proofs.turns.Chosen.{pid-told}
 use Rattle.kcall_core.proofs.making.CallAnswers.{done-at-once}

@@ -1,18 +1,8 @@
-use Rattle.std.proofs.Common.{◌≡◌, ◌+◌, length, sym, ap, ◌∙◌, subst}
-use Rattle.std.specs.Prelude.{IsSome}
-use Rattle.std.proofs.lemmas.Int.{to_z-of_z}
-use Rattle.xk_base.specs.Image.{price}
-use Rattle.kernel_spec.specs.views.Words.{or_zero}
-use Rattle.kernel_spec.specs.steps.Cases.{IsLive}
-use Rattle.kernel_spec.specs.steps.Updates.{give_frames, end_process, orphans}
-use Rattle.kcall_core.specs.Kernel.{state_of, slot_now, pid_now, live_now, IsSound, IsRunning}
-use Rattle.kcall_core.specs.declared.kernel.Kernel.{Kernel}
-use Rattle.proc_table.specs.Processes.{given, ended}
-use Rattle.proc_table.specs.Slots.{each_changed, changed_at}
+use Rattle.kcall_core.proofs.Prelude.{◌+◌, ◌∙◌, ◌≡◌, ap, changed_at, each_changed, end_process, ended, give_frames, given, gone-closed, IsLive, IsRunning, IsSome, IsSound, keeps-parent, Kernel}
+use Rattle.kcall_core.proofs.Prelude.{length, live_now, or_zero, orphans, pid_now, price, slot_now, state_of, subst, sym, to_z-of_z}
 use Rattle.kcall_core.proofs.table.Stops.{now-slot}
 use Rattle.kcall_core.proofs.turns.Chosen.{pid-told}
 use Rattle.kcall_core.proofs.turns.Turned.{live-is}
-use Rattle.kernel_spec.proofs.steps.ClosedProcessGoes.{gone-closed, keeps-parent}
 use Rattle.kcall_core.proofs.kernel.Kernel.go_closed.Goals as goal
 
 pub end-requires-clause-sound : goal.end-requires-clause-sound

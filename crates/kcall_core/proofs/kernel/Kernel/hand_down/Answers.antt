@@ -1,5 +1,4 @@
-use Rattle.std.proofs.Common.{sym, ap, ◌∙◌}
-use Rattle.file_table.specs.Named.{named_by}
+use Rattle.kcall_core.proofs.Prelude.{◌∙◌, ap, named_by, sym}
 use Rattle.kcall_core.proofs.kernel.Kernel.hand_down.Goals as goal
 
 pub share-requires-clause-may : goal.share-requires-clause-may

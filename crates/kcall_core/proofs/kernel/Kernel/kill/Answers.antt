@@ -1,13 +1,5 @@
-use Rattle.std.proofs.Common.{◌≡◌, ◌∙◌, pos, sym, ap, subst, w32, refl}
-use Rattle.std.specs.Prelude.{Option, ℕ}
-use Rattle.std.proofs.lemmas.Int.{to_z-of_z}
-use Rattle.proc_table.specs.Processes.{killed}
-use Rattle.proc_table.specs.Slots.{Slots, slot_of, with_mark, changed_at}
-use Rattle.kernel_spec.specs.views.Words.{minus_one}
-use Rattle.kernel_spec.specs.steps.Own.{Own}
-use Rattle.kernel_spec.proofs.Common.{none_from_is_some, the_value}
-use Rattle.kcall_core.specs.Kernel.{IsSound}
-use Rattle.kcall_core.specs.Makes.{Makes, view_now, answer_of}
+use Rattle.kcall_core.proofs.Prelude.{ℕ, ◌∙◌, ◌≡◌, answer_of, ap, changed_at, IsSound, killed, Makes, minus_one, none_from_is_some, Option, Own, pos, refl, slot_of, Slots, subst, sym, the_value}
+use Rattle.kcall_core.proofs.Prelude.{to_z-of_z, view_now, w32, with_mark}
 use Rattle.kcall_core.proofs.turns.Chosen.{noted}
 use Rattle.kcall_core.proofs.making.CallAnswers.{IsDone, done-at-once}
 use Rattle.kcall_core.proofs.processes.KillMakes.{none-row, pid-row, unknown-row, marked-sound, kill-makes, killed-answer}

@@ -1,4 +1,4 @@
-use Rattle.std.proofs.Common.{sym, ◌∙◌}
+use Rattle.kcall_core.proofs.Prelude.{◌∙◌, sym}
 use Rattle.kcall_core.proofs.memory.PipeEdges.{left-nobody, left-wakes}
 use Rattle.kcall_core.proofs.kernel.Kernel.leave_pipe.Goals as goal
 

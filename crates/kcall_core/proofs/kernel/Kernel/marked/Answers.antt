@@ -1,4 +1,4 @@
-use Rattle.std.proofs.Common.{sym}
+use Rattle.kcall_core.proofs.Prelude.{sym}
 use Rattle.kcall_core.proofs.table.Stops.{now-slot}
 use Rattle.kcall_core.proofs.table.InCall.{mark-told}
 use Rattle.kcall_core.proofs.kernel.Kernel.marked.Goals as goal

@@ -1,5 +1,4 @@
-use Rattle.std.proofs.Common.{refl, sym, ap, ◌∙◌}
-use Rattle.proc_table.specs.Slots.{no_process}
+use Rattle.kcall_core.proofs.Prelude.{◌∙◌, ap, no_process, refl, sym}
 use Rattle.kcall_core.proofs.table.NoProcess.{new-state, new-sound}
 use Rattle.kcall_core.proofs.table.Deserted.{no-process-whole, empty-within}
 use Rattle.kcall_core.proofs.kernel.Kernel.new.Goals as goal

@@ -1,13 +1,4 @@
-use Rattle.std.proofs.Common.{pos, sym, ap, ◌∙◌, subst, w64}
-use Rattle.std.proofs.lemmas.Int.{to_z-of_z}
-use Rattle.std.specs.Prelude.{is_none, position}
-use Rattle.kernel_spec.specs.views.View.{view_of}
-use Rattle.kernel_spec.specs.steps.Own.{Own, Called}
-use Rattle.kcall_core.specs.Opens.{asked, file_asked}
-use Rattle.kcall_core.specs.Holdings.{held_at}
-use Rattle.kcall_core.specs.Memories.{each_of}
-use Rattle.kcall_core.specs.Kernel.{state_of}
-use Rattle.kcall_core.specs.Makes.{Makes, view_now, answer_of}
+use Rattle.kcall_core.proofs.Prelude.{◌∙◌, answer_of, ap, asked, Called, each_of, file_asked, held_at, is_none, Makes, Own, pos, position, state_of, subst, sym, to_z-of_z, view_now, view_of, w64}
 use Rattle.kcall_core.proofs.table.Stops.{now-slot}
 use Rattle.kcall_core.proofs.making.CallAnswers.{IsDone}
 use Rattle.kcall_core.proofs.files.Lowest.{lowest-shown, lowest-free}

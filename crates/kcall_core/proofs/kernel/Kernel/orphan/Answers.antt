@@ -1,6 +1,4 @@
-use Rattle.std.proofs.Common.{refl, ap, ◌∙◌}
-use Rattle.proc_table.specs.Processes.{given}
-use Rattle.proc_table.specs.Slots.{each_changed}
+use Rattle.kcall_core.proofs.Prelude.{◌∙◌, ap, each_changed, given, refl}
 use Rattle.kcall_core.proofs.table.Adopted.{adopted-state, adopted-sound, adopted-pid}
 use Rattle.kcall_core.proofs.kernel.Kernel.orphan.Goals as goal
 

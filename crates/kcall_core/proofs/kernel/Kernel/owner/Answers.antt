@@ -1,5 +1,4 @@
-use Rattle.std.proofs.Common.{ap, arith}
-use Rattle.std.specs.Prelude.{is_some}
+use Rattle.kcall_core.proofs.Prelude.{ap, arith, is_some}
 use Rattle.kcall_core.proofs.table.FrameUses.{memory-place, one-more}
 use Rattle.kcall_core.proofs.table.States.{slot-inside}
 use Rattle.kcall_core.proofs.kernel.Kernel.owner.Goals as goal

@@ -1,7 +1,4 @@
-use Rattle.std.proofs.Common.{Some, inr, refl, subst}
-use Rattle.rv64i_core.specs.Registers.{Registers}
-use Rattle.kcall_core.specs.Holdings.{held_at, with_saved}
-use Rattle.kcall_core.specs.Memories.{each_of, SlotChanges}
+use Rattle.kcall_core.proofs.Prelude.{each_of, held_at, inr, refl, Registers, SlotChanges, Some, subst, with_saved}
 use Rattle.kcall_core.proofs.table.Stops.{suspended-sound, suspended-state}
 use Rattle.kcall_core.proofs.kernel.Kernel.park.Goals as goal
 

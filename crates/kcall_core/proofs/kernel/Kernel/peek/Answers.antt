@@ -1,5 +1,4 @@
-use Rattle.std.proofs.Common.{sym, ap, ◌∙◌}
-use Rattle.kcall_core.specs.Observers.{byte_in}
+use Rattle.kcall_core.proofs.Prelude.{◌∙◌, ap, byte_in, sym}
 use Rattle.kcall_core.proofs.table.Observed.{byte-told, live-has}
 use Rattle.kcall_core.proofs.kernel.Kernel.peek.Goals as goal
 

@@ -1,12 +1,7 @@
-use Rattle.std.proofs.Common.{rules, Some, sym, ap, ◌∙◌, subst}
+use Rattle.kcall_core.proofs.Prelude.{◌∙◌, answer_of, ap, c_int, Exited, is_close, is_dup, is_exec, is_exit, is_fork, is_getpid, is_kill, is_pipe, is_read, is_sbrk, is_sbrklazy, is_sleep, is_uptime}
+use Rattle.kcall_core.proofs.Prelude.{is_wait, is_write, Makes, Own, rules, Some, state_of, subst, sym, to_z-of_z, view_now, view_of}
 use Rattle.std.specs.Int.{w32}
-use Rattle.std.proofs.lemmas.Int.{to_z-of_z}
-use Rattle.kernel_spec.specs.views.Words.{c_int}
-use Rattle.kernel_spec.specs.views.View.{view_of}
-use Rattle.kcall_core.specs.Kernel.{state_of}
-use Rattle.kernel_spec.specs.steps.Own.{Own, Exited}
-use Rattle.kcall_core.specs.Makes.{Makes, view_now, answer_of}
-use Rattle.kernel_spec.proofs.rows.Decoding.{is_fork, is_exit, is_wait, is_pipe, is_read, is_kill, is_exec, is_dup, is_getpid, is_sbrk, is_sleep, is_uptime, is_open, is_write, is_close, is_sbrklazy}
+use Rattle.kernel_spec.proofs.rows.Decoding.{is_open}
 use Rattle.kernel_spec.proofs.rows.NoRow.{IsOther, other-row}
 use Rattle.kcall_core.proofs.kernel.Kernel.perform.Goals as goal
 

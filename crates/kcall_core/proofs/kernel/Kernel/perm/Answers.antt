@@ -1,5 +1,4 @@
-use Rattle.std.proofs.Common.{sym, ap, ◌∙◌}
-use Rattle.kcall_core.specs.Observers.{rights_in}
+use Rattle.kcall_core.proofs.Prelude.{◌∙◌, ap, rights_in, sym}
 use Rattle.kcall_core.proofs.table.Observed.{rights-told, live-has}
 use Rattle.kcall_core.proofs.kernel.Kernel.perm.Goals as goal
 

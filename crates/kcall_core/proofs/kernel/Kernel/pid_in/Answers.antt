@@ -1,6 +1,4 @@
-use Rattle.std.proofs.Common.{◌∙◌, sym}
-use Rattle.kernel_spec.specs.waking.Turns.{HasSlot, IsFreeSlot}
-use Rattle.kcall_core.specs.Machine.{turns_of}
+use Rattle.kcall_core.proofs.Prelude.{◌∙◌, HasSlot, IsFreeSlot, sym, turns_of}
 use Rattle.kcall_core.proofs.table.Told.{slot-held, slot-free, slot-past, if-some, if-none}
 use Rattle.kcall_core.proofs.kernel.Kernel.pid_in.Goals as goal
 

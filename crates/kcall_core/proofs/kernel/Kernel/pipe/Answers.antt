@@ -1,15 +1,5 @@
-use Rattle.std.proofs.Common.{sym, ap, subst, ◌∙◌}
-use Rattle.std.specs.Prelude.{is_none, position, nat_lt, ◌&&◌}
-use Rattle.xk_base.specs.Words.{least_below}
-use Rattle.xk_base.specs.declared.limits.TheConstants.{NOFILE}
-use Rattle.file_table.specs.Named.{named_by}
-use Rattle.proc_table.specs.Slots.{descriptors_at}
-use Rattle.kernel_spec.specs.rows.Calls.{make_pipe, refused}
-use Rattle.kernel_spec.specs.steps.Own.{Own}
-use Rattle.kernel_spec.proofs.rows.RowsByParts.{pipe_no_read, pipe_no_write}
-use Rattle.kcall_core.specs.Kernel.{state_of}
-use Rattle.kcall_core.specs.Makes.{Makes, view_now, answer_of}
-use Rattle.kcall_core.specs.declared.kernel.Kernel.{Kernel}
+use Rattle.kcall_core.proofs.Prelude.{◌&&◌, ◌∙◌, answer_of, ap, descriptors_at, is_none, Kernel, least_below, make_pipe, Makes, named_by, nat_lt, NOFILE, Own, pipe_no_read, pipe_no_write, position}
+use Rattle.kcall_core.proofs.Prelude.{refused, state_of, subst, sym, view_now}
 use Rattle.kcall_core.proofs.files.Lowest.{lowest-shown, above-shown}
 use Rattle.kcall_core.proofs.files.PipeMakes.{pipe-unready, pipe-ready}
 use Rattle.kcall_core.proofs.kernel.Kernel.pipe.Goals as goal

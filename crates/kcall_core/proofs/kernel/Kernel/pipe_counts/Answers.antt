@@ -1,4 +1,4 @@
-use Rattle.kcall_core.specs.Kernel.{state_of}
+use Rattle.kcall_core.proofs.Prelude.{state_of}
 use Rattle.kcall_core.proofs.kernel.Kernel.pipe_counts.Goals as goal
 
 pub returns : goal.returns

@@ -1,11 +1,4 @@
-use Rattle.std.proofs.Common.{◌≢◌, ◌∙◌, sym, ap, subst, refl, arith, ◌≡◌, length}
-use Rattle.std.proofs.lemmas.Bool.{ne_eqb}
-use Rattle.kernel_spec.specs.rows.Buffers.{writable_now}
-use Rattle.kcall_core.specs.Holdings.{held_at, HasMemory}
-use Rattle.kcall_core.specs.Memories.{each_of, free_of}
-use Rattle.kernel_spec.specs.views.View.{view_of}
-use Rattle.kcall_core.specs.Kernel.{state_of}
-use Rattle.kcall_core.specs.Makes.{answer_of}
+use Rattle.kcall_core.proofs.Prelude.{◌∙◌, ◌≡◌, ◌≢◌, answer_of, ap, arith, each_of, free_of, HasMemory, held_at, length, ne_eqb, refl, state_of, subst, sym, view_of, writable_now}
 use Rattle.kcall_core.proofs.table.States.{slot-inside}
 use Rattle.kcall_core.proofs.table.Stops.{now-slot}
 use Rattle.kcall_core.proofs.files.FileReads.{slot-memory}

@@ -1,5 +1,4 @@
-use Rattle.std.proofs.Common.{◌∙◌, sym, ap, subst, refl, IsSome, Some, w32, rules}
-use Rattle.std.proofs.lemmas.Int.{to_z-of_z}
+use Rattle.kcall_core.proofs.Prelude.{◌∙◌, ap, IsSome, refl, rules, Some, subst, sym, to_z-of_z, w32}
 use Rattle.kcall_core.proofs.table.Observed.{slot-found, pid-missing}
 use Rattle.kcall_core.proofs.table.Told.{zombie-told, alive-told, process-missing}
 use Rattle.kcall_core.specs.declared.kernel.observers.ProcessState.TheVariants as state

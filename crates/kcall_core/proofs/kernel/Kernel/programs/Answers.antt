@@ -1,5 +1,4 @@
-use Rattle.std.proofs.Common.{rules}
-use Rattle.kcall_core.specs.Kernel.{state_of}
+use Rattle.kcall_core.proofs.Prelude.{rules, state_of}
 use Rattle.kcall_core.proofs.kernel.Kernel.programs.Goals as goal
 
 pub returns : goal.returns

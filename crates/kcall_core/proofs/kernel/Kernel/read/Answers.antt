@@ -1,12 +1,5 @@
-use Rattle.std.proofs.Common.{pos, sym, ap, ◌∙◌, subst, refl}
-use Rattle.std.proofs.lemmas.Bool.{ne_eqb}
-use Rattle.std.specs.FinMap.{get}
-use Rattle.kernel_spec.specs.rows.Calls.{read, refused}
-use Rattle.kernel_spec.specs.views.Processes.{Live}
-use Rattle.kcall_core.specs.declared.kernel.Kernel.{Kernel}
+use Rattle.kcall_core.proofs.Prelude.{◌∙◌, answer_of, ap, get, Kernel, Live, Makes, ne_eqb, Own, pos, read, refl, refused, subst, sym, view_now}
 use Rattle.kcall_core.proofs.making.Touching.{files-stay}
-use Rattle.kernel_spec.specs.steps.Own.{Own}
-use Rattle.kcall_core.specs.Makes.{Makes, view_now, answer_of}
 use Rattle.kcall_core.proofs.making.CallAnswers.{done-at-once}
 use Rattle.kcall_core.proofs.files.MovingRows.{read-nothing, read-unready, read-ready}
 use Rattle.kcall_core.proofs.kernel.Kernel.read.Goals as goal

@@ -1,15 +1,5 @@
-use Rattle.std.proofs.Common.{sym, ap, ◌∙◌, w64, length, take, drop, map, arith}
-use Rattle.std.specs.Prelude.{slice_get}
-use Rattle.std.proofs.lemmas.Int.{to_z_pos}
-use Rattle.xk_base.specs.Bytes.{write_image}
-use Rattle.kernel_spec.specs.rows.Buffers.{writable_now}
-use Rattle.kcall_core.specs.Holdings.{held_at}
-use Rattle.kcall_core.specs.Memories.{each_of}
-use Rattle.kernel_spec.specs.steps.Own.{Called}
-use Rattle.kernel_spec.specs.views.Programs.{program_bytes}
-use Rattle.kernel_spec.specs.views.State.{named_file}
-use Rattle.kcall_core.specs.Kernel.{state_of}
-use Rattle.kcall_core.specs.Makes.{answer_of}
+use Rattle.kcall_core.proofs.Prelude.{◌∙◌, answer_of, ap, arith, Called, drop, each_of, held_at, length, map, named_file, program_bytes, slice_get, state_of, sym, take, to_z_pos, w64, writable_now}
+use Rattle.kcall_core.proofs.Prelude.{write_image}
 use Rattle.kcall_core.proofs.table.Stops.{now-slot}
 use Rattle.kcall_core.proofs.memory.PipeRest.{writable-fewer}
 use Rattle.kcall_core.proofs.files.FileReads.{slot-memory, few, is-open, file-sound, file-answer, file-done}

@@ -1,12 +1,8 @@
-use Rattle.std.proofs.Common.{sym, ap, ◌∙◌, subst, w64, refl}
-use Rattle.std.proofs.lemmas.Int.{to_z-of_z}
-use Rattle.proc_table.specs.declared.process.Call.{Call}
-use Rattle.proc_table.specs.declared.channel.Channel.TheVariants as on
-use Rattle.kernel_spec.specs.steps.Own.{Called}
-use Rattle.kcall_core.specs.Makes.{answer_of}
+use Rattle.kcall_core.proofs.Prelude.{◌∙◌, answer_of, ap, Call, Called, refl, subst, sym, to_z-of_z, w64}
 use Rattle.kcall_core.proofs.table.Stops.{now-slot}
 use Rattle.kcall_core.proofs.making.Midway.{IsAsleep}
 use Rattle.kcall_core.proofs.files.TerminalReads.{rest-there, keys-few, line-sound, ends-answer, line-done, waits-answer, line-waits}
+use Rattle.proc_table.specs.declared.channel.Channel.TheVariants as on
 use Rattle.kcall_core.proofs.kernel.Kernel.read_terminal.Goals as goal
 
 pub take_line-pull-requires-clause-writable : goal.take_line-pull-requires-clause-writable

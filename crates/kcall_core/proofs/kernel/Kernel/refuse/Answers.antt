@@ -1,5 +1,4 @@
-use Rattle.std.proofs.Common.{refl}
-use Rattle.kernel_spec.specs.views.Words.{minus_one}
+use Rattle.kcall_core.proofs.Prelude.{minus_one, refl}
 use Rattle.kcall_core.proofs.making.CallAnswers.{done-at-once}
 use Rattle.kcall_core.proofs.kernel.Kernel.refuse.Goals as goal
 

@@ -1,7 +1,4 @@
-use Rattle.std.proofs.Common.{◌≡◌, cond, Some, sym, ap, ◌∙◌}
-use Rattle.kcall_core.specs.Holdings.{held_at}
-use Rattle.kcall_core.specs.Memories.{each_of}
-use Rattle.kcall_core.specs.Kernel.{regs_at}
+use Rattle.kcall_core.proofs.Prelude.{◌∙◌, ◌≡◌, ap, cond, each_of, held_at, regs_at, Some, sym}
 use Rattle.kcall_core.proofs.table.Observed.{registers-told, live-has}
 use Rattle.kcall_core.proofs.kernel.Kernel.registers.Goals as goal
 

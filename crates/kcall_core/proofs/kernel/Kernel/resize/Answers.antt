@@ -1,4 +1,4 @@
-use Rattle.std.proofs.Common.{sym, ◌∙◌, arith}
+use Rattle.kcall_core.proofs.Prelude.{◌∙◌, arith, sym}
 use Rattle.kcall_core.proofs.making.Imaged.{image-shrunk, image-grown, image-too-dear, where-ok, where-err}
 use Rattle.kcall_core.proofs.kernel.Kernel.resize.Goals as goal
 

@@ -1,5 +1,4 @@
-use Rattle.std.proofs.Common.{◌≡◌, Some, sym, ◌∙◌}
-use Rattle.kcall_core.specs.Kernel.{live_now}
+use Rattle.kcall_core.proofs.Prelude.{◌∙◌, ◌≡◌, live_now, Some, sym}
 use Rattle.kcall_core.proofs.table.Stops.{now-slot}
 use Rattle.kcall_core.proofs.table.InCall.{call-told}
 use Rattle.kcall_core.proofs.making.CallAnswers.{resumed-made, resumed-answer}

@@ -1,4 +1,4 @@
-use Rattle.std.proofs.Common.{arith}
+use Rattle.kcall_core.proofs.Prelude.{arith}
 use Rattle.kcall_core.proofs.files.KnownBuffers.{room-known}
 use Rattle.kcall_core.proofs.making.Touching as making
 use Rattle.kcall_core.proofs.kernel.Kernel.room_is_there.Goals as goal

@@ -1,5 +1,4 @@
-use Rattle.std.proofs.Common.{refl, sym, subst}
-use Rattle.std.specs.Prelude.{IsSome}
+use Rattle.kcall_core.proofs.Prelude.{IsSome, refl, subst, sym}
 use Rattle.kcall_core.proofs.table.States.{slot-inside}
 use Rattle.kcall_core.proofs.table.Stops.{now-has, live-place}
 use Rattle.kcall_core.proofs.kernel.Kernel.running_slot.Goals as goal

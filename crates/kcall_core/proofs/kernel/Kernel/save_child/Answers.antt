@@ -1,4 +1,4 @@
-use Rattle.std.proofs.Common.{rules}
+use Rattle.kcall_core.proofs.Prelude.{rules}
 use Rattle.kcall_core.proofs.kernel.Kernel.save_child.Goals as goal
 
 pub returns-clause-saved : goal.returns-clause-saved

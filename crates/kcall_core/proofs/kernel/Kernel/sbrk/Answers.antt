@@ -1,7 +1,4 @@
-use Rattle.std.proofs.Common.{sym, ap, ◌∙◌, w32, w64}
-use Rattle.std.proofs.lemmas.Int.{to_z-of_z}
-use Rattle.kernel_spec.specs.steps.Own.{Own}
-use Rattle.kcall_core.specs.Makes.{answer_of}
+use Rattle.kcall_core.proofs.Prelude.{◌∙◌, answer_of, ap, Own, sym, to_z-of_z, w32, w64}
 use Rattle.kcall_core.proofs.making.Imaged.{image-same, image-makes}
 use Rattle.kcall_core.proofs.processes.SbrkRow.{row-size, row-answer, row-outside, row-too-dear, row-resized}
 use Rattle.kcall_core.proofs.kernel.Kernel.sbrk.Goals as goal

@@ -1,7 +1,4 @@
-use Rattle.std.proofs.Common.{sym, ap, ◌∙◌, subst, w32, w64}
-use Rattle.std.proofs.lemmas.Int.{to_z-of_z}
-use Rattle.kernel_spec.specs.steps.Own.{Own}
-use Rattle.kcall_core.specs.Makes.{Makes, answer_of}
+use Rattle.kcall_core.proofs.Prelude.{◌∙◌, answer_of, ap, Makes, Own, subst, sym, to_z-of_z, w32, w64}
 use Rattle.kcall_core.proofs.making.Imaged.{image-lazily, image-makes}
 use Rattle.kcall_core.proofs.processes.SbrkRow.{row-answer}
 use Rattle.kcall_core.proofs.processes.LazyRow.{lazy-size, row-lazily-refused, row-lazily}

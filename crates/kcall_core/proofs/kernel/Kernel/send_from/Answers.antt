@@ -1,10 +1,4 @@
-use Rattle.std.proofs.Common.{◌≤◌, ℕ, replicate, ap, ◌∙◌, arith}
-use Rattle.std.proofs.lemmas.List.{length-take-le}
-use Rattle.xk_base.specs.declared.access.Access.TheVariants.{Load}
-use Rattle.kernel_spec.specs.rows.Buffers.{readable}
-use Rattle.kernel_spec.proofs.memory.Bringing.{touching-fewer}
-use Rattle.kcall_core.specs.Holdings.{held_at}
-use Rattle.kcall_core.specs.Memories.{each_of}
+use Rattle.kcall_core.proofs.Prelude.{ℕ, ◌∙◌, ◌≤◌, ap, arith, each_of, held_at, length-take-le, Load, readable, replicate, touching-fewer}
 use Rattle.kcall_core.proofs.kernel.Kernel.send_from.Goals as goal
 
 pub read_tested-requires-clause-readable : goal.read_tested-requires-clause-readable

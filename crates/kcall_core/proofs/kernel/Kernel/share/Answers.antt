@@ -1,11 +1,4 @@
-use Rattle.std.proofs.Common.{◌≡◌, None, refl, sym, ap, ◌∙◌, subst}
-use Rattle.std.proofs.lemmas.Option.{none-some, same_Some}
-use Rattle.file_table.specs.declared.open_file.OpenFile.{OpenFile}
-use Rattle.file_table.specs.declared.open_file.Target.{Target}
-use Rattle.file_table.specs.declared.open_file.Target.TheVariants.{Console as Terminal, Program as File, Pipe as Pipe_end}
-use Rattle.kernel_spec.specs.others.Quiet.{pipe_of_target}
-use Rattle.kcall_core.specs.Sharings.{Joins}
-use Rattle.kcall_core.specs.declared.memories.Memories.{Memories}
+use Rattle.kcall_core.proofs.Prelude.{◌∙◌, ◌≡◌, ap, File, Joins, Memories, None, none-some, OpenFile, Pipe_end, pipe_of_target, refl, same_Some, subst, sym, Target, Terminal}
 use Rattle.kcall_core.proofs.kernel.Kernel.share.Goals as goal
 
 pub share-requires-clause-room : goal.share-requires-clause-room

@@ -1,6 +1,4 @@
-use Rattle.std.proofs.Common.{Some, sym, ap, ◌∙◌}
-use Rattle.std.specs.Prelude.{option_map}
-use Rattle.kernel_spec.specs.views.Processes.{Live}
+use Rattle.kcall_core.proofs.Prelude.{◌∙◌, ap, Live, option_map, Some, sym}
 use Rattle.kcall_core.proofs.table.Observed.{size-told, live-has}
 use Rattle.kcall_core.proofs.kernel.Kernel.size.Goals as goal
 

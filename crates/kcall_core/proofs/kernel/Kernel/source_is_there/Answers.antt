@@ -1,4 +1,4 @@
-use Rattle.std.proofs.Common.{sym, arith}
+use Rattle.kcall_core.proofs.Prelude.{arith, sym}
 use Rattle.kcall_core.proofs.files.KnownBuffers.{source-known}
 use Rattle.kcall_core.proofs.kernel.Kernel.source_is_there.Goals as goal
 

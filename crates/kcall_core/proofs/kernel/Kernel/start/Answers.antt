@@ -1,15 +1,7 @@
-use Rattle.std.proofs.Common.{◌≡◌, [], ◌∷◌, length, IsSome, Ok, Err, map, refl, sym, ap, ◌∙◌, subst}
+use Rattle.kcall_core.proofs.Prelude.{[], ◌∙◌, ◌∷◌, ◌≡◌, A0, A1, ap, Entry, Err, first_regs, free_of, fresh, init_name, init_of, IsSome, IsWhole, length, loaded, map, named_file, Ok, program_bytes}
+use Rattle.kcall_core.proofs.Prelude.{refl, SP, state_of, subst, sym, within_frames}
 use Rattle.std.proofs.lemmas.Result.{err_from_is_err_and}
-use Rattle.xk_base.specs.Loaded.{loaded}
-use Rattle.exec_core.specs.declared.planning.Entry.{Entry}
-use Rattle.rv64i_core.specs.Registers.{fresh, put}
-use Rattle.kernel_spec.specs.views.Words.{SP, A0, A1}
-use Rattle.kernel_spec.specs.runs.First.{first_regs, within_frames}
-use Rattle.kernel_spec.specs.views.Programs.{init_name, init_of, program_bytes}
-use Rattle.kernel_spec.specs.views.State.{named_file}
-use Rattle.kcall_core.specs.Memories.{free_of}
-use Rattle.kcall_core.specs.Kernel.{state_of}
-use Rattle.kcall_core.specs.Whole.{IsWhole}
+use Rattle.rv64i_core.specs.Registers.{put}
 use Rattle.kcall_core.proofs.table.Starting.{blank-vacant, slot-zero, first-has, Begins, begins}
 use Rattle.kcall_core.proofs.table.FirstWhole.{begun-whole, begun-world}
 use Rattle.kcall_core.proofs.table.Deserted.{console-within}

@@ -1,4 +1,4 @@
-use Rattle.kcall_core.specs.Kernel.{slot_now}
+use Rattle.kcall_core.proofs.Prelude.{slot_now}
 use Rattle.kcall_core.proofs.table.States.{running}
 use Rattle.kcall_core.proofs.making.TouchedSteps.{tried, plain-stop, plain-done, plain-stays, plain-same, made-before, stop-before, stays-there, runs-there}
 use Rattle.kcall_core.proofs.kernel.Kernel.step.Goals as goal

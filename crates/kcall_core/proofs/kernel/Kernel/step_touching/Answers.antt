@@ -1,5 +1,4 @@
-use Rattle.std.proofs.Common.{refl, sym, ◌∙◌}
-use Rattle.kcall_core.specs.Kernel.{slot_now}
+use Rattle.kcall_core.proofs.Prelude.{◌∙◌, refl, slot_now, sym}
 use Rattle.kcall_core.proofs.table.States.{running}
 use Rattle.kcall_core.proofs.making.TouchedSteps.{other-fault, untouched-fault, touched-next, touched-stop, touched-free, touched-makes}
 use Rattle.kcall_core.proofs.kernel.Kernel.step_touching.Goals as goal

@@ -1,5 +1,4 @@
-use Rattle.std.proofs.Common.{arith}
-use Rattle.kcall_core.specs.Kernel.{slot_now}
+use Rattle.kcall_core.proofs.Prelude.{arith, slot_now}
 use Rattle.kcall_core.proofs.table.States.{running}
 use Rattle.kcall_core.proofs.making.Series.{stretch, ended, fault-fewer, fault-tried, fault-ends, fault-done, all-made}
 use Rattle.kcall_core.proofs.kernel.Kernel.steps.Goals as goal

@@ -1,4 +1,4 @@
-use Rattle.std.proofs.Common.{◌-◌}
+use Rattle.kcall_core.proofs.Prelude.{◌-◌}
 use Rattle.kcall_core.proofs.making.Series.{IsMade}
 use Rattle.kcall_core.proofs.kernel.Kernel.steps.Given as goal
 

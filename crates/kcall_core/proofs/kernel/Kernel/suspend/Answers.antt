@@ -1,5 +1,4 @@
-use Rattle.std.proofs.Common.{ap, ◌∙◌}
-use Rattle.hart_core.specs.declared.hart.Hart.{Hart}
+use Rattle.kcall_core.proofs.Prelude.{◌∙◌, ap, Hart}
 use Rattle.kcall_core.proofs.table.Stops.{left-sound, left-state}
 use Rattle.kcall_core.proofs.kernel.Kernel.suspend.Goals as goal
 

@@ -1,16 +1,5 @@
-use Rattle.std.proofs.Common.{◌≡◌, ◌≤◌, ℕ, List, length, take, replicate, Some, ap, ◌∙◌, subst, arith}
-use Rattle.std.specs.Prelude.{nat_eq}
-use Rattle.std.proofs.lemmas.List.{length-take-le}
-use Rattle.xk_base.specs.Bytes.{write_image}
-use Rattle.xk_base.specs.declared.access.Access.TheVariants.{Store}
-use Rattle.user_copy.proofs.Ranges.{reaches-fewer}
-use Rattle.console_core.specs.Lists.{Console}
-use Rattle.console_core.specs.Reads.{Pulled}
-use Rattle.kernel_spec.specs.rows.Buffers.{writable_now}
-use Rattle.kernel_spec.specs.rows.Terminal.{without_line}
-use Rattle.kcall_core.specs.Holdings.{held_at, with_image}
-use Rattle.kcall_core.specs.Memories.{each_of, SlotChanges}
-use Rattle.kcall_core.specs.declared.kernel.Kernel.{Kernel}
+use Rattle.kcall_core.proofs.Prelude.{ℕ, ◌∙◌, ◌≡◌, ◌≤◌, ap, arith, Console, each_of, held_at, Kernel, length, length-take-le, List, nat_eq, Pulled, reaches-fewer, replicate, SlotChanges, Some, Store}
+use Rattle.kcall_core.proofs.Prelude.{subst, take, with_image, without_line, writable_now, write_image}
 use Rattle.kcall_core.proofs.files.LineRoom.{line-pulled, front-is, front-long}
 use Rattle.kcall_core.proofs.kernel.Kernel.take_line.Goals as goal
 

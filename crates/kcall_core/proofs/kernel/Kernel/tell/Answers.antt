@@ -1,4 +1,4 @@
-use Rattle.std.proofs.Common.{rules}
+use Rattle.kcall_core.proofs.Prelude.{rules}
 use Rattle.kcall_core.proofs.table.Stops.{now-has}
 use Rattle.kcall_core.proofs.processes.WaitRows.{told-nothing, told-status}
 use Rattle.kcall_core.proofs.kernel.Kernel.tell.Goals as goal

@@ -1,4 +1,4 @@
-use Rattle.std.proofs.Common.{sym, ◌∙◌}
+use Rattle.kcall_core.proofs.Prelude.{◌∙◌, sym}
 use Rattle.kcall_core.proofs.table.Stops.{now-has}
 use Rattle.kcall_core.proofs.making.Touching as making
 use Rattle.kcall_core.proofs.kernel.Kernel.touch_buffer.Goals as goal

@@ -1,8 +1,4 @@
-use Rattle.std.proofs.Common.{◌≡◌, ◌+◌, ◌/◌, ◌<◌, true, false, Some, inl, inr, sym, subst, arith}
-use Rattle.xk_base.specs.Image.{price}
-use Rattle.addr_space.specs.Absent.{is_absent, bring, brought}
-use Rattle.kcall_core.specs.Holdings.{held_at, with_image}
-use Rattle.kcall_core.specs.Memories.{each_of, free_of, SlotChanges}
+use Rattle.kcall_core.proofs.Prelude.{◌+◌, ◌/◌, ◌<◌, ◌≡◌, arith, bring, brought, each_of, false, free_of, held_at, inl, inr, is_absent, price, SlotChanges, Some, subst, sym, true, with_image}
 use Rattle.kcall_core.proofs.making.Touching.{page-came, page-absent, page-dear}
 use Rattle.kcall_core.proofs.kernel.Kernel.touch_page.Goals as goal
 

@@ -1,8 +1,4 @@
-use Rattle.std.proofs.Common.{sym, ap, ◌∙◌, w32}
-use Rattle.std.proofs.lemmas.Int.{to_z-of_z}
-use Rattle.file_table.specs.Named.{named_by}
-use Rattle.kernel_spec.specs.views.Words.{c_int}
-use Rattle.kcall_core.specs.Makes.{view_now}
+use Rattle.kcall_core.proofs.Prelude.{◌∙◌, ap, c_int, named_by, sym, to_z-of_z, view_now, w32}
 use Rattle.kcall_core.proofs.processes.Exits.{whole-closing}
 use Rattle.kcall_core.proofs.files.OneClosed.{used-open}
 use Rattle.kcall_core.proofs.table.States.{slot-inside}

@@ -1,9 +1,4 @@
-use Rattle.std.proofs.Common.{◌≡◌, ℕ, length, Some, refl, sym, ap, ◌∙◌, subst}
-use Rattle.std.specs.Prelude.{IsSome}
-use Rattle.std.proofs.lemmas.Option.{same_Some, none-some}
-use Rattle.proc_table.specs.Slots.{Slots, place_at, pid_at}
-use Rattle.kcall_core.specs.Memories.{RunsIn}
-use Rattle.kcall_core.specs.declared.kernel.Kernel.{Kernel}
+use Rattle.kcall_core.proofs.Prelude.{ℕ, ◌∙◌, ◌≡◌, ap, IsSome, Kernel, length, none-some, pid_at, place_at, refl, RunsIn, same_Some, Slots, Some, subst, sym}
 use Rattle.kcall_core.proofs.turns.Chosen.{chosen, noted-sound, noted-state}
 use Rattle.kcall_core.proofs.turns.NextTurn.{runs-in, with_turn, nobody, turned-whole, turned-world, turned-nearest}
 use Rattle.kcall_core.proofs.kernel.Kernel.turn.Goals as goal

@@ -1,11 +1,4 @@
-use Rattle.std.proofs.Common.{◌∙◌, sym, ap, subst}
-use Rattle.proc_table.specs.Reaping.{HasChild, HasNoChild}
-use Rattle.kernel_spec.specs.rows.Calls.{wait, refused}
-use Rattle.kernel_spec.specs.steps.Own.{Own}
-use Rattle.kernel_spec.specs.views.Processes.{Live}
-use Rattle.kcall_core.specs.Makes.{Makes, view_now, answer_of}
-use Rattle.kcall_core.specs.Touched.{IsReady, IsUnready}
-use Rattle.kcall_core.specs.declared.kernel.Kernel.{Kernel}
+use Rattle.kcall_core.proofs.Prelude.{◌∙◌, answer_of, ap, HasChild, HasNoChild, IsReady, IsUnready, Kernel, Live, Makes, Own, refused, subst, sym, view_now, wait}
 use Rattle.kcall_core.proofs.table.Stops.{now-slot}
 use Rattle.kcall_core.proofs.turns.Chosen.{pid-told}
 use Rattle.kcall_core.proofs.processes.WaitRows.{no-child, wait-unready, wait-ready, told-room}

@@ -1,16 +1,5 @@
-use Rattle.std.proofs.Common.{◌∙◌, ℕ, pos, sym, ap, subst, refl, w32, w64, rules}
-use Rattle.std.specs.Prelude.{is_some}
-use Rattle.std.proofs.lemmas.Int.{to_z-of_z}
-use Rattle.proc_table.specs.Slots.{Slots}
-use Rattle.proc_table.specs.Reaping.{HasChild, HasNoChild, HasNoneEnded, TakesLeast}
-use Rattle.proc_table.specs.declared.channel.Channel.TheVariants as on
-use Rattle.proc_table.specs.declared.process.Call.{Call}
-use Rattle.kernel_spec.specs.views.Words.{minus_one}
-use Rattle.kernel_spec.specs.steps.Updates.{told_image}
-use Rattle.kcall_core.specs.Kernel.{HasImage, live_now}
-use Rattle.kcall_core.specs.declared.kernel.Kernel.{Kernel}
-use Rattle.kernel_spec.specs.steps.Own.{Own, Called}
-use Rattle.kcall_core.specs.Makes.{Makes, answer_of}
+use Rattle.kcall_core.proofs.Prelude.{ℕ, ◌∙◌, answer_of, ap, Call, Called, HasChild, HasImage, HasNoChild, HasNoneEnded, is_some, Kernel, live_now, Makes, minus_one, Own, pos, refl, rules, Slots}
+use Rattle.kcall_core.proofs.Prelude.{subst, sym, TakesLeast, to_z-of_z, told_image, w32, w64}
 use Rattle.kcall_core.proofs.table.Stops.{now-slot}
 use Rattle.kcall_core.proofs.turns.Chosen.{noted, pid-told}
 use Rattle.kcall_core.proofs.making.CallAnswers.{IsDone, done-at-once}
@@ -18,6 +7,7 @@ use Rattle.kcall_core.proofs.making.Midway.{IsAsleep}
 use Rattle.kcall_core.proofs.processes.WaitRows.{room-told, childless-row, waiting-row}
 use Rattle.kcall_core.proofs.processes.WaitMakes.{reaped-sound, wait-makes, gone-answer}
 use Rattle.kcall_core.proofs.processes.WaitSleeps.{wait-waits, waits-answer}
+use Rattle.proc_table.specs.declared.channel.Channel.TheVariants as on
 use Rattle.kcall_core.proofs.kernel.Kernel.wait_ready.Goals as goal
 
 pub returns-in-NoChild-clause-made : goal.returns-in-NoChild-clause-made

@@ -1,4 +1,4 @@
-use Rattle.std.proofs.Common.{refl}
+use Rattle.kcall_core.proofs.Prelude.{refl}
 use Rattle.kcall_core.proofs.table.Adopted.{woken-state, woken-sound}
 use Rattle.kcall_core.proofs.kernel.Kernel.wake.Goals as goal
 

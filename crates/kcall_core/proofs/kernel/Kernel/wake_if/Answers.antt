@@ -1,6 +1,4 @@
-use Rattle.std.proofs.Common.{◌&&◌, ◌∙◌}
-use Rattle.proc_table.specs.Channels.{same_channel}
-use Rattle.kcall_core.specs.Closings.{wakes_if}
+use Rattle.kcall_core.proofs.Prelude.{◌&&◌, ◌∙◌, same_channel, wakes_if}
 use Rattle.kcall_core.proofs.table.Woken.{each-none, each-woken}
 use Rattle.kcall_core.proofs.kernel.Kernel.wake_if.Goals as goal
 

@@ -1,10 +1,4 @@
-use Rattle.std.proofs.Common.{pos, sym, ap, ◌∙◌, subst, refl}
-use Rattle.std.proofs.lemmas.Bool.{ne_eqb}
-use Rattle.kernel_spec.specs.rows.Buffers.{readable}
-use Rattle.kcall_core.specs.Holdings.{held_at}
-use Rattle.kcall_core.specs.Memories.{each_of}
-use Rattle.kernel_spec.specs.steps.Own.{Own}
-use Rattle.kcall_core.specs.Makes.{Makes, answer_of}
+use Rattle.kcall_core.proofs.Prelude.{◌∙◌, answer_of, ap, each_of, held_at, Makes, ne_eqb, Own, pos, readable, refl, subst, sym}
 use Rattle.kcall_core.proofs.table.Stops.{now-slot}
 use Rattle.kcall_core.proofs.making.CallAnswers.{done-at-once}
 use Rattle.kcall_core.proofs.files.MovingRows.{write-nothing, write-absent}

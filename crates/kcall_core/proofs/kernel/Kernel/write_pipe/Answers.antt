@@ -1,17 +1,8 @@
-use Rattle.std.proofs.Common.{◌+◌, sym, ap, ◌∙◌, subst, w64, refl, arith}
-use Rattle.std.specs.Prelude.{nat_eq}
-use Rattle.std.proofs.lemmas.Int.{to_z_pos}
-use Rattle.file_table.specs.declared.open_file.End.TheVariants.{Reading}
-use Rattle.proc_table.specs.declared.process.Call.{Call}
-use Rattle.proc_table.specs.declared.channel.Channel.TheVariants as on
-use Rattle.kernel_spec.specs.steps.Own.{Own, Called}
-use Rattle.kernel_spec.specs.views.PipeEnds.{count_on, fit}
-use Rattle.kcall_core.specs.Holdings.{pipe_named}
-use Rattle.kcall_core.specs.Memories.{pipes_of}
-use Rattle.kcall_core.specs.Makes.{Makes, answer_of}
+use Rattle.kcall_core.proofs.Prelude.{◌+◌, ◌∙◌, answer_of, ap, arith, Call, Called, count_on, fit, Makes, nat_eq, Own, pipe_named, pipes_of, Reading, refl, subst, sym, to_z_pos, w64}
 use Rattle.kcall_core.proofs.table.Stops.{now-slot}
 use Rattle.kcall_core.proofs.making.Midway.{IsAsleep}
 use Rattle.kcall_core.proofs.files.PipeWrites.{pipe-there, pipe-is, is-refused, rest-there, write-sound, ends-answer, write-done, waits-answer, write-waits}
+use Rattle.proc_table.specs.declared.channel.Channel.TheVariants as on
 use Rattle.kcall_core.proofs.kernel.Kernel.write_pipe.Goals as goal
 
 pub is_closed-requires-clause-there : goal.is_closed-requires-clause-there

@@ -1,12 +1,8 @@
-use Rattle.std.proofs.Common.{sym, ap, ◌∙◌, subst, w64, arith, refl}
-use Rattle.std.proofs.lemmas.Int.{to_z_pos}
-use Rattle.proc_table.specs.declared.process.Call.{Call}
-use Rattle.proc_table.specs.declared.channel.Channel.TheVariants as on
-use Rattle.kernel_spec.specs.steps.Own.{Called}
-use Rattle.kcall_core.specs.Makes.{answer_of}
+use Rattle.kcall_core.proofs.Prelude.{◌∙◌, answer_of, ap, arith, Call, Called, refl, subst, sym, to_z_pos, w64}
 use Rattle.kcall_core.proofs.table.Stops.{now-slot}
 use Rattle.kcall_core.proofs.making.Midway.{IsAsleep}
 use Rattle.kcall_core.proofs.files.TerminalWrites.{rest-there, ends-answer, send-done, waits-answer, send-waits}
+use Rattle.proc_table.specs.declared.channel.Channel.TheVariants as on
 use Rattle.kcall_core.proofs.kernel.Kernel.write_terminal.Goals as goal
 
 pub send_from-count-requires-clause-readable : goal.send_from-count-requires-clause-readable

@@ -1,6 +1,4 @@
-use Rattle.std.proofs.Common.{sym, ap, ◌∙◌, subst}
-use Rattle.kernel_spec.specs.steps.Own.{Own}
-use Rattle.kcall_core.specs.Makes.{Makes, answer_of}
+use Rattle.kcall_core.proofs.Prelude.{◌∙◌, answer_of, ap, Makes, Own, subst, sym}
 use Rattle.kcall_core.proofs.files.MovingRows.{writes-pipe, program-refused}
 use Rattle.kcall_core.proofs.kernel.Kernel.write_to.Goals as goal
 

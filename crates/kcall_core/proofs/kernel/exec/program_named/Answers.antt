@@ -1,9 +1,4 @@
-use Rattle.std.proofs.Common.{rules, ◌≡◌, ap, ◌∙◌}
-use Rattle.std.specs.Prelude.{find, option_copied, option_map, bytes_eq}
-use Rattle.std.proofs.lemmas.Iterator.{YieldsList-from_slice}
-use Rattle.std.proofs.lemmas.Iterator.Search.{find_from_yields_List}
-use Rattle.xk_base.specs.declared.program.Program.{Program}
-use Rattle.kernel_spec.specs.views.State.{named_file}
+use Rattle.kcall_core.proofs.Prelude.{◌∙◌, ◌≡◌, ap, bytes_eq, find, find_from_yields_List, named_file, option_copied, option_map, Program, rules, YieldsList-from_slice}
 use Rattle.kcall_core.proofs.processes.Asking.{found-among}
 use Rattle.kcall_core.proofs.kernel.exec.program_named.Goals as goal
 

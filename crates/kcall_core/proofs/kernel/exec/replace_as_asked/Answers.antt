@@ -1,13 +1,6 @@
-use Rattle.std.proofs.Common.{◌≡◌, true, false, rules, [], take, refl, sym, ap, ◌∙◌, arith}
-use Rattle.std.specs.Prelude.{map}
-use Rattle.xk_base.specs.Loaded.{loaded}
-use Rattle.kernel_spec.specs.views.Programs.{program_named}
-use Rattle.kernel_spec.specs.views.State.{named_file}
-use Rattle.kcall_core.specs.Holdings.{held_at}
-use Rattle.kcall_core.specs.Memories.{each_of}
+use Rattle.kcall_core.proofs.Prelude.{[], ◌∙◌, ◌≡◌, ap, arith, Asks, each_of, false, held_at, loaded, map, named_file, program_named, refl, rules, sym, take, true}
 use Rattle.kcall_core.proofs.memory.Births.{untraded}
 use Rattle.kcall_core.proofs.memory.Changes.{same-if}
-use Rattle.kernel_spec.specs.rows.Execs.{Asks}
 use Rattle.kcall_core.proofs.processes.Asking.{loaded-fits}
 use Rattle.kcall_core.proofs.kernel.exec.replace_as_asked.Goals as goal
 

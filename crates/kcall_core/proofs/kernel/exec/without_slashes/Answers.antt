@@ -1,6 +1,4 @@
-use Rattle.std.proofs.Common.{rules, ◌≡◌, ◌≢◌, ℕ, ◌-◌, ◌<◌, length, drop, ◌∙◌, arith}
-use Rattle.std.specs.Prelude.{slice_index}
-use Rattle.std.proofs.lemmas.List.{length-drop, take_all}
+use Rattle.kcall_core.proofs.Prelude.{ℕ, ◌-◌, ◌<◌, ◌∙◌, ◌≡◌, ◌≢◌, arith, drop, length, length-drop, rules, slice_index, take_all}
 use Rattle.kcall_core.proofs.processes.Asking.{slashes-gone, slashes-only}
 use Rattle.kcall_core.proofs.kernel.exec.without_slashes.Goals as goal
 

@@ -1,4 +1,4 @@
-use Rattle.std.proofs.Common.{rules}
+use Rattle.kcall_core.proofs.Prelude.{rules}
 use Rattle.kcall_core.proofs.kernel.kill.asked_pid.Goals as goal
 
 pub returns : goal.returns

@@ -1,10 +1,4 @@
-use Rattle.std.proofs.Common.{rules, ◌≡◌, ◌∙◌}
-use Rattle.std.specs.Prelude.{bytes_eq}
-use Rattle.std.specs.List.{position_from}
-use Rattle.std.proofs.lemmas.Iterator.{YieldsList-from_slice}
-use Rattle.std.proofs.lemmas.Iterator.Adapters.{position_from-zero}
-use Rattle.std.proofs.lemmas.Iterator.Search.{position_from_yields_List}
-use Rattle.xk_base.specs.declared.program.Program.{Program}
+use Rattle.kcall_core.proofs.Prelude.{◌∙◌, ◌≡◌, bytes_eq, position_from, position_from-zero, position_from_yields_List, Program, rules, YieldsList-from_slice}
 use Rattle.kcall_core.proofs.files.OpenRows.{place-among}
 use Rattle.kcall_core.proofs.kernel.opening.place_named.Goals as goal
 

@@ -1,6 +1,4 @@
-use Rattle.std.proofs.Common.{Option, None, Some}
-use Rattle.std.specs.Prelude.{IfNone}
-use Rattle.std.proofs.lemmas.Option.{IfSome_then}
+use Rattle.kcall_core.proofs.Prelude.{IfNone, IfSome_then, None, Option, Some}
 use Rattle.kcall_core.proofs.kernel.pipe.pipe_end_of.Goals as goal
 
 -- what follows where there is no value

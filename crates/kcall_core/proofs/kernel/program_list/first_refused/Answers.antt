@@ -1,9 +1,5 @@
-use Rattle.std.proofs.Common.{◌≡◌, ◌∙◌, length, map, sym, subst, None, arith}
-use Rattle.std.proofs.lemmas.List.{length-map}
-use Rattle.xk_base.specs.Words.{least_below}
-use Rattle.xk_base.proofs.Least.{least_below-zero, least_below-next, least_below-found}
-use Rattle.kernel_spec.specs.views.State.{named_file}
-use Rattle.kernel_spec.specs.views.Programs.{is_bad_program, first_bad}
+use Rattle.kcall_core.proofs.Prelude.{◌∙◌, ◌≡◌, arith, first_bad, is_bad_program, least_below, least_below-found, least_below-next, least_below-zero, length, length-map, map, named_file, None, subst}
+use Rattle.kcall_core.proofs.Prelude.{sym}
 use Rattle.kcall_core.proofs.kernel.program_list.first_refused.Goals as goal
 
 pub loop-i-init : goal.loop-i-init

@@ -1,7 +1,4 @@
-use Rattle.std.proofs.Common.{◌≡◌, None, map}
-use Rattle.xk_base.specs.Words.{least_below}
-use Rattle.kernel_spec.specs.views.State.{named_file}
-use Rattle.kernel_spec.specs.views.Programs.{is_bad_program}
+use Rattle.kcall_core.proofs.Prelude.{◌≡◌, is_bad_program, least_below, map, named_file, None}
 use Rattle.kcall_core.proofs.kernel.program_list.first_refused.Given as goal
 
 -- no program so far is refused

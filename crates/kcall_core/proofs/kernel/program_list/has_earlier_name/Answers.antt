@@ -1,8 +1,4 @@
-use Rattle.std.proofs.Common.{◌∙◌, sym, ap, map}
-use Rattle.std.specs.Prelude.{is_some}
-use Rattle.xk_base.proofs.Least.{least_below-zero, least_below-next, least_below-found}
-use Rattle.kernel_spec.specs.views.State.{named_file}
-use Rattle.kernel_spec.specs.views.Programs.{same_name}
+use Rattle.kcall_core.proofs.Prelude.{◌∙◌, ap, is_some, least_below-found, least_below-next, least_below-zero, map, named_file, same_name, sym}
 use Rattle.kcall_core.proofs.kernel.program_list.has_earlier_name.Goals as goal
 
 pub loop-k-init : goal.loop-k-init

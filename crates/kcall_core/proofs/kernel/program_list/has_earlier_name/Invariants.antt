@@ -1,7 +1,4 @@
-use Rattle.std.proofs.Common.{◌≡◌, None, map}
-use Rattle.xk_base.specs.Words.{least_below}
-use Rattle.kernel_spec.specs.views.State.{named_file}
-use Rattle.kernel_spec.specs.views.Programs.{same_name}
+use Rattle.kcall_core.proofs.Prelude.{◌≡◌, least_below, map, named_file, None, same_name}
 use Rattle.kcall_core.proofs.kernel.program_list.has_earlier_name.Given as goal
 
 -- no program so far has the name

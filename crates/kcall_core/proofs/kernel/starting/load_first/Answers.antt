@@ -1,8 +1,4 @@
-use Rattle.std.proofs.Common.{◌≡◌, [], ◌∷◌, Option, Some, Ok, sym, ap, ◌∙◌}
-use Rattle.std.specs.Prelude.{map, option_copied, option_map}
-use Rattle.xk_base.specs.Loaded.{loaded}
-use Rattle.kernel_spec.specs.views.Programs.{init_name, init_of, program_bytes, program_named}
-use Rattle.kernel_spec.specs.views.State.{ProgramFile, named_file}
+use Rattle.kcall_core.proofs.Prelude.{[], ◌∙◌, ◌∷◌, ◌≡◌, ap, init_name, init_of, loaded, map, named_file, Ok, Option, option_copied, option_map, program_bytes, program_named, ProgramFile, Some, sym}
 use Rattle.kcall_core.proofs.processes.Asking.{loaded-fits}
 use Rattle.kcall_core.proofs.kernel.starting.load_first.Goals as goal
 

@@ -1,8 +1,4 @@
-use Rattle.std.proofs.Common.{◌≡◌, ◌&&◌, Some, sym, ap, ◌∙◌, arith}
-use Rattle.std.specs.Prelude.{is_none, nat_lt}
-use Rattle.xk_base.proofs.Least.{least_below-zero, least_below-next, least_below-found}
-use Rattle.file_table.specs.Named.{named_by}
-use Rattle.proc_table.specs.Slots.{descriptors_at}
+use Rattle.kcall_core.proofs.Prelude.{◌&&◌, ◌∙◌, ◌≡◌, ap, arith, descriptors_at, is_none, least_below-found, least_below-next, least_below-zero, named_by, nat_lt, Some, sym}
 use Rattle.kcall_core.proofs.kernel.sysfile.lowest_above.Goals as goal
 
 pub loop-number-init : goal.loop-number-init

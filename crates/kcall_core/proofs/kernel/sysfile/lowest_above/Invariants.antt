@@ -1,8 +1,4 @@
-use Rattle.std.proofs.Common.{◌≡◌, ◌&&◌, None}
-use Rattle.std.specs.Prelude.{is_none, nat_lt}
-use Rattle.xk_base.specs.Words.{least_below}
-use Rattle.file_table.specs.Named.{named_by}
-use Rattle.proc_table.specs.Slots.{descriptors_at}
+use Rattle.kcall_core.proofs.Prelude.{◌&&◌, ◌≡◌, descriptors_at, is_none, least_below, named_by, nat_lt, None}
 use Rattle.kcall_core.proofs.kernel.sysfile.lowest_above.Given as goal
 
 -- no number so far is free and above it

@@ -1,10 +1,4 @@
-use Rattle.std.proofs.Common.{◌/◌, sym, ap, ◌∙◌, arith}
-use Rattle.xk_base.specs.Image.{Image}
-use Rattle.addr_space.specs.Absent.{is_absent}
-use Rattle.addr_space.specs.Space.{image_of}
-use Rattle.kcall_core.specs.Holdings.{held_at}
-use Rattle.kcall_core.specs.Memories.{each_of}
-use Rattle.kernel_spec.proofs.memory.Bringing.{high-present}
+use Rattle.kcall_core.proofs.Prelude.{◌/◌, ◌∙◌, ap, arith, each_of, held_at, high-present, Image, image_of, is_absent, sym}
 use Rattle.kcall_core.proofs.memory.Changes.{image-seen}
 use Rattle.kcall_core.proofs.memory.Written.{whole-of, size-seen}
 use Rattle.kcall_core.proofs.memories.Memories.absent_page.Goals as goal

@@ -1,6 +1,4 @@
-use Rattle.std.proofs.Common.{Some, refl, sym, ap, ◌∙◌, arith}
-use Rattle.xk_base.specs.Image.{price}
-use Rattle.kcall_core.specs.Memories.{free_of}
+use Rattle.kcall_core.proofs.Prelude.{◌∙◌, ap, arith, free_of, price, refl, Some, sym}
 use Rattle.kcall_core.proofs.memory.Changes.{there-below, there-some, stands, belongs-of, image-seen, space-changes}
 use Rattle.kcall_core.proofs.memory.Lists.{set-twice}
 use Rattle.kcall_core.proofs.memory.Runs.{runs-on}

@@ -1,20 +1,12 @@
-use Rattle.std.proofs.Common.{List, set, Option, Some, None, refl, sym, ap, ◌∙◌, arith}
-use Rattle.std.specs.FinMap.{get}
+use Rattle.kcall_core.proofs.Prelude.{◌∙◌, absent-not-there, ap, arith, each_of, free_of, get, held_at, Image, image_of, List, Memory, None, Option, price, refl, set, Some, Space, sym, with_page}
+use Rattle.kcall_core.proofs.Prelude.{zeroed}
 use Rattle.std.specs.Vec.{with_item}
-use Rattle.xk_base.specs.Image.{Image, price, with_page}
-use Rattle.addr_space.specs.Changes.{zeroed}
-use Rattle.addr_space.specs.Space.{image_of}
-use Rattle.addr_space.specs.declared.Space.{Space}
-use Rattle.kcall_core.specs.declared.memories.Memory.{Memory}
-use Rattle.kcall_core.specs.Holdings.{held_at}
-use Rattle.kcall_core.specs.Memories.{each_of, free_of}
 use Rattle.kcall_core.proofs.memory.Changes.{there-below, there-some, stands, belongs-of, image-seen, space-changes}
 use Rattle.kcall_core.proofs.memory.Lists.{set-twice, set-read}
 use Rattle.kcall_core.proofs.memory.Vectors.{vec-same}
 use Rattle.kcall_core.proofs.memory.Runs.{grown-runs}
 use Rattle.kcall_core.proofs.memory.Written.{bring-seen, if-fine, if-refused}
 use Rattle.kcall_core.proofs.memories.Memories.bring_page.Goals as goal
-use Rattle.kernel_spec.proofs.rows.Settled.{absent-not-there}
 
 pub index_mut-requires : goal.index_mut-requires
 index_mut-requires c = there-below _ _ c.requires.there

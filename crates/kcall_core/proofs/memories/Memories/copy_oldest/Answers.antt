@@ -1,11 +1,4 @@
-use Rattle.std.proofs.Common.{length, take, refl, sym, ap, ◌∙◌, arith}
-use Rattle.xk_base.specs.Image.{Image}
-use Rattle.xk_base.specs.declared.access.Access.TheVariants.{Store}
-use Rattle.xk_base.specs.Bytes.{write_image}
-use Rattle.user_copy.proofs.Ranges.{reached-mapped}
-use Rattle.kernel_spec.specs.rows.Buffers.{writable_now}
-use Rattle.kcall_core.specs.Memories.{each_of, pipes_of, free_of}
-use Rattle.kcall_core.specs.Holdings.{held_at, pipe_named}
+use Rattle.kcall_core.proofs.Prelude.{◌∙◌, ap, arith, each_of, free_of, held_at, Image, length, pipe_named, pipes_of, reached-mapped, refl, Store, sym, take, writable_now, write_image}
 use Rattle.kcall_core.proofs.memory.Changes.{there-held, stood, image-seen, belongs-of, space-changes}
 use Rattle.kcall_core.proofs.memory.PipeEdges.{is-pipe}
 use Rattle.kcall_core.proofs.memory.PipeMoves.{pipe-no-page, bytes-named}

@@ -1,9 +1,4 @@
-use Rattle.std.proofs.Common.{[], List, ℕ, sym, ap, ◌∙◌, refl, length}
-use Rattle.xk_base.specs.Image.{Image}
-use Rattle.xk_base.specs.Bytes.{write_image}
-use Rattle.frame_list.specs.Pool.{free_in}
-use Rattle.kernel_spec.specs.rows.Buffers.{writable_now}
-use Rattle.kcall_core.specs.Memories.{free_of}
+use Rattle.kcall_core.proofs.Prelude.{[], ℕ, ◌∙◌, ap, free_in, free_of, Image, length, List, refl, sym, writable_now, write_image}
 use Rattle.kcall_core.proofs.memory.Births.{untraded}
 use Rattle.kcall_core.proofs.memory.Changes.{there-held, stood, image-seen, belongs-of, space-changes, same-if}
 use Rattle.kcall_core.proofs.memory.Written.{ok-map, ok-both, err-map, either, whole-of, each-stays, free-stays, written-runs, unwritten-runs}

@@ -1,5 +1,4 @@
-use Rattle.std.proofs.Common.{length, ap, ◌∙◌}
-use Rattle.pipe_core.specs.Pipe.{Pipe}
+use Rattle.kcall_core.proofs.Prelude.{◌∙◌, ap, length, Pipe}
 use Rattle.kcall_core.proofs.memory.PipeEdges.{is-pipe, named-in}
 use Rattle.kcall_core.proofs.memory.PipesTold.{pipe-below}
 use Rattle.kcall_core.proofs.memories.Memories.count.Goals as goal

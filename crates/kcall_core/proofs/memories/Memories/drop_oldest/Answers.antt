@@ -1,5 +1,4 @@
-use Rattle.std.proofs.Common.{length, refl, ap, arith}
-use Rattle.pipe_core.specs.Pipe.{without_first}
+use Rattle.kcall_core.proofs.Prelude.{ap, arith, length, refl, without_first}
 use Rattle.kcall_core.proofs.memory.PipeEdges.{is-pipe}
 use Rattle.kcall_core.proofs.memory.PipeFrames.{pipe-keeps, pipe-becomes}
 use Rattle.kcall_core.proofs.memory.PipeMoves.{bytes-named}

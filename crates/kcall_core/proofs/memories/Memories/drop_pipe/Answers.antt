@@ -1,4 +1,4 @@
-use Rattle.std.proofs.Common.{set, false, refl, ap, arith}
+use Rattle.kcall_core.proofs.Prelude.{ap, arith, false, refl, set}
 use Rattle.kcall_core.proofs.memory.PipeFrames.{pipe-keeps, pipe-inside, pipe-taken, pipe-dropped}
 use Rattle.kcall_core.proofs.memories.Memories.drop_pipe.Goals as goal
 

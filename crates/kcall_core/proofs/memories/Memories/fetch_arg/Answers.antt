@@ -1,9 +1,4 @@
-use Rattle.std.proofs.Common.{rules, ◌≡◌, ℕ, List, Some, take, sym, ap, ◌∙◌}
-use Rattle.std.proofs.lemmas.Option.{same_Some}
-use Rattle.exec_core.specs.ArgTexts.{push_refusal}
-use Rattle.kernel_spec.specs.rows.Buffers.{text_at}
-use Rattle.kcall_core.specs.Holdings.{held_at}
-use Rattle.kcall_core.specs.Memories.{each_of}
+use Rattle.kcall_core.proofs.Prelude.{ℕ, ◌∙◌, ◌≡◌, ap, each_of, held_at, List, push_refusal, rules, same_Some, Some, sym, take, text_at}
 use Rattle.kcall_core.proofs.memory.Arguments.{text-longer, taken-if, refused-if}
 use Rattle.kcall_core.proofs.memories.Memories.fetch_arg.Goals as goal
 

@@ -1,5 +1,4 @@
-use Rattle.std.proofs.Common.{rules, ◌≡◌, ◌+◌, ◌-◌, ◌<◌, true, false, sym, ◌∙◌, arith, refl}
-use Rattle.std.proofs.lemmas.Bool.{eqb-true, eq-eqb, false≢true}
+use Rattle.kcall_core.proofs.Prelude.{◌+◌, ◌-◌, ◌<◌, ◌∙◌, ◌≡◌, arith, eq-eqb, eqb-true, false, false≢true, refl, rules, sym, true}
 use Rattle.kcall_core.proofs.memory.Arguments.{no-pointer, all-read, too-many, no-more, reading-next}
 use Rattle.kcall_core.proofs.memories.Memories.fetch_args.Goals as goal
 

@@ -1,7 +1,4 @@
-use Rattle.xk_base.specs.declared.limits.TheConstants.{MAXARG, ARG_BYTES}
-use Rattle.kernel_spec.specs.rows.Buffers.{texts_at}
-use Rattle.kcall_core.specs.Holdings.{held_at}
-use Rattle.kcall_core.specs.Memories.{each_of}
+use Rattle.kcall_core.proofs.Prelude.{ARG_BYTES, each_of, held_at, MAXARG, texts_at}
 use Rattle.kcall_core.proofs.memory.Arguments.{Reading}
 use Rattle.kcall_core.proofs.memories.Memories.fetch_args.Given as goal
 

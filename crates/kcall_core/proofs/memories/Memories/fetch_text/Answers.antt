@@ -1,11 +1,5 @@
-use Rattle.std.proofs.Common.{sym, ap, ◌∙◌, Some, length, take, drop}
-use Rattle.xk_base.specs.Image.{Image}
-use Rattle.addr_space.specs.Absent.{whole}
-use Rattle.addr_space.specs.Space.{image_of}
-use Rattle.addr_space.proofs.Touching.{low-pages}
-use Rattle.kernel_spec.specs.rows.Buffers.{text_at}
+use Rattle.kcall_core.proofs.Prelude.{◌∙◌, ap, drop, front-bytes, Image, image_of, length, low-pages, Some, sym, take, text-found, text-none, text_at, whole}
 use Rattle.kcall_core.proofs.memory.Changes.{image-seen}
-use Rattle.kernel_spec.proofs.memory.UserBytes.{text-found, text-none, front-bytes}
 use Rattle.kcall_core.proofs.memory.Written.{ok-both, err-map, whole-of, size-of}
 use Rattle.kcall_core.proofs.memories.Memories.fetch_text.Goals as goal
 

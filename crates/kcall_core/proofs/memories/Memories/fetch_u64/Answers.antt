@@ -1,11 +1,5 @@
-use Rattle.std.proofs.Common.{arith, ap, ◌∙◌}
-use Rattle.xk_base.specs.Image.{Image}
-use Rattle.addr_space.specs.Absent.{whole}
-use Rattle.addr_space.specs.Space.{image_of}
-use Rattle.addr_space.proofs.Touching.{low-pages, whole-low}
-use Rattle.kernel_spec.specs.rows.Buffers.{pointer_at}
+use Rattle.kcall_core.proofs.Prelude.{◌∙◌, ap, arith, Image, image_of, low-pages, low-read, pointer-none, pointer-there, pointer_at, whole, whole-low}
 use Rattle.kcall_core.proofs.memory.Changes.{image-seen}
-use Rattle.kernel_spec.proofs.memory.UserBytes.{pointer-there, pointer-none, low-read}
 use Rattle.kcall_core.proofs.memory.Written.{ok-map, ok-both, err-map, whole-of, size-of}
 use Rattle.kcall_core.proofs.memories.Memories.fetch_u64.Goals as goal
 

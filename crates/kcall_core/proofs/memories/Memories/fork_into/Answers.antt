@@ -1,10 +1,4 @@
-use Rattle.std.proofs.Common.{[], ◌∷◌, length, refl, sym, ap, ◌∙◌, arith}
-use Rattle.xk_base.specs.Frames.{copies}
-use Rattle.xk_base.specs.Image.{price}
-use Rattle.frame_list.specs.Pool.{free_in}
-use Rattle.frame_list.specs.Traded.{Traded}
-use Rattle.frame_list.proofs.Trades.{trade-join}
-use Rattle.kcall_core.specs.Memories.{free_of}
+use Rattle.kcall_core.proofs.Prelude.{[], ◌∙◌, ◌∷◌, ap, arith, copies, free_in, free_of, length, price, refl, sym, trade-join, Traded}
 use Rattle.kcall_core.proofs.memory.Changes.{there-held, vacant-below, stood, image-seen, cost-seen, same-if}
 use Rattle.kcall_core.proofs.memory.Births.{untraded, taken-apart, taken-length, there-stands, beside-belongs, beside-image, born}
 use Rattle.kcall_core.proofs.memories.Memories.fork_into.Goals as goal

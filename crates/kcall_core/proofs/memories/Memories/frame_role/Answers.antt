@@ -1,4 +1,4 @@
-use Rattle.std.proofs.Common.{sym, ◌∙◌}
+use Rattle.kcall_core.proofs.Prelude.{◌∙◌, sym}
 use Rattle.kcall_core.proofs.memory.Roles.{map-none, slot-read, none-in-slot}
 use Rattle.kcall_core.proofs.memories.Memories.frame_role.Goals as goal
 

@@ -1,4 +1,4 @@
-use Rattle.kcall_core.specs.Memories.{free_of}
+use Rattle.kcall_core.proofs.Prelude.{free_of}
 use Rattle.kcall_core.proofs.memories.Memories.free.Goals as goal
 
 pub returns : goal.returns

@@ -1,8 +1,4 @@
-use Rattle.std.proofs.Common.{[], ◌∷◌, set, refl, sym, ap, ◌∙◌, arith}
-use Rattle.xk_base.proofs.Frames.{copies-nil}
-use Rattle.frame_list.specs.Traded.{Traded}
-use Rattle.frame_list.proofs.Trades.{trade-join}
-use Rattle.addr_space.specs.Space.{frames_of}
+use Rattle.kcall_core.proofs.Prelude.{[], ◌∙◌, ◌∷◌, ap, arith, copies-nil, frames_of, refl, set, sym, trade-join, Traded}
 use Rattle.kcall_core.proofs.memory.Changes.{there-below, there-some, stands, belongs-of, trapframe-apart, trapframe-inside, trade-first, slot-gone}
 use Rattle.kcall_core.proofs.memories.Memories.give_back.Goals as goal
 

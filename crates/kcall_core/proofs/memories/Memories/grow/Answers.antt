@@ -1,10 +1,4 @@
-use Rattle.std.proofs.Common.{◌+◌, ◌<◌, ◌≤◌, [], List, length, set, Option, Some, None, refl, sym, ap, ◌∙◌, subst}
-use Rattle.xk_base.specs.Image.{Image, price}
-use Rattle.frame_list.specs.Pool.{free_in}
-use Rattle.addr_space.specs.Changes.{grown}
-use Rattle.addr_space.specs.declared.Space.{Space}
-use Rattle.kcall_core.specs.declared.memories.Memory.{Memory}
-use Rattle.kcall_core.specs.Memories.{free_of}
+use Rattle.kcall_core.proofs.Prelude.{[], ◌+◌, ◌<◌, ◌∙◌, ◌≤◌, ap, free_in, free_of, grown, Image, length, List, Memory, None, Option, price, refl, set, Some, Space, subst, sym}
 use Rattle.kcall_core.proofs.memory.Lists.{set-twice, set-read}
 use Rattle.kcall_core.proofs.memory.Changes.{there-below, there-some, stands, belongs-of, image-seen, space-changes, same-if}
 use Rattle.kcall_core.proofs.memory.Runs.{grown-runs}

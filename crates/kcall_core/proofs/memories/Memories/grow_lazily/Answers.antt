@@ -1,6 +1,4 @@
-use Rattle.std.proofs.Common.{◌≤◌, Some, refl, sym, ap, ◌∙◌, subst}
-use Rattle.xk_base.specs.Image.{Image}
-use Rattle.addr_space.specs.Absent.{grown_lazily}
+use Rattle.kcall_core.proofs.Prelude.{◌∙◌, ◌≤◌, ap, grown_lazily, Image, refl, Some, subst, sym}
 use Rattle.kcall_core.proofs.memory.Changes.{there-below, there-some, stands, belongs-of, image-seen, space-changes}
 use Rattle.kcall_core.proofs.memory.Lists.{set-twice}
 use Rattle.kcall_core.proofs.memory.Runs.{runs-on, same-translations}

@@ -1,6 +1,4 @@
-use Rattle.std.proofs.Common.{◌<◌, ◌≤◌, ◌∙◌, sym, ap, false, length, arith}
-use Rattle.std.proofs.lemmas.List.{get_or_past, get_or_read}
-use Rattle.kcall_core.specs.Memories.{keeps_pipe}
+use Rattle.kcall_core.proofs.Prelude.{◌<◌, ◌∙◌, ◌≤◌, ap, arith, false, get_or_past, get_or_read, keeps_pipe, length, sym}
 use Rattle.kcall_core.proofs.memory.PipesTold.{keeps-told}
 use Rattle.kcall_core.proofs.memories.Memories.keeps_pipe.Goals as goal
 

@@ -1,7 +1,4 @@
-use Rattle.std.proofs.Common.{sym, ap, ◌∙◌}
-use Rattle.std.specs.Prelude.{nat_eq}
-use Rattle.pipe_core.specs.Pipe.{Pipe}
-use Rattle.kernel_spec.specs.views.PipeEnds.{count_on, is_given_up}
+use Rattle.kcall_core.proofs.Prelude.{◌∙◌, ap, count_on, is_given_up, nat_eq, Pipe, sym}
 use Rattle.kcall_core.proofs.memory.PipeEdges.{changed-there, changed-named, stays-there, goes-then}
 use Rattle.kcall_core.proofs.memories.Memories.leave.Goals as goal
 

@@ -1,5 +1,4 @@
-use Rattle.std.proofs.Common.{length, refl, ap, arith}
-use Rattle.kcall_core.specs.Memories.{free_of}
+use Rattle.kcall_core.proofs.Prelude.{ap, arith, free_of, length, refl}
 use Rattle.kcall_core.proofs.memory.Changes.{vacant-below}
 use Rattle.kcall_core.proofs.memory.Births.{taken-length, born}
 use Rattle.kcall_core.proofs.memories.Memories.load_into.Goals as goal

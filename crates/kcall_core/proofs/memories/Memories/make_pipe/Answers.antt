@@ -1,6 +1,4 @@
-use Rattle.std.proofs.Common.{[], length, set, true, refl, ap}
-use Rattle.pipe_core.specs.Pipe.{new_pipe}
-use Rattle.kcall_core.specs.Memories.{free_of}
+use Rattle.kcall_core.proofs.Prelude.{[], ap, free_of, length, new_pipe, refl, set, true}
 use Rattle.kcall_core.proofs.memory.Changes.{same-if}
 use Rattle.kcall_core.proofs.memory.Births.{untraded}
 use Rattle.kcall_core.proofs.memory.PipeFrames.{pipe-absent, pipe-made}

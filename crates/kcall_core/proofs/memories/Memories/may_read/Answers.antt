@@ -1,5 +1,4 @@
-use Rattle.std.proofs.Common.{refl, sym, ◌∙◌}
-use Rattle.xk_base.specs.declared.access.Access.TheVariants.{Load}
+use Rattle.kcall_core.proofs.Prelude.{◌∙◌, Load, refl, sym}
 use Rattle.kcall_core.proofs.memory.Written.{told, whole-of, touching-seen}
 use Rattle.kcall_core.proofs.memories.Memories.may_read.Goals as goal
 

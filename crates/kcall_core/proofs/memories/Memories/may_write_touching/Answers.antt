@@ -1,5 +1,4 @@
-use Rattle.std.proofs.Common.{refl, sym, ◌∙◌}
-use Rattle.xk_base.specs.declared.access.Access.TheVariants.{Store}
+use Rattle.kcall_core.proofs.Prelude.{◌∙◌, refl, Store, sym}
 use Rattle.kcall_core.proofs.memory.Written.{told, whole-of, touching-seen}
 use Rattle.kcall_core.proofs.memories.Memories.may_write_touching.Goals as goal
 

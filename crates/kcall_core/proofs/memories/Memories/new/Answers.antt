@@ -1,7 +1,4 @@
-use Rattle.std.proofs.Common.{◌≡◌, length, map, replicate, None, refl, sym, ap, ◌∙◌, arith}
-use Rattle.std.proofs.lemmas.List.{length-replicate}
-use Rattle.phys_ram.specs.Ram.{zero_frame}
-use Rattle.kcall_core.specs.Memories.{held_in, each_of, pipes_of, free_of}
+use Rattle.kcall_core.proofs.Prelude.{◌∙◌, ◌≡◌, ap, arith, each_of, free_of, held_in, length, length-replicate, map, None, pipes_of, refl, replicate, sym, zero_frame}
 use Rattle.kcall_core.proofs.memory.Births.{none-sound, no-pipes, all-free, map-none}
 use Rattle.kcall_core.proofs.memories.Memories.new.Goals as goal
 

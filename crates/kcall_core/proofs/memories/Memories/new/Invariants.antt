@@ -1,4 +1,4 @@
-use Rattle.std.proofs.Common.{◌≡◌, replicate, None}
+use Rattle.kcall_core.proofs.Prelude.{◌≡◌, None, replicate}
 use Rattle.kcall_core.proofs.memories.Memories.new.Given as goal
 
 abbrev pub invariant-slots : goal.invariant-slots

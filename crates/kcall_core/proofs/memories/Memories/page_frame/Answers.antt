@@ -1,5 +1,4 @@
-use Rattle.std.proofs.Common.{sym, ap, ◌∙◌}
-use Rattle.kcall_core.specs.ObservedFrames.{page_frame_of}
+use Rattle.kcall_core.proofs.Prelude.{◌∙◌, ap, page_frame_of, sym}
 use Rattle.kcall_core.proofs.memories.Memories.page_frame.Goals as goal
 
 pub page_frame-requires : goal.page_frame-requires

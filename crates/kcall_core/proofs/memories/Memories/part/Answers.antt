@@ -1,4 +1,4 @@
-use Rattle.std.proofs.Common.{refl, arith}
+use Rattle.kcall_core.proofs.Prelude.{arith, refl}
 use Rattle.kcall_core.proofs.memory.PipeEdges.{is-pipe, counted-in, parts}
 use Rattle.kcall_core.proofs.memory.PipesTold.{pipe-below}
 use Rattle.kcall_core.proofs.memories.Memories.part.Goals as goal

@@ -1,9 +1,6 @@
-use Rattle.std.proofs.Common.{◌≡◌, ◌/◌, Some, None, take, drop, sym, ap, ◌∙◌, arith}
-use Rattle.std.specs.FinMap.{get}
-use Rattle.addr_space.specs.Space.{image_of}
+use Rattle.kcall_core.proofs.Prelude.{◌/◌, ◌∙◌, ◌≡◌, ap, arith, byte_of, drop, get, image_of, None, Some, sym, take}
 use Rattle.addr_space.proofs.Grown.{perm-none}
 use Rattle.hart_core.proofs.Ends.{low-pages}
-use Rattle.kcall_core.specs.Holdings.{byte_of}
 use Rattle.kcall_core.proofs.memory.Changes.{image-seen}
 use Rattle.kcall_core.proofs.memory.Peeks.{byte-none, byte-some, some-page}
 use Rattle.kcall_core.proofs.memories.Memories.peek.Goals as goal

@@ -1,5 +1,4 @@
-use Rattle.std.proofs.Common.{sym, ap, ◌∙◌}
-use Rattle.kcall_core.specs.Holdings.{rights_of}
+use Rattle.kcall_core.proofs.Prelude.{◌∙◌, ap, rights_of, sym}
 use Rattle.kcall_core.proofs.memory.Changes.{image-seen}
 use Rattle.kcall_core.proofs.memories.Memories.perm.Goals as goal
 

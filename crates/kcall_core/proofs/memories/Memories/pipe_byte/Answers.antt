@@ -1,10 +1,6 @@
-use Rattle.std.proofs.Common.{◌∙◌, sym, ap}
-use Rattle.std.specs.Prelude.{slice_get}
-use Rattle.pipe_core.specs.Pipe.{Pipe}
-use Rattle.kcall_core.specs.ObservedPipes.{byte_of_pipe}
+use Rattle.kcall_core.proofs.Prelude.{◌∙◌, ap, byte_of_pipe, Pipe, pipes_of, slice_get, sym}
 use Rattle.kcall_core.proofs.memory.PipeEdges.{is-pipe, named-in}
 use Rattle.kcall_core.proofs.memory.PipesTold.{named-some, pipe-below}
-use Rattle.kcall_core.specs.Memories.{pipes_of}
 use Rattle.kcall_core.proofs.memories.Memories.pipe_byte.Goals as goal
 
 pub byte-requires : goal.byte-requires

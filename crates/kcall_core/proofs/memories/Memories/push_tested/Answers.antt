@@ -1,4 +1,4 @@
-use Rattle.std.proofs.Common.{length, refl, ap, arith}
+use Rattle.kcall_core.proofs.Prelude.{ap, arith, length, refl}
 use Rattle.kcall_core.proofs.memory.Changes.{there-held, stood}
 use Rattle.kcall_core.proofs.memory.PipeEdges.{is-pipe}
 use Rattle.kcall_core.proofs.memory.PipeMoves.{pipe-no-page, bytes-named, pages-pushed}

@@ -1,6 +1,4 @@
-use Rattle.std.proofs.Common.{sym, ap, ◌∙◌, length}
-use Rattle.xk_base.specs.Image.{Image}
-use Rattle.xk_base.specs.Bytes.{image_bytes}
+use Rattle.kcall_core.proofs.Prelude.{◌∙◌, ap, Image, image_bytes, length, sym}
 use Rattle.kcall_core.proofs.memory.Changes.{image-seen}
 use Rattle.kcall_core.proofs.memory.Written.{whole-of, readable-inside}
 use Rattle.kcall_core.proofs.memories.Memories.read_tested.Goals as goal

@@ -1,5 +1,4 @@
-use Rattle.std.proofs.Common.{ap, ◌∙◌}
-use Rattle.pipe_core.specs.Pipe.{Pipe}
+use Rattle.kcall_core.proofs.Prelude.{◌∙◌, ap, Pipe}
 use Rattle.kcall_core.proofs.memory.PipeEdges.{is-pipe, named-in}
 use Rattle.kcall_core.proofs.memory.PipesTold.{pipe-below}
 use Rattle.kcall_core.proofs.memories.Memories.readers.Goals as goal

@@ -1,5 +1,4 @@
-use Rattle.std.proofs.Common.{sym, ap, ◌∙◌}
-use Rattle.kcall_core.specs.Holdings.{Held}
+use Rattle.kcall_core.proofs.Prelude.{◌∙◌, ap, Held, sym}
 use Rattle.kcall_core.proofs.memory.Changes.{held-seen, trapframe-inside}
 use Rattle.kcall_core.proofs.memory.Registers.{aligned-saved}
 use Rattle.kcall_core.proofs.memories.Memories.registers.Goals as goal

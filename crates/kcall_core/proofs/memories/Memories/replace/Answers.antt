@@ -1,6 +1,4 @@
-use Rattle.std.proofs.Common.{[], Some, refl, sym, ap, ◌∙◌}
-use Rattle.hart_core.specs.declared.hart.Hart.{Hart}
-use Rattle.kcall_core.specs.Memories.{free_of}
+use Rattle.kcall_core.proofs.Prelude.{[], ◌∙◌, ap, free_of, Hart, refl, Some, sym}
 use Rattle.kcall_core.proofs.memory.Lists.{set-twice}
 use Rattle.kcall_core.proofs.memory.Changes.{there-below, there-some, stands, same-if}
 use Rattle.kcall_core.proofs.memory.Births.{untraded}

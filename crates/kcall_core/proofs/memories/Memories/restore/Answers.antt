@@ -1,8 +1,4 @@
-use Rattle.std.proofs.Common.{Some, sym, ap, ◌∙◌, subst}
-use Rattle.std.proofs.lemmas.Bool.{false≢true}
-use Rattle.hart_core.specs.Steps.{FitsHart}
-use Rattle.hart_core.specs.declared.hart.Hart.{Hart}
-use Rattle.kcall_core.specs.Holdings.{Held}
+use Rattle.kcall_core.proofs.Prelude.{◌∙◌, ap, false≢true, FitsHart, Hart, Held, Some, subst, sym}
 use Rattle.kcall_core.proofs.memory.Changes.{trapframe-inside, held-seen}
 use Rattle.kcall_core.proofs.memory.Registers.{aligned-saved}
 use Rattle.kcall_core.proofs.memory.Runs.{runs-root, runs-there}

@@ -1,4 +1,4 @@
-use Rattle.std.proofs.Common.{refl}
+use Rattle.kcall_core.proofs.Prelude.{refl}
 use Rattle.kcall_core.proofs.memory.Changes.{there-held, stood, trapframe-inside}
 use Rattle.kcall_core.proofs.memory.Registers.{saved-changes, saved-runs}
 use Rattle.kcall_core.proofs.memories.Memories.save.Goals as goal

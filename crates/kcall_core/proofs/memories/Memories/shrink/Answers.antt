@@ -1,11 +1,5 @@
-use Rattle.std.proofs.Common.{◌≡◌, ℕ, ◌*◌, ◌≤◌, Option, Some, None, refl, sym, ◌∙◌, ap, subst, arith}
-use Rattle.xk_base.specs.Image.{Image}
-use Rattle.addr_space.specs.Changes.{shrunk}
-use Rattle.addr_space.specs.Translations.{WalksStayBelow}
+use Rattle.kcall_core.proofs.Prelude.{ℕ, ◌*◌, ◌∙◌, ◌≡◌, ◌≤◌, ap, arith, Fits, FitsBut, Image, is_between, Memory, None, Option, refl, shrunk, Some, subst, sym, WalksStayBelow}
 use Rattle.kcall_core.proofs.memory.Lists.{set-twice}
-use Rattle.hart_core.specs.Translations.{Fits, FitsBut}
-use Rattle.kcall_core.specs.Memories.{is_between}
-use Rattle.kcall_core.specs.declared.memories.Memory.{Memory}
 use Rattle.kcall_core.proofs.memory.Runs.{runs-root, forgot-runs}
 use Rattle.kcall_core.proofs.memory.Changes.{there-below, there-some, stands, belongs-of, image-seen, space-changes}
 use Rattle.kcall_core.proofs.memories.Memories.shrink.Goals as goal

@@ -1,5 +1,4 @@
-use Rattle.std.proofs.Common.{sym, ◌∙◌, ap, arith}
-use Rattle.xk_base.specs.Image.{Image}
+use Rattle.kcall_core.proofs.Prelude.{◌∙◌, ap, arith, Image, sym}
 use Rattle.kcall_core.proofs.memory.Changes.{image-seen}
 use Rattle.kcall_core.proofs.memories.Memories.size.Goals as goal
 

@@ -1,6 +1,4 @@
-use Rattle.std.proofs.Common.{ℕ, sym, ap, subst, refl}
-use Rattle.sv39_core.specs.Tree.{IsTree}
-use Rattle.hart_core.specs.Steps.{root_of}
+use Rattle.kcall_core.proofs.Prelude.{ℕ, ap, IsTree, refl, root_of, subst, sym}
 use Rattle.kcall_core.proofs.memory.Stepping.{runs-stands, steps}
 use Rattle.kcall_core.proofs.memory.Changes.{runs-inside}
 use Rattle.kcall_core.proofs.memories.Memories.step.Goals as goal

@@ -1,6 +1,4 @@
-use Rattle.std.proofs.Common.{ℕ, sym, ap, subst}
-use Rattle.sv39_core.specs.Tree.{IsTree}
-use Rattle.hart_core.specs.Steps.{root_of}
+use Rattle.kcall_core.proofs.Prelude.{ℕ, ap, IsTree, root_of, subst, sym}
 use Rattle.kcall_core.proofs.memory.Stepping.{steps-in-a-row}
 use Rattle.kcall_core.proofs.memories.Memories.steps.Goals as goal
 

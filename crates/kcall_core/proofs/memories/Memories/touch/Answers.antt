@@ -1,6 +1,4 @@
-use Rattle.std.proofs.Common.{refl, ap, arith}
-use Rattle.xk_base.specs.Image.{price}
-use Rattle.kcall_core.specs.Memories.{free_of}
+use Rattle.kcall_core.proofs.Prelude.{ap, arith, free_of, price, refl}
 use Rattle.kcall_core.proofs.memory.Changes.{image-seen}
 use Rattle.kcall_core.proofs.memory.Written.{whole-of, touched-seen}
 use Rattle.kcall_core.proofs.memories.Memories.touch.Goals as goal

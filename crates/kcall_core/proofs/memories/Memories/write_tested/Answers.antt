@@ -1,10 +1,4 @@
-use Rattle.std.proofs.Common.{sym, ap, ◌∙◌, refl, length}
-use Rattle.xk_base.specs.Image.{Image}
-use Rattle.xk_base.specs.declared.access.Access.TheVariants.{Store}
-use Rattle.xk_base.specs.Bytes.{write_image}
-use Rattle.user_copy.proofs.Ranges.{reached-mapped}
-use Rattle.kernel_spec.specs.rows.Buffers.{writable_now}
-use Rattle.kcall_core.specs.Memories.{free_of}
+use Rattle.kcall_core.proofs.Prelude.{◌∙◌, ap, free_of, Image, length, reached-mapped, refl, Store, sym, writable_now, write_image}
 use Rattle.kcall_core.proofs.memory.Changes.{there-held, stood, image-seen, belongs-of, space-changes}
 use Rattle.kcall_core.proofs.memory.Written.{whole-of, each-stays, free-stays, written-runs}
 use Rattle.kcall_core.proofs.memories.Memories.write_tested.Goals as goal

@@ -1,5 +1,4 @@
-use Rattle.std.proofs.Common.{sym, ◌∙◌}
-use Rattle.sv39_core.proofs.Places.{lower-entry}
+use Rattle.kcall_core.proofs.Prelude.{◌∙◌, lower-entry, sym}
 use Rattle.kcall_core.proofs.memories.frame_roles.lower_table.Goals as goal
 
 pub returns-clause-table : goal.returns-clause-table

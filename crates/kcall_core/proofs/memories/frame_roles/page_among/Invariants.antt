@@ -1,6 +1,5 @@
-use Rattle.std.proofs.Common.{ℕ, ◌<◌, ◌≢◌, Some}
+use Rattle.kcall_core.proofs.Prelude.{ℕ, ◌<◌, ◌≢◌, frame_of, Some}
 use Rattle.sv39_core.specs.Sv39.{entry_at}
-use Rattle.sv39_core.specs.Tree.{frame_of}
 use Rattle.kcall_core.proofs.memories.frame_roles.page_among.Given as goal
 
 abbrev pub invariant-loop-entry : goal.invariant-loop-entry

@@ -1,6 +1,4 @@
-use Rattle.std.proofs.Common.{sym, ap, ◌∙◌, arith}
-use Rattle.sv39_core.specs.Sv39.{page_entry}
-use Rattle.sv39_core.specs.Tree.{frame_of}
+use Rattle.kcall_core.proofs.Prelude.{◌∙◌, ap, arith, frame_of, page_entry, sym}
 use Rattle.kcall_core.proofs.memory.Roles.{page-there}
 use Rattle.kcall_core.proofs.memories.frame_roles.role_below.Goals as goal
 

@@ -1,5 +1,4 @@
-use Rattle.std.proofs.Common.{◌≡◌, ℕ, ◌-◌, ◌%◌, ◌<◌}
-use Rattle.kcall_core.specs.ObservedFrames.{IsOffTheWay}
+use Rattle.kcall_core.proofs.Prelude.{ℕ, ◌%◌, ◌-◌, ◌<◌, ◌≡◌, IsOffTheWay}
 use Rattle.kcall_core.proofs.memories.frame_roles.role_below.Given as goal
 
 abbrev pub invariant-tables : goal.invariant-tables

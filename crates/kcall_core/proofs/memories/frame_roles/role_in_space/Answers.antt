@@ -1,6 +1,4 @@
-use Rattle.std.proofs.Common.{ℕ, ◌<◌, sym, ◌∙◌, subst, arith}
-use Rattle.sv39_core.proofs.Places.{root-inside}
-use Rattle.kcall_core.specs.ObservedFrames.{IsOffTheWay}
+use Rattle.kcall_core.proofs.Prelude.{ℕ, ◌<◌, ◌∙◌, arith, IsOffTheWay, root-inside, subst, sym}
 use Rattle.kcall_core.proofs.memory.Roles.{map-none, none-in-space}
 use Rattle.kcall_core.proofs.memories.frame_roles.role_in_space.Goals as goal
 

@@ -1,5 +1,4 @@
-use Rattle.std.proofs.Common.{◌/◌, sym, ◌∙◌, arith}
-use Rattle.sv39_core.proofs.Places.{upper-entry}
+use Rattle.kcall_core.proofs.Prelude.{◌/◌, ◌∙◌, arith, sym, upper-entry}
 use Rattle.kcall_core.proofs.memories.frame_roles.upper_table.Goals as goal
 
 pub returns-clause-table : goal.returns-clause-table
