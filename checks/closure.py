@@ -2,7 +2,7 @@
 
     python3 -B checks/closure.py [--tell [NAME] | --write]
 
-A claim is a line of the table 'What is claimed' of README.md. It leads to what its law or contract cites, to what that
+A claim is a line of the table 'Each claim with its definition' of docs/THEOREM.md. It leads to what its law or contract cites, to what that
 cites, and so on, by names: over the `use` lines of all `specs/*.antt`. Lines are those of the definitions, without comments,
 blank lines and `use` lines. Types and constants of the code (`specs.declared`) and words of std are leaves: they are counted
 by name. The headline is the first sentences of docs/THEOREM.md, which three laws say.
@@ -23,7 +23,8 @@ TOP = pathlib.Path(__file__).resolve().parents[1]
 LAWS = "crates/xv_machine/src/laws.rt", "crates/kernel_spec/src/laws.rt"
 HEADLINE = (LAWS[0], "steps_are_own"), (LAWS[1], "others_keep"), (LAWS[0], "no_byte_is_shown")
 READING_LIST = "crates/kernel_spec/README.md"
-PAGES = "README.md", "docs/THEOREM.md", "docs/SPECIFICATION.md", READING_LIST
+CLAIMS = "docs/THEOREM.md"
+PAGES = CLAIMS, READING_LIST
 LINES_A_MINUTE = 15
 SAID = re.compile(r"(\d[\d,]*) definitions of (\d[\d,]*) lines in (\d+) modules(?:: (\d+) minutes)?")
 SAID_BY_CRATE = re.compile(r"\d[\d,]* of `(\w+)`")
@@ -305,12 +306,12 @@ def roots(path, name):
 
 
 def claims(text):
-    """The rows of the table of README.md: their lines' numbers, cells and closures."""
+    """The rows of the table of claims: their lines' numbers, cells and closures."""
     begun = False
     for number, line in enumerate(text.split("\n")):
-        begun = (begun or line == "## What is claimed") and not (begun and line.startswith("## "))
+        begun = (begun or line == "## Each claim with its definition") and not (begun and line.startswith("## "))
         cells = line.strip("|").split("|")
-        links = re.findall(r"\[`(\w+)`\]\((crates/[^)]*\.(?:antt|rt))\)", line) if begun and line.startswith("|") else ()
+        links = re.findall(r"\[`(\w+)`\]\(\.\./(crates/[^)]*\.(?:antt|rt))\)", line) if begun and line.startswith("|") else ()
         if links:
             yield number, cells, Closure.of(it for name, path in links for it in roots(path, name))
 
@@ -355,7 +356,7 @@ def with_list(text, found):
 def page_text(path, found):
     """A page with the numbers as they are."""
     text = with_headline((TOP / path).read_text(encoding="utf-8"), found)
-    text = with_claims(text) if path == "README.md" else text
+    text = with_claims(text) if path == CLAIMS else text
     return with_list(text, found) if path == READING_LIST else text
 
 
@@ -394,7 +395,7 @@ def main(words):
     found = headline()
     for path in PAGES if words == ["--write"] else ():
         (TOP / path).write_text(page_text(path, found), encoding="utf-8")
-    for _, cells, it in claims((TOP / "README.md").read_text(encoding="utf-8")):
+    for _, cells, it in claims((TOP / CLAIMS).read_text(encoding="utf-8")):
         tell(cells[0].strip(), it) if words == ["--tell"] else print(f"{it.lines:6,} lines, {it.count} definitions, {len(it.by_module)} modules: {cells[0].strip()}")
     tell("the headline", found) if words == ["--tell"] else print(f"the headline: {found}")
     wrong = list(differences(found))

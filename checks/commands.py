@@ -1,0 +1,202 @@
+#!/usr/bin/env python3
+"""Runs the commands that the pages show, and compares what they print with what the page shows.
+
+    checks/commands.py [--tell] [PAGE..]
+
+A command stands in an indented block of a page. After `$ ` its output is shown below it; a line `..` stands for any lines.
+If a page has a command over `init.s`, each program of it (a fenced block) that an indented block follows is run by that
+command, and the block is what it prints.
+
+A command is run if it begins with ./xv, node xv.mjs, bin/xv_.., python3, echo or printf, if all files that it names are
+there, and if it needs no terminal, no kit and no package. Those of a page are run one after another, in a folder of their
+own in which the repository's files are. What is shown has to be printed; a command of which nothing is shown mustn't be
+refused (status 1, 2, or 125 and above).
+
+It needs Python 3, and the built programs or Node (18.17 or later). `--tell` names the commands that aren't run. PATIENCE is
+how many seconds a command may take: 120 without it. The status is 0 if all is as shown, 2 if no program runs here, else 1.
+"""
+import dataclasses
+import os
+import pathlib
+import re
+import subprocess
+import sys
+import tempfile
+
+TOP = pathlib.Path(__file__).resolve().parents[1]
+PATIENCE = float(os.environ.get("PATIENCE", 120))
+BEGINS = re.compile(r"(\./xv|node xv\.mjs|bin/xv_\w+|python3 -B checks/|echo .*[|>]|printf .*[|>])(\s|$|\w)")
+BY_HAND = re.compile(r"\.\.(\s|$)|\[|\b[A-Z]{4,}\b|--(build|unproved|gdb|record|replay)\b|\$top|mine")
+
+
+@dataclasses.dataclass
+class Command:
+    """A command of a page: what is shown of it, if anything, what `init.s` is, and the command before it in its block."""
+    page: pathlib.Path
+    line: int
+    words: str
+    shown: list = None
+    program: str = ""
+    before: "Command" = None
+
+    def __str__(self):
+        return f"{self.page.relative_to(TOP)}:{self.line}: {self.words}"
+
+    @property
+    def files(self):
+        """The words that name files of the repository."""
+        bare = re.sub(r"\d?[<>]+&?\s*\S+|'[^']*'", " ", self.words.partition("  #")[0])
+        return [it for it in bare.split()[1:] if "/" in it and not it.startswith(("/", "-"))]
+
+    @property
+    def is_by_hand(self):
+        """It needs what isn't there: a terminal, a file, the kit, or a command before it that is by hand."""
+        at_terminal = self.shown is not None and not re.search(r"[<|>]", self.words)
+        unnamed = re.search(r"(^| )init\.s", self.words) and not self.program
+        missing = [it for it in self.files if not list(TOP.glob(it.removeprefix("./")))]
+        wants_more = BY_HAND.search(re.sub(r"'[^']*'", "", self.words))
+        follows = self.before is not None and self.before.is_by_hand
+        return bool(at_terminal or unnamed or missing or wants_more or follows or not BEGINS.match(self.words))
+
+
+# ---- the commands of a page
+
+
+def blocks(page):
+    """The blocks of a page: their first lines' numbers, whether they are fenced, and their lines."""
+    found, fence = [], False
+    for number, line in enumerate(page.read_text(encoding="utf-8").split("\n"), 1):
+        if line.lstrip().startswith("```"):
+            fence = not fence
+            if fence:
+                found.append((number + 1, True, []))
+        elif fence:
+            found[-1][2].append(line)
+        elif line.startswith("    "):
+            if not found or found[-1][1] or found[-1][0] + len(found[-1][2]) != number:
+                found.append((number, False, []))
+            found[-1][2].append(line[4:])
+    return found
+
+
+def shown_commands(page, number, lines):
+    """The commands of a block, with what is shown of those that stand after `$ `."""
+    found = []
+    for at, line in enumerate(lines):
+        # The shell of the machine has the prompt `$ ` too.
+        is_inside = found and re.search(r"\|.* programs/bin/sh\b", found[-1].words)
+        if line.startswith("$ ") and line[2:].strip() and not is_inside:
+            found.append(Command(page, number + at, line[2:], [], before=found[-1] if found else None))
+        elif found and found[-1].shown is not None:
+            found[-1].shown.append(line)
+        elif BEGINS.match(line):
+            found.append(Command(page, number + at, line))
+    return found
+
+
+def commands(page):
+    """All commands of a page; a command over `init.s` once for each program that the page has with its output."""
+    over_source = None
+    before = (0, False, [])
+    for number, fenced, lines in blocks(page):
+        found = [] if fenced else shown_commands(page, number, lines)
+        over_source = next((it.words for it in found if re.search(r" init\.s", it.words)), over_source)
+        yield from found
+        follows = before[1] and number - (before[0] + len(before[2])) <= 2
+        if over_source and follows and not fenced and not found:
+            yield Command(page, number, over_source, lines, "\n".join(before[2]) + "\n")
+        before = (number, fenced, lines)
+
+
+# ---- what they print
+
+
+def run(words, folder):
+    """What a command prints, by lines, and its status."""
+    done = subprocess.run(["bash", "-c", words], cwd=folder, stdin=subprocess.DEVNULL, stdout=subprocess.PIPE,
+                          stderr=subprocess.STDOUT, timeout=PATIENCE, check=False)
+    text = done.stdout.decode("utf-8", "replace").rstrip("\n")
+    return text.split("\n") if text else [], done.returncode
+
+
+def parts_of(shown):
+    """The lines that are shown, cut at `..`."""
+    parts = [[]]
+    for it in shown:
+        if it == "..":
+            parts.append([])
+        else:
+            parts[-1].append(it)
+    return parts
+
+
+def place_of(part, lines, start):
+    """The first place from `start` on at which all lines of a part are printed, or nothing."""
+    places = range(start, len(lines) - len(part) + 1)
+    return next((at for at in places if lines[at:at + len(part)] == part), None)
+
+
+def difference(shown, lines):
+    """What is shown and isn't printed, or nothing."""
+    first, *rest = parts_of(shown)
+    if lines[:len(first)] != first or (not rest and len(lines) != len(first)):
+        pair = next(((one, two) for one, two in zip([*first, ""], [*lines, ""]) if one != two), ("", ""))
+        return f"`{pair[0]}` is shown, and `{pair[1]}` is printed"
+    at = len(first)
+    for number, part in enumerate(rest, 1):
+        is_last = number == len(rest) and part
+        place = place_of(part, lines, max(at, len(lines) - len(part)) if is_last else at)
+        if place is None:
+            return f"`{part[0]}` and what follows are shown, and aren't printed"
+        at = place + len(part)
+    return None
+
+
+def wrong_with(command, folder):
+    """Why a command isn't as its page shows it, or nothing."""
+    if command.program:
+        pathlib.Path(folder, "init.s").write_text(command.program, encoding="utf-8")
+    try:
+        lines, status = run(command.words, folder)
+    except subprocess.TimeoutExpired:
+        return f"it took more than {PATIENCE:g} seconds"
+    if command.shown:
+        return difference(command.shown, lines)
+    is_refused = status in (1, 2) or status >= 125
+    return f"status {status}: {lines[-1] if lines else 'nothing is printed'}" if is_refused else None
+
+
+def looked_at(page):
+    """The commands of a page, and what is wrong with those that are run."""
+    found = list(commands(page))
+    with tempfile.TemporaryDirectory() as folder:
+        for it in TOP.iterdir():
+            os.symlink(it, os.path.join(folder, it.name))
+        wrong = [(it, wrong_with(it, folder)) for it in found if not it.is_by_hand]
+    return found, [(it, why) for it, why in wrong if why]
+
+
+def main(words):
+    lines, status = run("./xv programs/examples/hello/init.s", TOP)
+    if status:
+        print(f"checks/commands.py: no program runs here: {lines[-1]}", file=sys.stderr)
+        return 2
+    named = [it for it in words if it != "--tell"]
+    pages = named or run("git ls-files '*.md'", TOP)[0]
+    found, wrong = [], []
+    for it in pages:
+        of_page, wrong_ones = looked_at(TOP / it)
+        found, wrong = found + of_page, wrong + wrong_ones
+    for it, why in wrong:
+        print(f"{it}\n    {why}")
+    by_hand = [it for it in found if it.is_by_hand]
+    if "--tell" in words:
+        print("\n".join(f"by hand: {it}" for it in by_hand))
+    compared = sum(bool(it.shown) and not it.is_by_hand for it in found)
+    print(f"{len(found)} commands of {len(pages)} pages: {len(found) - len(by_hand)} run, "
+          f"{compared} compared with what is shown, {len(wrong)} not so; {len(by_hand)} by hand")
+    return 1 if wrong else 0
+
+
+if __name__ == "__main__":
+    sys.exit(main(sys.argv[1:]))
