@@ -2,7 +2,7 @@
 """What the modules and the page are built of, told by sums:
 
     sources.py ROOT --page       the sum of all that the page is built of: the code of xv_page and of the crates below it, the scripts and
-                                 modules of page/, the programs and the help
+                                 modules of page/, the programs and the manual
     sources.py ROOT --module     the sum of what the page's module is built of: the crates' code, and how it is translated
     sources.py ROOT --code       the sum of what the programs' modules are built of
     sources.py ROOT --list       what they are built of, for anywhere/sources.txt: the crates, and each file with its SHA-256
@@ -56,7 +56,8 @@ def files_of(root, what):
     """The files that the page, its module, or the programs' modules are built of."""
     if what == "--page":
         folders = ["anywhere/build", "page/build", "page/src", "programs/bin", "programs/examples", "programs/course"]
-        return sorted(["docs/manual/page.md", KIT] + code_of(root, ["xv_page"]) + files_below(root, folders))
+        manual = [path for path in files_below(root, ["docs/manual"]) if path.endswith(".md")]
+        return sorted(manual + [KIT] + code_of(root, ["xv_page"]) + files_below(root, folders))
     return sorted(TRANSLATION + code_of(root, ["xv_page"] if what == "--module" else PROGRAMS))
 
 

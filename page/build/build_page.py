@@ -3,13 +3,14 @@
 before it was lowered, with a memory of 64 bits, which stands at the page's foot.
 
 The modules of page/src are joined, those that a module imports first, without their import and export words: each name stands
-once, which `node --check` and the browser tell. The programs, examples and the help (docs/manual/page.md, by its headings) are
-read from the repository. The same inputs give the same bytes."""
-import base64, html, json, os, re, sys
+once, which `node --check` and the browser tell. The programs, the examples and the manual (docs/manual/*.md, by manual.py) are read
+from the repository. The same inputs give the same bytes."""
+import base64, json, os, re, sys
 
 module, sum_of_64_bits, root, out = sys.argv[1:5]
 note = "".join(sys.argv[5:])
 sys.path.append(os.path.join(root, "anywhere", "build"))
+import manual
 import sources
 here = os.path.join(root, "page", "src")
 
@@ -45,38 +46,6 @@ def joined(first):
 
     add(first)
     return '"use strict";\n' + "".join(made)
-
-
-def rendered(markdown):
-    """Paragraphs, lists, tables, `code`, **strong** and links of a section, as HTML."""
-
-    def inline(line):
-        line = html.escape(line, quote=False)
-        line = re.sub(r"`([^`]+)`", r"<code>\1</code>", line)
-        line = re.sub(r"\*\*([^*]+)\*\*", r"<b>\1</b>", line)
-        return re.sub(r"\[([^]]+)\]\(([^)]+)\)", lambda it: f'<a href="{target(it[2])}">{it[1]}</a>', line)
-
-    def target(to):
-        return to if "://" in to else "../docs/manual/" + to
-
-    made = []
-    for block in re.split(r"\n\s*\n", markdown.strip()):
-        lines = block.split("\n")
-        if lines[0].startswith("|"):
-            rows = [[cell.strip() for cell in line.strip("|").split("|")] for line in lines]
-            body = [f"<tr>{''.join(f'<td>{inline(cell)}</td>' for cell in row)}</tr>" for row in rows[2:]]
-            made.append(f"<table><tr>{''.join(f'<th>{inline(cell)}</th>' for cell in rows[0])}</tr>{''.join(body)}</table>")
-        elif lines[0].startswith("- "):
-            items = re.split(r"^- ", block, flags=re.M)[1:]
-            made.append(f"<ul>{''.join(f'<li>{inline(item.strip())}</li>' for item in items)}</ul>")
-        elif not lines[0].startswith(("#", "!", "    ", "```")):
-            made.append(f"<p>{inline(' '.join(lines))}</p>")
-    return "".join(made)
-
-
-def helps():
-    sections = re.split(r"^## (.+)$", text(f"{root}/docs/manual/page.md"), flags=re.M)
-    return {name.strip(): f"<h2>{html.escape(name.strip())}</h2>{rendered(body)}" for name, body in zip(sections[1::2], sections[2::2])}
 
 
 def heading(source):
@@ -115,7 +84,7 @@ data = {
     "worker": joined("worker.mjs"),
     "programs": {name: base64.b64encode(read(f"{root}/programs/bin/{name}")).decode() for name in PROGRAMS},
     "examples": examples(),
-    "help": helps(),
+    "manual": manual.pages(root),
     "built": sum_[:16],
 }
 sum_of_module = "unproved" if note else sources.sum_of(root, "--module")

@@ -1,5 +1,5 @@
 // The instruction that is next, with those round it, the registers, and memory.
-import { $, app, ask, element, grouped, on, program_name, write } from "./app.mjs";
+import { $, app, ask, element, grouped, on, program_name, say, tell, write } from "./app.mjs";
 import { line_at, name_at } from "./symbols.mjs";
 import { known_call } from "./calls.mjs";
 import { REGISTERS, hex, number } from "./words.mjs";
@@ -11,7 +11,7 @@ function program_of(pid) {
   const { ended, processes } = app.view;
   return ended ? ended.program : processes.find((it) => it.pid === pid)?.program;
 }
-const symbols_of = (pid) => app.symbols[program_of(pid)] ?? null;
+export const symbols_of = (pid) => app.symbols[program_of(pid)] ?? null;
 
 /** Which process is shown, and whether it has ended. */
 function who() {
@@ -32,7 +32,7 @@ function clear() {
 
 /** The row of an instruction, and above it the name of what begins there. */
 function new_code_row() {
-  const name = element("span", { class: "fn" }), address = element("span", { class: "dim" }), text = document.createTextNode(""), note = element("span", { class: "from" });
+  const name = element("span", { class: "fn" }), address = element("span", { class: "dim to-translate", title: "Translate this address", onclick: () => tell("translate", { text: address.textContent, access: "fetch" }) }), text = document.createTextNode(""), note = element("span", { class: "from" });
   return { name, address, text, note, row: element("div", { role: "listitem" }, address, text, note), word: null, is_next: null };
 }
 
@@ -82,7 +82,7 @@ function draw_registers() {
   before = { key, pid: view.pid, registers };
   if (!cells.length) {
     cells = REGISTERS.map((name) => ({ name, value: element("span"), told: null, is_new: false }));
-    $("registers").replaceChildren(...cells.map((it) => (it.row = element("div", { role: "listitem" }, element("b", {}, it.name), it.value))));
+    $("registers").replaceChildren(...cells.map((it) => (it.row = element("div", { role: "listitem", onclick: () => tell("translate", { text: it.name, access: it.name === "pc" ? "fetch" : "load" }) }, element("b", {}, it.name), it.value))));
   }
   cells.forEach((it, k) => {
     const is_new = changed.has(k);
@@ -90,7 +90,7 @@ function draw_registers() {
     it.is_new = is_new;
     if (it.told === registers[k]) return;
     it.told = registers[k];
-    it.row.title = `${k ? "x" + k : "pc"} = ${hex(it.told)} = ${BigInt.asIntN(64, it.told)}`;
+    it.row.title = `${k ? "x" + k : "pc"} = ${hex(it.told)} = ${BigInt.asIntN(64, it.told)}; a click translates it as an address`;
     it.value.textContent = k < 3 ? hex(it.told) : number(it.told);
   });
 }
@@ -119,14 +119,19 @@ function draw_memory() {
   else pre.replaceChildren(...lines.flatMap(({ is_next, text }) => [is_next ? element("i", { title: "the next instruction loads from here, or stores to here" }, text) : text, "\n"]));
 }
 
-/** The address that is meant: a number, a register, or a label. */
-function meant(text) {
+/** The address that is meant, a number, a register, or a label; undefined if none is. */
+export function address_meant(text) {
   const { view } = app, name = text.trim();
-  if (/^(0x[0-9a-f]+|\d+)$/i.test(name)) return BigInt(name);
+  if (/^(0x[0-9a-f]+|\d+)$/i.test(name)) return BigInt.asUintN(64, BigInt(name));
   const register = REGISTERS.indexOf(name);
-  if (register >= 0 && view && view.registers) return register === 2 ? null : view.registers[register] & ~15n;
-  const found = view && symbols_of(view.pid)?.names.find((it) => it.name === name);
-  return found ? found.address : undefined;
+  if (register >= 0) return view?.registers?.[register];
+  return view?.registers && symbols_of(view.pid)?.names.find((it) => it.name === name)?.address;
+}
+
+/** The address from which on memory is shown; null: it goes with sp. */
+function meant(text) {
+  const at = address_meant(text), is_register = REGISTERS.includes(text.trim());
+  return text.trim() === "sp" ? null : at !== undefined && is_register ? at & ~15n : at;
 }
 
 export function start() {
@@ -145,6 +150,10 @@ export function start() {
     const at = meant($("address").value);
     $("address").setAttribute("aria-invalid", at === undefined ? "true" : "false");
     if (at !== undefined) ask("look", { memory: at });
+  });
+  $("stored-here").addEventListener("click", () => {
+    const at = address_meant($("address").value);
+    if (at === undefined) say("Write an address, a register or a label at the left"); else tell("stored here", at);
   });
   const forms = [...document.querySelectorAll("[data-as]")];
   const show_as = (chosen) => {

@@ -1,6 +1,7 @@
 // Lessons: a text, a program, and questions. What is right is not written here: the machine runs the program, and tells.
 import { $, app, ask, element, on, once, tell } from "./app.mjs";
 import { KIND } from "./machine.mjs";
+import { help_of } from "./manual.mjs";
 import { is_changed, machine_of, shipped_files } from "./works.mjs";
 import * as programs from "./programs.mjs";
 
@@ -47,7 +48,7 @@ async function at(place) {
 /** The machine at its beginning, with what each frame is used for. */
 async function with_frames() {
   await at(0);
-  ask("look", { panels: { instruction: !$("instruction").hidden, pages: true, files: true } });
+  ask("look", { panels: { instruction: !$("instruction").hidden, pages: true, translate: !$("translate").hidden, files: true } });
   return view_where(() => app.view?.frames && app.view.at === 0);
 }
 
@@ -237,16 +238,32 @@ function draw() {
     element("div", { class: "bar" }, element("button", { onclick: () => load(chosen) }, "Boot it anew"), element("button", { onclick: () => edit(chosen) }, "Edit it")),
     is_changed(name_of(chosen)) ? element("p", { class: "dim" }, "You have changed your copy of the program. The questions about it are about the program as it stands here.") : "",
     ...chosen.questions.map((it, k) => asked(chosen, it, k)),
-    element("p", {}, element("a", { href: `../docs/manual/${chosen.page}` }, "The rules, in the manual")),
+    element("p", {}, element("a", { href: manual_link(chosen.page) }, "The rules, in the manual")),
     at + 1 < LESSONS.length ? element("button", { onclick: () => open(LESSONS[at + 1]) }, `Next: ${LESSONS[at + 1].name} →`) : element("p", {}, "That was the last one. The course has more exercises."));
 }
 
+/** The link within the page to a page of the manual, as pipes.md or machine.md#rounds. */
+const manual_link = (page) => `#manual=${page.replace(".md", "").replace("#", "&to=")}`;
+
+/** Whether a lesson has this number, from 1 on. */
+export const is_lesson = (number) => LESSONS[number - 1] !== undefined;
+
+/** Opens the lesson of a number, from 1 on, at one of its questions if that isn't 0. */
+export async function open_lesson(number, question = 0) {
+  globalThis.show_tab("lessons");
+  await open(LESSONS[number - 1]);
+  const asked = $("lessons").querySelectorAll(".ask")[question - 1];
+  if (!asked) return;
+  asked.scrollIntoView({ block: "center" });
+  asked.querySelector("input, button")?.focus({ preventScroll: true });
+}
+
 function help_button() {
-  return element("button", { class: "help", "aria-label": "Help: lessons", onclick: () => { const body = $("dialog").querySelector("div"); body.innerHTML = DATA.help.Lessons || ""; $("dialog").showModal(); } }, "?");
+  return element("button", { class: "help", "aria-label": "Help: lessons", onclick: () => { const body = $("dialog").querySelector("div"); body.innerHTML = help_of("Lessons"); $("dialog").showModal(); } }, "?");
 }
 
 export function start() {
   draw();
   on("touched", (work) => { if (chosen && work.name === name_of(chosen)) draw(); });
-  globalThis.open_lesson = (number) => { globalThis.show_tab("lessons"); open(LESSONS[number]); };
+  globalThis.open_lesson = (number) => open_lesson(number + 1);
 }

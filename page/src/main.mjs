@@ -1,5 +1,5 @@
 // The page: begins the worker and the panels, and hands what the worker tells to them.
-import { $, app, ask, element, hush, on, set_theme, tell } from "./app.mjs";
+import { $, app, ask, hush, on, set_theme, tell } from "./app.mjs";
 import { learn_calls } from "./calls.mjs";
 import { Listed } from "./listed.mjs";
 import * as terminal from "./terminal.mjs";
@@ -16,6 +16,13 @@ import * as opened from "./opened.mjs";
 import * as why from "./why.mjs";
 import * as lessons from "./lessons.mjs";
 import * as session from "./session.mjs";
+import * as happened from "./happened.mjs";
+import * as translate from "./translate.mjs";
+import * as manual from "./manual.mjs";
+import * as slides from "./slides.mjs";
+import * as first from "./first.mjs";
+import { is_embedded, short_place } from "./places.mjs";
+import { calls_in_words } from "./happenings.mjs";
 import { base64 } from "./app.mjs";
 
 const DATA = globalThis.PAGE_DATA;
@@ -84,6 +91,9 @@ function heard({ data }) {
   else if (data.refused) programs.refused(data.refused);
   else if (data.replayed) tell("replayed", data.replayed);
   else if (data.assembled) tell("assembled", data.assembled);
+  else if (data.events_told) tell("events told", data.events_told);
+  else if (data.sought) tell("sought", data.sought);
+  else if (data.reached) tell("reached", data.reached);
   else if (data.record) app.on_record?.(data.record);
   else if (data.finished) requestAnimationFrame(() => requestAnimationFrame(() => tell("finished")));
   else if (data.bench) tell("bench", data.bench);
@@ -107,7 +117,7 @@ export function show_tab(tab) {
 globalThis.show_tab = (name) => show_tab($("tab-" + name));
 
 function look() {
-  ask("look", { pid: app.chosen || (app.view ? app.view.pid : 1), follow: $("follow").checked, panels: { instruction: !$("instruction").hidden, pages: !$("pages").hidden, files: true } });
+  ask("look", { pid: app.chosen || (app.view ? app.view.pid : 1), follow: $("follow").checked, panels: { instruction: !$("instruction").hidden, pages: !$("pages").hidden, translate: !$("translate").hidden, files: true } });
 }
 
 function tabs() {
@@ -122,16 +132,6 @@ function tabs() {
       show_tab(next);
     });
   }
-}
-
-function help() {
-  for (const it of document.querySelectorAll("[data-help]")) it.addEventListener("click", () => {
-    const body = $("dialog").querySelector("div");
-    body.innerHTML = DATA.help[it.dataset.help] || "";
-    body.append(element("p", {}, element("a", { href: "../docs/manual/page.md#" + it.dataset.help.toLowerCase().replace(/[^a-z ]/g, "").replace(/ /g, "-") }, "This page of the manual")));
-    $("dialog").showModal();
-  });
-  $("dialog").addEventListener("click", (event) => { if (event.target === $("dialog")) $("dialog").close(); });
 }
 
 function theme() {
@@ -156,17 +156,17 @@ function keep_clear() {
 function begin() {
   const began = performance.now();
   theme();
+  if (is_embedded()) document.documentElement.dataset.embed = "yes";
   app.worker = new Worker(URL.createObjectURL(new Blob([DATA.worker], { type: "text/javascript" })));
   app.worker.onmessage = heard;
   app.worker.onerror = (event) => { programs.refuse(event.message); console.error(event.message); };
-  for (const part of [terminal, editor, works, time, breaks, processes, instruction, pages, opened, why, programs, sharing, lessons, session]) part.start();
+  for (const part of [terminal, editor, works, time, breaks, processes, instruction, pages, opened, why, programs, sharing, lessons, session, happened, translate, manual, slides, first]) part.start();
   tabs();
-  help();
   keep_clear();
   on("ready", async () => {
     look();
-    if (!(await sharing.follow(location.hash, "Here is what you had, or the shell, in its place.")) && !(await session.restore())) { programs.choose("shell"); await programs.boot(); }
-    if (!matchMedia("(max-width: 820px)").matches) $("screen").focus({ preventScroll: true });
+    if (!(await sharing.follow(location.hash, "Here is what you had, or the shell, in its place.")) && (is_embedded() || !(await session.restore()))) { programs.choose("shell"); await programs.boot(); }
+    if (!matchMedia("(max-width: 820px)").matches && !is_embedded()) $("screen").focus({ preventScroll: true });
   });
   addEventListener("hashchange", () => sharing.follow(location.hash, "The programs stay as they are."));
   for (const action of ["keydown", "pointerdown"]) addEventListener(action, hush, true);
@@ -174,6 +174,6 @@ function begin() {
   on("resized", redraw);
   ask("module", { bytes: base64.of(DATA.wasm) });
   on("view", () => { if (!globalThis.ready) { globalThis.ready = true; globalThis.took = { page: began, boot: app.booted?.took, shown: performance.now() }; } });
-  globalThis.page = { app, ask, on, time, programs, sharing, works, drawn: () => drawn };
+  globalThis.page = { app, ask, on, time, programs, sharing, works, drawn: () => drawn, short_place, calls_in_words };
 }
 begin();

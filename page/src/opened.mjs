@@ -1,5 +1,6 @@
 // Descriptors of each process, the pipes with who holds which end and what is in them, and the console's three lists.
 import { $, app, color_of, element, on, program_name, shown_bytes } from "./app.mjs";
+import { opened_by } from "./happened.mjs";
 
 function target(it) {
   if (it.kind === 1) return "the console";
@@ -27,7 +28,7 @@ function draw() {
     if (!lives) continue;
     const own = files.descriptors.filter((it) => it.pid === pid);
     if (!own.length) rows.push(element("tr", {}, element("td", {}, `${pid} ${program_name(program)}`), element("td", { colspan: 2, class: "dim" }, "no descriptor is open")));
-    own.forEach((it, k) => rows.push(element("tr", {}, element("td", {}, k ? "" : element("span", {}, element("span", { class: "swatch", style: `background:${color_of(pid)}` }), `${pid} ${program_name(program)}`)), element("td", { class: "number" }, String(it.fd)), element("td", {}, target(it), element("span", { class: "dim" }, ` ${it.read ? "r" : "-"}${it.write ? "w" : "-"}`)))));
+    own.forEach((it, k) => rows.push(element("tr", {}, element("td", {}, k ? "" : element("span", {}, element("span", { class: "swatch", style: `background:${color_of(pid)}` }), `${pid} ${program_name(program)}`)), element("td", { class: "number" }, String(it.fd)), element("td", {}, target(it), element("span", { class: "dim" }, ` ${it.read ? "r" : "-"}${it.write ? "w" : "-"} `), element("button", { class: "slight", title: "Goes back to the call that opened it", onclick: () => opened_by(pid, it.fd) }, "who opened it?")))));
   }
   const pipes = files.pipes.map((pipe) => element("div", { class: "sleeper" }, element("div", {}, element("b", {}, `the pipe in frame ${pipe.frame}`), ` · ${pipe.bytes} of 2048 bytes`),
     element("div", {}, `read end: ${held(pipe, 3, files.descriptors)}`), element("div", {}, `write end: ${held(pipe, 4, files.descriptors)}`),

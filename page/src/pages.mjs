@@ -1,5 +1,5 @@
 // The page table of a process, three levels as a tree (RISC-V Privileged ISA, "Sv39"), and the map of all frames of RAM.
-import { $, app, ask, color_of, element, fresh, on, style_of, write } from "./app.mjs";
+import { $, app, ask, color_of, element, fresh, on, style_of, tell, write } from "./app.mjs";
 import { USES, hex } from "./words.mjs";
 
 const RAM = 0x80000000n, PAGE = 4096;
@@ -54,7 +54,7 @@ function draw_table() {
         if (it.page === touched) notes.push("next load or store");
         const use = use_of(it.rights);
         if (use) notes.push(use);
-        return element("div", { class: `leaf mono${new_pages.has(it.page) ? " new" : ""}${it.page === at ? " at" : ""}`, title: `page ${it.page}: entry ${it.page % 512} of its last table` }, element("span", {}, new_pages.has(it.page) ? sign() : null, element("span", { class: "dim" }, `entry ${it.page % 512}`)), element("span", {}, hex(BigInt(it.page) * 4096n)), bits(it.rights), element("span", {}, it.frame === null ? "" : `frame ${it.frame}`, notes.length ? element("span", { class: "dim" }, ` ${notes.join(", ")}`) : ""));
+        return element("div", { class: `leaf mono${new_pages.has(it.page) ? " new" : ""}${it.page === at ? " at" : ""}`, title: `page ${it.page}: entry ${it.page % 512} of its last table` }, element("span", {}, new_pages.has(it.page) ? sign() : null, element("span", { class: "dim" }, `entry ${it.page % 512}`)), element("button", { class: "slight mono", title: "Translate this address", onclick: () => tell("translate", { text: hex(BigInt(it.page) * 4096n), access: "load" }) }, hex(BigInt(it.page) * 4096n)), bits(it.rights), element("span", {}, it.frame === null ? "" : `frame ${it.frame}`, notes.length ? element("span", { class: "dim" }, ` ${notes.join(", ")}`) : ""));
       });
       if (list.length > 600) leaves.push(element("div", { class: "leaf dim" }, `and ${list.length - 600} more`));
       return branch(`${pid} ${two} ${one}`, true, [`entry ${one % 512}: last table`, element("span", { class: "dim" }, lower === null ? "" : ` in frame ${lower}, ${address_of(lower)}`), element("span", { class: "dim" }, ` · ${list.length} page${list.length > 1 ? "s" : ""} from ${hex(BigInt(one) * 512n * 4096n)}`)], lower !== null && changed.has(lower), ...leaves);

@@ -7,9 +7,10 @@ import { play_again, run_now } from "./sharing.mjs";
 import * as editor from "./editor.mjs";
 import * as lessons from "./lessons.mjs";
 import * as programs from "./programs.mjs";
+import { is_slide } from "./places.mjs";
 
 const SETTLE = 1000; // ms after a change, until it is kept
-const TABS = ["tab-programs", "tab-lessons", "tab-instruction", "tab-pages", "tab-opened", "tab-why"];
+const TABS = ["tab-programs", "tab-lessons", "tab-instruction", "tab-pages", "tab-translate", "tab-opened", "tab-happened", "tab-why"];
 let timer = 0, is_restored = false;
 
 /** What is kept: `run` is null if it is too long to be played again; then `length` tells how long it was. */
@@ -21,7 +22,7 @@ function now() {
 function keep_now() {
   clearTimeout(timer);
   timer = 0;
-  if (!is_restored || !app.view) return;
+  if (!is_restored || !app.view || is_slide()) return;
   flush();
   const told = now();
   keep_here("now", told);

@@ -1,8 +1,11 @@
 // Sharing: a run as a link, as a file that the page opens, and as a record that the terminal plays too.
-import { $, app, ask, base64, element, grouped, once, say } from "./app.mjs";
+import { $, app, ask, base64, element, grouped, once, say, tell } from "./app.mjs";
 import { EVENT } from "./machine.mjs";
 import { spans_of, text_of } from "./spans.mjs";
 import { bytes_of_file, packed_file, touch, unpacked_file, work_of } from "./works.mjs";
+import { arrive, follow_place, is_slide, seen_now, short_place, words_of } from "./places.mjs";
+import { manual_place, open_manual } from "./manual.mjs";
+import { listed_slides, note_slide } from "./slides.mjs";
 import * as programs from "./programs.mjs";
 
 const DATA = globalThis.PAGE_DATA;
@@ -72,7 +75,8 @@ function shared() {
   return { files, frames: Number(frames), rounds: order === "rounds", quantum: Number(quantum), keys: new TextDecoder().decode(programs.keys_of(keys)), stops: work.files.map((it) => it.stops ?? []), breaks: work.breaks, run: run_now() };
 }
 
-const of_packed = (text) => location.href.split("#")[0] + "#run=" + text;
+const page_address = () => location.href.split("#")[0].split("?")[0];
+const of_packed = (text) => `${page_address()}#run=${text}`;
 /** A link that has all that is shared. */
 export const link = async () => of_packed(await packed(shared()));
 
@@ -99,21 +103,30 @@ async function open(it, packed_text) {
 
 /** Follows a link: true if the address has a whole one. If it is damaged, that is said, and what comes in its place. */
 export async function follow(hash, in_its_place) {
-  const example = /^#example=([\w-]+)$/.exec(hash);
-  if (example && DATA.examples[example[1]]) {
+  const manual = manual_place(hash), words = words_of(hash);
+  if (manual) {
     forget_address();
-    programs.choose(example[1]);
-    await programs.boot();
+    open_manual(manual.page, manual.to);
+    return false;
+  }
+  if (await follow_place(words)) {
+    note_slide(hash);
+    tell("lecture");
+    // (A slide's address stays: a reload shows it again.)
+    if (!is_slide()) forget_address();
     return true;
   }
-  if (!hash.startsWith("#run=")) return false;
+  if (words.run === undefined) return false;
   let it;
-  try { it = await unpacked(hash.slice(5)); } catch {
+  try { it = await unpacked(words.run); } catch {
     say(`The link is damaged: copy the whole of it once more. ${in_its_place}`);
     return false;
   }
-  forget_address();
-  await open(it, hash.slice(5));
+  await open(it, words.run);
+  await arrive(words);
+  note_slide(hash);
+  tell("lecture");
+  if (!is_slide()) forget_address();
   return true;
 }
 
@@ -137,14 +150,23 @@ function share_words(length, run) {
     length > MOST_LETTERS ? "So long a link is cut off by some programs: hand on the file in its place." : ""].filter((it) => it);
 }
 
+/** The links that the dialog offers: what each is for, and the link. */
+function links_of(packed_run) {
+  const seen = seen_now(), short = short_place(), run = short ?? `run=${packed_run}&${seen}`;
+  return [["all of it", of_packed(packed_run)], ["this place, with its panel", `${page_address()}#${run}`], ["a slide, with large letters", `${page_address()}#${run}&view=lecture`],
+    ["an iframe in a page of yours", `<iframe src="${page_address()}?embed#${run}" width="1000" height="560"></iframe>`]];
+}
+
 async function share() {
-  const dialog = $("dialog"), body = dialog.querySelector("div"), text = element("textarea", { readonly: true, "aria-label": "Link" }), it = shared(), of_it = await packed(it);
-  text.value = of_packed(of_it);
+  const dialog = $("dialog"), body = dialog.querySelector("div"), text = element("textarea", { readonly: true, "aria-label": "Link" }), it = shared(), of_it = await packed(it), links = links_of(of_it);
+  const choice = element("select", { id: "share-what", onchange: () => { text.value = links[choice.value][1]; text.select(); } }, ...links.map(([words], k) => element("option", { value: k }, words)));
+  text.value = links[0][1];
   const copy = element("button", { class: "main", onclick: () => { text.select(); navigator.clipboard?.writeText(text.value); } }, "Copy");
   const file = element("button", { id: "save-shared", onclick: () => programs.save("nektavoly-run.txt", BEGINNING + of_it + "\n") }, "Save the same as a file");
   const record = element("button", { onclick: async () => programs.save("run.txt", await record_text()) }, "Save the run as a record");
-  body.replaceChildren(element("h2", {}, "Share"), ...share_words(text.value.length, it.run).map((words) => element("p", {}, words)), text, element("p", {}, copy, " ", file, " ", record),
-    element("p", {}, "The record has each event of the run, and the sums of its programs, and no program: the terminal plays it too. Drop it on the page, or choose it by Open file.., to have the run again."));
+  body.replaceChildren(element("h2", {}, "Share"), ...share_words(text.value.length, it.run).map((words) => element("p", {}, words)), element("p", {}, element("label", {}, "a link to ", choice)), text, element("p", {}, copy, " ", file, " ", record),
+    element("p", {}, "The record has each event of the run, and the sums of its programs, and no program: the terminal plays it too. Drop it on the page, or choose it by Open file.., to have the run again."),
+    element("details", {}, element("summary", {}, "Twelve slides for a course"), listed_slides()));
   if (!dialog.open) dialog.showModal();
   text.select();
 }

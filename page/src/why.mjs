@@ -20,6 +20,15 @@ function go_and_show(place, program) {
   if (editor.opened() !== file) { editor.open(file); tell("opened", file); tell("marked", file); }
 }
 
+/** Goes to the instruction of a fault, and shows the translation of the address that it wanted. */
+function translate_fault({ at, pid, told }) {
+  app.chosen = pid;
+  $("follow").checked = false;
+  ask("look", { pid, follow: false });
+  ask("go", { place: at });
+  tell("translate", { text: hex(told.cause === 12 ? told.registers[0] : told.address), access: told.cause === 12 ? "fetch" : told.cause === 15 || told.cause === 6 ? "store" : "load" });
+}
+
 /** Goes to the call in which a process sleeps, and to its line. */
 function see_sleep({ pid, program }) {
   const place = place_of_sleep(pid);
@@ -37,7 +46,7 @@ function fault_told(it) {
     element("p", {}, element("b", {}, told.words.replace(/^process (\d+)/, `process $1 (${program_name(told.program)})`))),
     element("p", { class: "mono" }, told.text ? `${hex(pc)}: ${told.text}` : "", where ? element("span", { class: "dim" }, `  ${where}`) : ""),
     back ? element("p", { class: "dim" }, `ra is ${hex(told.registers[1])} <${back}>: the call came from there, if ra still has it`) : null,
-    element("p", {}, element("button", { onclick: () => go_and_show(it.at, told.program) }, "Go to the instruction"), " ", element("span", { class: "dim" }, `event ${it.at}`)),
+    element("p", {}, element("button", { onclick: () => go_and_show(it.at, told.program) }, "Go to the instruction"), " ", told.address !== null || told.cause === 12 ? element("button", { onclick: () => translate_fault(it) }, "Translate its address") : "", " ", element("span", { class: "dim" }, `event ${it.at}`)),
     element("details", {}, element("summary", {}, "registers"), element("pre", {}, told.registers ? ORDER.map((k, n) => `${REGISTERS[k].padStart(3)} ${hex(told.registers[k]).padEnd(20)}${n % 3 === 2 ? "\n" : ""}`).join("") : "")));
 }
 

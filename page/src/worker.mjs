@@ -3,6 +3,11 @@ import { Machine, KIND, EVENT } from "./machine.mjs";
 import { Made } from "./made.mjs";
 import { Run, Plan } from "./run.mjs";
 import { describe_fault, store_width } from "./words.mjs";
+import { learn_calls } from "./calls.mjs";
+import { told_event } from "./happenings.mjs";
+import { seek } from "./seeking.mjs";
+import { last_trap, translation } from "./translation.mjs";
+import { Reach } from "./reach.mjs";
 
 const SLICE = 14; // ms of play between two looks at the messages: less than a frame of the page
 const WHOLE = 90; // ms between two views with the processes and what the panels show, while the machine plays
@@ -12,11 +17,13 @@ const MOST = 30000000; // Runs that a search makes before it gives up
 const PAGE = 4096;
 const MOST_FUTURES = 8;
 const MOST_WAITING = 20000; // keys that wait, of which the page is told
+const ASKED = 60; // ms that the page's questions about events may take, before other messages are heard
+const EVENTS_AT_ONCE = 8; // events that are looked at from one copy of the machine
 
 let machine = null, run = null, plan = null;
 let settings = { rounds: false, quantum: 1000, speed: 0 };
 let playing = false, timer = 0, turn = 0, next_tick = 0, owed = 0, slice_from = 0;
-let wanted = { pid: 1, panels: {}, memory: null, told: 0, named: 0, shown: 0, faults: -1, edits: -1 };
+let wanted = { pid: 1, panels: {}, memory: null, translate: 0n, told: 0, named: 0, shown: 0, faults: -1, edits: -1 };
 let breaks = [];
 let next_whole = 0;
 let stopped = "";
@@ -24,6 +31,8 @@ let made = new Made();
 let faults = [];
 let futures = []; // what keys that were typed in the past have cut off, in their order: {at, end, spans}
 let ended = null; // the last process as it ended, if none lives: what was told of it last
+let trap = { key: "", told: null }; // the last trap of the process that is looked at
+let search = null; // a search back in the run, which goes on part by part
 
 // ---- the view that is sent to the page
 
@@ -117,7 +126,7 @@ function looked_at(current, list) {
 }
 
 /** What the panels show of a process. */
-function process_panels(pid, { instruction, pages: table }) {
+function process_panels(pid, { instruction, pages: table, translate }) {
   const registers = pid === 0 ? null : machine.registers(pid);
   if (registers === null) return {};
   const told = { registers, next: machine.address(pid) };
@@ -128,17 +137,25 @@ function process_panels(pid, { instruction, pages: table }) {
     if (told.memory.bytes.length === 0 && wanted.memory === null) told.memory = { at: 0n, bytes: machine.peek(pid, 0n, 256) };
   }
   if (table) told.pages = pages(pid);
+  if (translate) Object.assign(told, { translation: translation(machine, run.config.frames, pid, wanted.translate), trap: playing ? null : trap_of(pid) });
   return told;
 }
 
+/** The last trap of a process up to here. */
+function trap_of(pid) {
+  const key = `${run.edits} ${run.at} ${pid}`;
+  if (trap.key !== key) trap = { key, told: last_trap(run, pid) };
+  return trap.told;
+}
+
 /** A process as it ended, with what the panels show of it, and the frames as they were then; of pid 0 that which ended last. */
-function as_it_ended(of_pid, { panels, memory }) {
+function as_it_ended(of_pid, { panels, memory, translate }) {
   const end = run.ends.findLast((it) => it.at < run.at && (of_pid === 0 || it.pid === of_pid));
   if (!end) return null;
-  const { at, pid } = end, key = JSON.stringify([run.edits, at, pid, panels, String(memory)]);
+  const { at, pid } = end, key = JSON.stringify([run.edits, at, pid, panels, String(memory), String(translate)]);
   if (ended?.key === key) return ended.told;
   const program = run.names_of.get(pid)?.findLast((it) => it.at <= at)?.place ?? null;
-  const told = run.look(at, () => ({ pid, ended: { ...end, program }, ...process_panels(pid, panels), ...(panels.pages ? { frames: frames() } : {}) }));
+  const told = run.look(at, () => ({ pid, ended: { ...end, program }, ...process_panels(pid, panels), ...(panels.translate ? { trap: last_trap(run, pid, at + 1) } : {}), ...(panels.pages ? { frames: frames() } : {}) }));
   ended = { key, told };
   return told;
 }
@@ -428,6 +445,43 @@ function take_back() {
   view();
 }
 
+// ---- questions about the run
+
+/** Tells of events what the record doesn't have, of as many as there is time for: the page asks again. */
+function tell_events({ id, key, places }) {
+  if (playing || !run?.booted) return;
+  const began = performance.now(), list = [], there = places.filter((it) => it < run.end);
+  while (there.length && performance.now() - began < ASKED) {
+    const some = there.splice(0, EVENTS_AT_ONCE).sort((a, b) => a - b);
+    run.look(some[0], () => { for (const place of some) list.push(told_event(run, place)); });
+  }
+  postMessage({ events_told: { id, key, list } });
+}
+
+/** Looks through one more part of the run for what is sought, and goes there once it is found. */
+function seek_on(id, mine) {
+  if (search !== mine) return;
+  const found = mine.part();
+  if (!found) {
+    postMessage({ sought: { id, left: mine.left } });
+    setTimeout(() => safely(() => seek_on(id, mine)));
+    return;
+  }
+  search = null;
+  if (found.place >= 0) { stopped = ""; run.go(found.place); }
+  postMessage({ sought: { id, ...found } });
+  view();
+}
+
+/** Goes on to a place that a link names. */
+function reach_on(way) {
+  if (search !== way) return;
+  if (!way.go(performance.now() + ASKED)) { view(); setTimeout(() => safely(() => reach_on(way))); return; }
+  search = null;
+  postMessage({ reached: { is: way.is_there, at: run.at } });
+  view();
+}
+
 // ---- messages
 
 /** Boots a machine, and tells the page; false if it is refused. */
@@ -455,6 +509,7 @@ const obey = {
   module({ bytes }) {
     machine = new Machine(new WebAssembly.Module(bytes));
     run = new Run(machine);
+    learn_calls([...machine.kernel_calls]);
     postMessage({ ready: [...machine.kernel_calls] });
   },
   /** Boots a machine; `id` tells the page of which of its boots it hears. The machine before stays if this one is refused. */
@@ -485,6 +540,23 @@ const obey = {
     owed = 0;
   },
   breaks({ list }) { breaks = list; },
+  tell_events,
+  /** Looks for the last store to an address, or the last stop of a break point, before this place. */
+  seek({ id, ...wants }) {
+    playing = false;
+    no_more();
+    if (wants.what === "stop" && !breaks.length) { postMessage({ sought: { id, place: -1, words: "There are no break points." } }); view(); return; }
+    search = seek(run, { ...wants, breaks }, run.at);
+    seek_on(id, search);
+  },
+  seek_no_more() { search = null; },
+  reach({ to }) {
+    playing = false;
+    no_more();
+    stopped = "";
+    search = new Reach(run, plan, to, heard);
+    reach_on(search);
+  },
   assemble({ text, id }) { postMessage({ assembled: { id, ...machine.assemble(text) } }); },
   record() { postMessage({ record: { config: run.config, files: run.files.map(({ name, bytes }) => ({ name, bytes })), spans: run.line.spans() } }); },
   /** Plays a record: its events, one by one. Then it goes to a place of it, and plays on, if that is wanted. */
@@ -513,11 +585,20 @@ const obey = {
   },
 };
 
-onmessage = ({ data }) => {
+/** Does something; what goes wrong is told. */
+function safely(action) {
   try {
-    obey[data.do](data);
+    action();
   } catch (error) {
     playing = false;
+    search = null;
     postMessage({ error: String(error && error.stack || error), message: String(error && error.message || error) });
   }
+}
+
+const ASIDE = new Set(["look", "assemble", "breaks", "tell_events", "record", "settings"]); // what a search goes on beside
+
+onmessage = ({ data }) => {
+  if (!ASIDE.has(data.do)) search = null;
+  safely(() => obey[data.do](data));
 };

@@ -2,29 +2,14 @@
 // does, and looks at what the page shows then. With names only these checks are made. The status is 1 if something isn't as it should be.
 import { mkdirSync } from "node:fs";
 import { pathToFileURL } from "node:url";
+import { boot, button, choose, comes, drop, edit, example, files, is_booted, message, pause, source, text_of, type } from "./hand.mjs";
 const { open } = await import(process.env.BROWSER === "firefox" ? "./firefox.mjs" : "./browser.mjs");
 
 const [page_file, folder, ...names] = process.argv.slice(2), url = pathToFileURL(page_file).href;
 mkdirSync(folder, { recursive: true });
 let bad = 0;
 const holds = (is, what) => { console.log(`${is ? "  " : "NOT"} ${what}`); if (!is) bad++; };
-const text_of = (page, id) => page.eval(`document.getElementById('${id}').textContent`);
-const source = (page) => page.eval("document.getElementById('source').value");
-const message = (page) => text_of(page, "status");
-/** Whether something comes to be so within some seconds. */
-const comes = (page, expression, ms = 8000) => page.until(expression, ms).then(() => true, () => false);
-
-const choose = (page, id, value) => page.eval(`(() => { const it = document.getElementById('${id}'); it.value = ${JSON.stringify(value)}; it.dispatchEvent(new Event('change')); })()`);
-const edit = (page, from, to) => page.eval(`(() => { const it = document.getElementById('source'); it.value = it.value.replace(${JSON.stringify(from)}, ${JSON.stringify(to)}); it.dispatchEvent(new Event('input')); })()`);
-const drop = (page, files) => page.eval(`page.programs.take([${files.map(([name, content]) => `new File([${content}], ${JSON.stringify(name)})`).join(", ")}])`);
-const is_booted = (page, action) => page.eval(`new Promise((done) => { page.on('booted', () => done(true)); ${action}; })`);
-const example = async (page, name) => { await is_booted(page, `(() => { const it = document.getElementById('example'); it.value = '${name}'; it.dispatchEvent(new Event('change')); })()`); await page.until("page.app.view"); };
-const boot = async (page) => { await is_booted(page, "document.getElementById('boot').click()"); await page.until("page.app.view"); };
 const reload = async (page) => { await page.sleep(1600); await page.go(`${url}?${Math.random()}`); await page.sleep(800); };
-const button = (page, words) => page.eval(`[...document.querySelectorAll('#files button')].find((it) => it.textContent === ${JSON.stringify(words)}).click()`);
-const pause = async (page) => { if (await page.eval("page.app.view?.playing")) await page.click("#play"); await page.until("!page.app.view?.playing"); };
-const type = async (page, text) => { await page.eval("document.getElementById('screen').focus()"); await page.type(text); };
-const files = (page, list, how = "{}") => page.eval(`page.programs.set_files(${JSON.stringify(list)}, ${how})`);
 const EXIT = "  li a0, 7\n  li a7, 2\n  ecall\n";
 
 // ---- work
@@ -409,7 +394,7 @@ async function contrast(page) {
   for (const theme of ["light", "dark"]) {
     await page.eval(`if (document.documentElement.dataset.theme !== '${theme}') document.getElementById('theme').click()`);
     const faint = new Set();
-    for (const tab of ["instruction", "pages", "opened", "why", "lessons", "programs"]) { await page.eval(`show_tab('${tab}')`); await page.sleep(300); for (const it of await page.eval(FAINT)) faint.add(it); }
+    for (const tab of ["instruction", "pages", "translate", "opened", "happened", "why", "lessons", "programs"]) { await page.eval(`show_tab('${tab}')`); await page.sleep(300); for (const it of await page.eval(FAINT)) faint.add(it); }
     await page.click("#share");
     await page.sleep(400);
     for (const it of await page.eval(FAINT)) faint.add(it);

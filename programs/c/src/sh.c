@@ -8,6 +8,8 @@
      ( COMMANDS )       runs them by a shell of their own
      exit [STATUS]      ends the shell, with the status of the last command if none is given
      wait               waits for all that was begun by &
+     ls                 names those programs of programs/bin that the machine has
+     help               says what can be typed
      # ..               is passed over, as an empty line is
 
    There are no quotes: a text is what stands between blanks. There is no >, since files can't be written. */
@@ -234,10 +236,50 @@ static void run_program(char **texts)
     fail("sh: %s can't be run\n", texts[0]);
 }
 
-/* Whether the shell does this command itself. */
-static int is_own(const struct node *node)
+/* There are no directories: these are the names that ls looks for. */
+static const char *const known[] = {"cat", "crash", "echo", "forks", "grep", "head", "init", "kill", "lazy", "pingpong",
+                                    "primes", "sh", "sleep", "sort", "storm", "tests", "wc"};
+
+static int list_programs(void)
 {
-    return node->kind == PROGRAM && (strcmp(node->words[0], "exit") == 0 || strcmp(node->words[0], "wait") == 0);
+    const char *between = "";
+
+    for (size_t k = 0; k < sizeof known / sizeof known[0]; k++) {
+        int file = open(known[k], TO_READ);
+
+        if (file < 0)
+            continue;
+        close(file);
+        printf("%s%s", between, known[k]);
+        between = "  ";
+    }
+    printf("\n");
+    return 0;
+}
+
+static int tell_help(void)
+{
+    printf("a line is a program's name and its texts: echo hello\n"
+           "  a | b   b reads what a writes        a < file   a reads the file\n"
+           "  a ; b   b begins when a has ended    a &        isn't waited for\n"
+           "  ( a )   by a shell of its own        wait       waits for all that was begun by &\n"
+           "  ls      names programs               exit       ends the shell\n");
+    return 0;
+}
+
+/* What the shell does itself. */
+enum own { NOTHING, EXIT, WAIT, LS, HELP };
+
+static enum own own_of(const struct node *node)
+{
+    static const char *const names[] = {"", "exit", "wait", "ls", "help"};
+
+    if (node->kind != PROGRAM)
+        return NOTHING;
+    for (int k = EXIT; k <= HELP; k++)
+        if (strcmp(node->words[0], names[k]) == 0)
+            return k;
+    return NOTHING;
 }
 
 /* Runs a command in this process, which is a child and ends with it. */
@@ -248,7 +290,7 @@ static _Noreturn void become(const struct node *node)
     source = INPUT;
     if (node->file != NULL)
         open_input(node->file);
-    if (node->kind == PROGRAM && !is_own(node))
+    if (node->kind == PROGRAM && own_of(node) == NOTHING)
         run_program(node->words);
     exit(run(node->kind == GROUP ? node->left : node));
 }
@@ -311,17 +353,26 @@ static int run_background(const struct node *node)
     return 0;
 }
 
-static int run_own(char **texts)
+static int run_own(enum own own, char **texts)
 {
-    if (strcmp(texts[0], "wait") == 0)
+    switch (own) {
+    case WAIT:
         return await_all();
-    exit(texts[1] != NULL ? atoi(texts[1]) : last_status);
+    case LS:
+        return list_programs();
+    case HELP:
+        return tell_help();
+    default:
+        exit(texts[1] != NULL ? atoi(texts[1]) : last_status);
+    }
 }
 
 static int run_alone(const struct node *node)
 {
-    if (is_own(node))
-        return run_own(node->words);
+    enum own own = own_of(node);
+
+    if (own != NOTHING)
+        return run_own(own, node->words);
     int child = begin(node, 0, NULL);
     return child < 0 ? 1 : await(child);
 }

@@ -1,0 +1,125 @@
+// A link to a place: what it names behind its #, the way there, and the link that leads to what is shown now. A place is an example, a
+// lesson or a run, an event of it, a process and a panel; `?embed` and `view=lecture` say how it is shown.
+import { $, app, ask, once, say } from "./app.mjs";
+import { all_calls } from "./calls.mjs";
+import { way_of } from "./reach.mjs";
+import { is_changed, machine_of, shipped_files } from "./works.mjs";
+import { events_shown, show_events } from "./happened.mjs";
+import { translate } from "./translate.mjs";
+import * as programs from "./programs.mjs";
+import * as lessons from "./lessons.mjs";
+
+const DATA = globalThis.PAGE_DATA;
+export const PANELS = ["instruction", "pages", "translate", "opened", "happened", "why"]; // those that a link may name
+const TABS = [...PANELS, "programs", "lessons"];
+
+/** What an address has behind its #, by names: example=hello&at=12. */
+export const words_of = (hash) => Object.fromEntries(new URLSearchParams(hash.replace(/^#/, "")));
+
+export const is_embedded = () => new URLSearchParams(location.search).has("embed");
+export const is_lecture = () => document.documentElement.dataset.view === "lecture";
+/** Whether the page is one slide, and no place of work: then nothing of it is kept. */
+export const is_slide = () => is_embedded() || is_lecture();
+
+// ---- the way there
+
+/** The machine's settings that a link names, over those of the example; a place in a run is one in rounds, which are the same each time. */
+function how_of(example, { frames, rounds, keys, at }) {
+  const how = { ...DATA.examples[example] }, given = { frames: Number(frames) || how.frames, quantum: Number(rounds) || how.quantum, keys: keys === undefined ? how.keys : new TextDecoder().decode(programs.keys_of(keys)) };
+  return { ...how, ...given, rounds: how.rounds || rounds !== undefined || at !== undefined };
+}
+
+/** Boots the example that a link names: as it was left, if it is all that is named, else as it was shipped. */
+async function boot_example(words) {
+  const { example, at } = words, is_plain = ["at", "frames", "rounds", "keys"].every((it) => words[it] === undefined);
+  if (is_plain && !is_changed(example)) programs.choose(example);
+  else if (is_plain) programs.choose(example);
+  else programs.set_files(shipped_files(example), how_of(example, words), `${example}, as a link has it`);
+  return is_booted(() => programs.boot({ play: at === undefined }));
+}
+
+/** Does what boots a machine; false if it is refused. */
+async function is_booted(action) {
+  const heard = once("booted", "refused");
+  await action();
+  return (await heard).name === "booted";
+}
+
+/** Goes to the event that a link names. */
+async function go_to(at) {
+  const to = way_of(at, all_calls());
+  if (!to) { say(`The link names no place: at=${at}. It may be an event's number, or as fork, fork.2, fault, end, turn.3, asleep, last`); return; }
+  const reached = once("reached", "booted");
+  ask("reach", { to });
+  const { name, it } = await reached;
+  if (name === "reached" && !it.is) say(`The run has no such place as at=${at}: here it ends.`);
+}
+
+/** Shows the process and the panel that a link names. */
+function show({ pid, tab, address, access, show: events }) {
+  if (pid !== undefined) {
+    app.chosen = Number(pid) || 0;
+    $("follow").checked = !app.chosen;
+    ask("look", { pid: app.chosen || 1, follow: !app.chosen });
+  }
+  if (address !== undefined) translate(address, ["fetch", "load", "store"].includes(access) ? access : "load");
+  if (events !== undefined) show_events(events);
+  if (TABS.includes(tab)) globalThis.show_tab(tab);
+}
+
+/** How the page is shown: as it is, or as a slide with large letters. */
+export function set_view(name) {
+  const root = document.documentElement;
+  if (name === "lecture") root.dataset.view = "lecture"; else delete root.dataset.view;
+  $("lecture").hidden = name !== "lecture";
+}
+
+/** Follows a link to an example or a lesson; false if it names neither. */
+export async function follow_place(words) {
+  const { example, lesson, question, at } = words;
+  if (example !== undefined && !DATA.examples[example]) { say(`The link names an example that isn't here: ${example}`); return false; }
+  if (lesson !== undefined && !lessons.is_lesson(Number(lesson))) { say(`The link names a lesson that isn't here: ${lesson}`); return false; }
+  if (example === undefined && lesson === undefined) return false;
+  document.documentElement.dataset.place = "coming";
+  if (lesson !== undefined) await is_booted(() => lessons.open_lesson(Number(lesson), Number(question) || 0));
+  else await boot_example(words);
+  await arrive(words);
+  return true;
+}
+
+/** Goes to the event, the process and the panel of a link whose run is there. */
+export async function arrive(words) {
+  set_view(words.view);
+  if (words.at !== undefined) await go_to(words.at);
+  show(words);
+  document.documentElement.dataset.place = "there";
+}
+
+// ---- the link to what is shown now
+
+/** The panel that is shown, as a link names it. */
+const panel_now = () => PANELS.find((it) => !$(it).hidden);
+
+/** What names the panel and the process that are shown, behind the words that name the run. */
+export function seen_now() {
+  const { chosen } = app, words = new URLSearchParams({ tab: panel_now() });
+  if (chosen && !$("follow").checked) words.set("pid", chosen);
+  if (words.get("tab") === "translate") { words.set("address", $("translated-address").value || "pc"); words.set("access", $("translated-access").value); }
+  if (words.get("tab") === "happened" && events_shown()) words.set("show", events_shown());
+  return String(words);
+}
+
+/** A short link to what is shown: if its run is one of an example as it was shipped, in rounds, whose keys were typed at the start. Else null. */
+export function short_place() {
+  const { work, booted, view, line } = app, { example, machine } = work;
+  const name = example ?? Object.keys(DATA.examples).find((it) => work.name === `${it}, as a link has it`);
+  if (!name || !booted?.how.rounds || booted.work !== work.name || !view) return null;
+  const shipped = shipped_files(name), is_shipped = work.files.length === shipped.length && shipped.every((it, k) => it.name === work.files[k].name && (it.text === undefined ? work.files[k].built_in : it.text === work.files[k].text)) && booted.files.every((it) => it.text === undefined || it.text === it.from.text);
+  if (!is_shipped || line.marks.key.length > programs.keys_of(machine.keys).length) return null;
+  const words = new URLSearchParams({ example: name }), usual = machine_of({ ...DATA.examples[name], rounds: true });
+  if (Number(machine.frames) !== Number(usual.frames)) words.set("frames", machine.frames);
+  if (Number(machine.quantum) !== Number(usual.quantum)) words.set("rounds", machine.quantum);
+  if (machine.keys !== usual.keys) words.set("keys", machine.keys);
+  words.set("at", view.at);
+  return `${words}&${seen_now()}`;
+}

@@ -1,0 +1,43 @@
+// The translation of an address by the page table of a process, and the last trap of a process, as the module tells them: for the worker.
+import { KIND } from "./machine.mjs";
+
+const TRAPFRAME = 2, ROOT = 3, MIDDLE = 4, LAST = 5;
+
+/** The frames of a process that lead to a page: its trapframe, its root, and the tables below it; null where there is none. */
+function way_to(machine, count, pid, page) {
+  const two = Math.floor(page / 262144), one = Math.floor(page / 512), way = { trapframe: null, root: null, middle: null, last: null };
+  for (let frame = 0; frame < count; frame++) {
+    const use = machine.use(frame);
+    if (use.pid !== pid) continue;
+    if (use.kind === TRAPFRAME) way.trapframe = frame;
+    else if (use.kind === ROOT) way.root = frame;
+    else if (use.kind === MIDDLE && use.place === two) way.middle = frame;
+    else if (use.kind === LAST && use.place === one) way.last = frame;
+  }
+  return way;
+}
+
+/** What the page table of a process says of an address: {address, page, way, rights, frame, size, registers}. */
+export function translation(machine, count, pid, address) {
+  const registers = machine.registers(pid);
+  if (registers === null) return null;
+  const page = Number((address >> 12n) & 0x7ffffffn), way = way_to(machine, count, pid, page), is_low = address < 1n << 38n;
+  const rights = is_low ? machine.rights(pid, page) : 0;
+  return { pid, address, page, way, rights, frame: rights & 1 ? machine.frame(pid, page) : null, size: machine.size(pid) ?? 0n, registers };
+}
+
+/** The last trap of a process before a place, that where the run stands if no other is given: {at, kind, number, pc, address}; null if it had none. */
+export function last_trap(run, pid, before = run.at) {
+  const { line, machine } = run;
+  for (let k = line.find(before - 1); k >= 0; k--) {
+    const kind = line.kind[k];
+    if (line.pid[k] !== pid || kind === KIND.STEP || kind > KIND.FAULT) continue;
+    const at = line.at[k], number = line.number[k];
+    return run.look(at, () => {
+      const process = machine.process(pid), pc = machine.register(pid, 0);
+      // A call that was begun before has moved the pc behind its ecall.
+      return { at, kind, number, pc: process?.call ? pc - 4n : pc, address: machine.address(pid), is_killed: kind === KIND.EXIT && process?.marked };
+    });
+  }
+  return null;
+}
