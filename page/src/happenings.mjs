@@ -55,6 +55,7 @@ class Reading {
   }
 }
 
+const bytes_told = (count) => `${count} byte${count === "1" ? "" : "s"}`;
 const int = (word) => String(BigInt.asIntN(32, word));
 const MODES = { 0: "to read", 1: "to write", 2: "to read and write" };
 
@@ -64,15 +65,15 @@ const ARGUMENTS = {
   exit: ([status]) => int(status),
   wait: ([address]) => (address ? `status to ${hex(address)}` : "no status"),
   pipe: ([address]) => `ends to ${hex(address)}`,
-  read: ([fd, address, count], it) => `${it.descriptor(fd)}; to ${hex(address)}, ${int(count)} bytes`,
-  write: ([fd, address, count], it) => `${it.descriptor(fd)}; ${quoted(it.bytes(address, Math.max(0, Number(int(count)))), Number(int(count)) > MOST_TEXT)}, ${int(count)} bytes`,
+  read: ([fd, address, count], it) => `${it.descriptor(fd)}; to ${hex(address)}, ${bytes_told(int(count))}`,
+  write: ([fd, address, count], it) => `${it.descriptor(fd)}; ${quoted(it.bytes(address, Math.max(0, Number(int(count)))), Number(int(count)) > MOST_TEXT)}, ${bytes_told(int(count))}`,
   kill: ([pid]) => `process ${int(pid)}`,
   exec: ([path, texts], it) => `${it.text(path)}; ${it.texts(texts)}`,
   dup: ([fd], it) => it.descriptor(fd),
   getpid: () => "",
-  sbrk: ([count]) => `${int(count)} bytes`,
-  sbrklazy: ([count]) => `${int(count)} bytes`,
-  sleep: ([ticks]) => `${int(ticks)} ticks`,
+  sbrk: ([count]) => bytes_told(int(count)),
+  sbrklazy: ([count]) => bytes_told(int(count)),
+  sleep: ([ticks]) => `${int(ticks)} tick${int(ticks) === "1" ? "" : "s"}`,
   uptime: () => "",
   open: ([path, mode], it) => `${it.text(path)}, ${MODES[int(mode)] ?? `mode ${int(mode)}`}`,
   close: ([fd], it) => it.descriptor(fd),

@@ -166,7 +166,7 @@ function begin() {
   on("ready", async () => {
     look();
     if (!(await sharing.follow(location.hash, "Here is what you had, or the shell, in its place.")) && (is_embedded() || !(await session.restore()))) { programs.choose("shell"); await programs.boot(); }
-    if (!matchMedia("(max-width: 820px)").matches && !is_embedded()) $("screen").focus({ preventScroll: true });
+    if (!matchMedia("(max-width: 820px)").matches && !is_embedded() && document.activeElement === document.body) $("screen").focus({ preventScroll: true });
   });
   addEventListener("hashchange", () => sharing.follow(location.hash, "The programs stay as they are."));
   for (const action of ["keydown", "pointerdown"]) addEventListener(action, hush, true);
