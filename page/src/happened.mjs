@@ -3,6 +3,7 @@
 import { $, app, ask, color_of, element, grouped, in_time, on, once, program_name, say, write } from "./app.mjs";
 import { KIND } from "./machine.mjs";
 import { all_calls, call_name } from "./calls.mjs";
+import { address_meant } from "./instruction.mjs";
 import { event_words } from "./time.mjs";
 
 const BEFORE = 28, BEHIND = 16; // events that are shown before the place, and behind it
@@ -180,6 +181,7 @@ async function call_that_opened(pid, fd, before) {
 /** Goes to the call by which a descriptor was opened: by the process, or by one from which it was forked. */
 export async function opened_by(pid, fd) {
   const { line, view } = app, words = [];
+  if (view.playing) ask("pause");
   known_of = `${app.booted.id} ${view.edits}`;
   let before = view.at, who = pid;
   for (;;) {
@@ -207,9 +209,6 @@ export function show_events(kind) {
   drawn = "";
 }
 
-/** An address that is written as a number, or null. */
-const number_of = (text) => (/^(0x[0-9a-f]{1,16}|\d{1,19})$/i.test(text.trim()) ? BigInt(text.trim()) : null);
-
 export function start() {
   $("event-what").replaceChildren(...Object.entries(WHAT).map(([value, [words]]) => element("option", { value }, words)));
   on("ready", () => $("event-what").append(...all_calls().map((name) => element("option", { value: CALL + name }, name))));
@@ -231,11 +230,11 @@ export function start() {
   $("back-break").addEventListener("click", () => look_back({ what: "stop" }));
   $("back-fault").addEventListener("click", last_fault);
   $("back-store").addEventListener("click", () => {
-    const address = number_of($("store-address").value);
-    if (address === null) say("Write an address, as 0x2fe0: the last store to it, by the process that is looked at, is looked for");
+    const address = address_meant($("store-address").value);
+    if (address === undefined) say("Write an address, as 0x2fe0, a register or a label: the last store to it, by the process that is looked at, is looked for");
     else last_store(address);
   });
   $("store-address").addEventListener("keydown", (event) => { if (event.key === "Enter") $("back-store").click(); });
-  $("seek-stop").addEventListener("click", () => { seeks++; ask("seek_no_more"); $("seek-stop").hidden = true; });
+  $("seek-stop").addEventListener("click", () => ask("seek_no_more"));
   on("booted", () => { drawn = filled = ""; anchor = null; known.clear(); seeks++; $("seek-stop").hidden = true; $("event-list").replaceChildren(); });
 }

@@ -6,6 +6,7 @@ import { describe_fault, hex } from "./words.mjs";
 
 const MOST_TEXT = 40; // bytes of a text that are told
 const MOST_TEXTS = 8; // texts of an exec that are told
+const DESCRIPTORS = 32; // of a process
 
 /** Bytes as a text in quotes. */
 function quoted(bytes, is_cut) {
@@ -49,7 +50,7 @@ class Reading {
 
   /** What a descriptor names. */
   descriptor(word) {
-    const fd = Number(BigInt.asIntN(32, word)), it = fd >= 0 && fd < 16 ? this.machine.descriptor(this.pid, fd) : null;
+    const fd = Number(BigInt.asIntN(32, word)), it = fd >= 0 && fd < DESCRIPTORS ? this.machine.descriptor(this.pid, fd) : null;
     if (!it) return `${fd}, which isn't open`;
     return `${fd}, ${["", "the console", `the file ${this.files[it.program]?.name}`, "the read end of a pipe", "the write end of a pipe"][it.kind]}`;
   }

@@ -122,7 +122,7 @@ function draw_memory() {
 /** The address that is meant, a number, a register, or a label; undefined if none is. */
 export function address_meant(text) {
   const { view } = app, name = text.trim();
-  if (/^(0x[0-9a-f]+|\d+)$/i.test(name)) return BigInt.asUintN(64, BigInt(name));
+  if (/^(0x[0-9a-f]{1,16}|\d{1,20})$/i.test(name)) return BigInt(name) < 1n << 64n ? BigInt(name) : undefined;
   const register = REGISTERS.indexOf(name);
   if (register >= 0) return view?.registers?.[register];
   return view?.registers && symbols_of(view.pid)?.names.find((it) => it.name === name)?.address;

@@ -168,7 +168,10 @@ function begin() {
     if (!(await sharing.follow(location.hash, "Here is what you had, or the shell, in its place.")) && (is_embedded() || !(await session.restore()))) { programs.choose("shell"); await programs.boot(); }
     if (!matchMedia("(max-width: 820px)").matches && !is_embedded() && document.activeElement === document.body) $("screen").focus({ preventScroll: true });
   });
-  addEventListener("hashchange", () => sharing.follow(location.hash, "The programs stay as they are."));
+  addEventListener("hashchange", () => {
+    for (const it of ["dialog", "manual"]) if ($(it).open && location.hash) $(it).close();
+    sharing.follow(location.hash, "The programs stay as they are.");
+  });
   for (const action of ["keydown", "pointerdown"]) addEventListener(action, hush, true);
   on("taken", () => show_tab($("tab-programs")));
   on("resized", redraw);

@@ -3,7 +3,7 @@
 import { $, app, ask, once, say } from "./app.mjs";
 import { all_calls } from "./calls.mjs";
 import { way_of } from "./reach.mjs";
-import { is_changed, machine_of, shipped_files } from "./works.mjs";
+import { machine_of, shipped_files } from "./works.mjs";
 import { events_shown, show_events } from "./happened.mjs";
 import { translate } from "./translate.mjs";
 import * as programs from "./programs.mjs";
@@ -32,8 +32,7 @@ function how_of(example, { frames, rounds, keys, at }) {
 /** Boots the example that a link names: as it was left, if it is all that is named, else as it was shipped. */
 async function boot_example(words) {
   const { example, at } = words, is_plain = ["at", "frames", "rounds", "keys"].every((it) => words[it] === undefined);
-  if (is_plain && !is_changed(example)) programs.choose(example);
-  else if (is_plain) programs.choose(example);
+  if (is_plain) programs.choose(example);
   else programs.set_files(shipped_files(example), how_of(example, words), `${example}, as a link has it`);
   return is_booted(() => programs.boot({ play: at === undefined }));
 }
@@ -115,7 +114,8 @@ export function short_place() {
   const name = example ?? Object.keys(DATA.examples).find((it) => work.name === `${it}, as a link has it`);
   if (!name || !booted?.how.rounds || booted.work !== work.name || !view) return null;
   const shipped = shipped_files(name), is_shipped = work.files.length === shipped.length && shipped.every((it, k) => it.name === work.files[k].name && (it.text === undefined ? work.files[k].built_in : it.text === work.files[k].text)) && booted.files.every((it) => it.text === undefined || it.text === it.from.text);
-  if (!is_shipped || line.marks.key.length > programs.keys_of(machine.keys).length) return null;
+  const keys = programs.keys_of(machine.keys), is_typed = line.marks.key.some((stretch, k) => line.number[stretch] !== keys[k]);
+  if (!is_shipped || is_typed || booted.config.frames !== Number(machine.frames) || booted.how.quantum !== Number(machine.quantum)) return null;
   const words = new URLSearchParams({ example: name }), usual = machine_of({ ...DATA.examples[name], rounds: true });
   if (Number(machine.frames) !== Number(usual.frames)) words.set("frames", machine.frames);
   if (Number(machine.quantum) !== Number(usual.quantum)) words.set("rounds", machine.quantum);

@@ -6,7 +6,7 @@ import { call_name } from "./calls.mjs";
 const MOST = 400000000; // events that a link may lead through
 const STILL = 4; // ticks at which nobody may run, until that is how the run ends
 
-const NAMED = { turn: [KIND.TURN], tick: [KIND.TICK], key: [KIND.KEY], fault: [KIND.FAULT], end: [KIND.EXIT, KIND.FAULT], asleep: [KIND.WAIT] };
+const NAMED = { turn: [KIND.TURN], tick: [KIND.TICK], key: [KIND.KEY], fault: [KIND.FAULT], exit: [KIND.EXIT], end: [KIND.EXIT, KIND.FAULT], asleep: [KIND.WAIT] };
 
 /** Whether an outcome is one of those that a word names: a kind of event, or a call that answers. */
 const is_named = (word, { kind, number }) => (NAMED[word] ? NAMED[word].includes(kind) : kind === KIND.CALL && call_name(number) === word);
@@ -23,8 +23,19 @@ export function way_of(text, calls) {
 export class Reach {
   constructor(run, plan, to, heard) {
     Object.assign(this, { run, plan, to, heard, left: to.count ?? 0, still: 0, still_from: null, is_there: false });
-    if (to.place !== undefined && to.place <= run.end) { run.go(to.place); this.is_there = true; } else run.go(run.end);
+    if (to.place !== undefined && to.place <= run.end) { run.go(to.place); this.is_there = true; } else if (!this.is_in_record()) run.go(run.end);
     plan.find();
+  }
+
+  /** Goes behind the event that is named, if the record has it already. */
+  is_in_record() {
+    const { run, to } = this, { line } = run;
+    for (let k = 0; to.word && k < line.length && !this.is_there; k++) {
+      if (!is_named(to.word, { kind: line.kind[k], number: line.number[k] }) || --this.left > 0) continue;
+      run.go(line.at[k] + 1);
+      this.is_there = true;
+    }
+    return this.is_there;
   }
 
   /** Whether it is there, or there is no way further. */

@@ -4,7 +4,7 @@ import { KIND, UNTIL } from "./machine.mjs";
 import { call_name } from "./calls.mjs";
 import { call_of, stored_by } from "./happenings.mjs";
 
-const FIRST_PART = 100000, MOST_OF_PART = 3000000; // events of a part: the first is short, since what is looked for is mostly near
+const FIRST_PART = 100000, MOST_OF_PART = 1000000; // events of a part: the first is short, since what is looked for is mostly near
 const MOST_STRETCHES = 20000; // of a part
 
 /** Where the part begins that ends before a place. */

@@ -18,7 +18,7 @@ const PAGE = 4096;
 const MOST_FUTURES = 8;
 const MOST_WAITING = 20000; // keys that wait, of which the page is told
 const ASKED = 60; // ms that the page's questions about events may take, before other messages are heard
-const EVENTS_AT_ONCE = 8; // events that are looked at from one copy of the machine
+const EVENTS_AT_ONCE = 4; // events that are looked at from one copy of the machine
 
 let machine = null, run = null, plan = null;
 let settings = { rounds: false, quantum: 1000, speed: 0 };
@@ -547,14 +547,16 @@ const obey = {
     no_more();
     if (wants.what === "stop" && !breaks.length) { postMessage({ sought: { id, place: -1, words: "There are no break points." } }); view(); return; }
     search = seek(run, { ...wants, breaks }, run.at);
+    search.gone = () => postMessage({ sought: { id, place: -1, words: "The search was ended." } });
     seek_on(id, search);
   },
-  seek_no_more() { search = null; },
+  seek_no_more() { /* each message that isn't aside ends a search */ },
   reach({ to }) {
     playing = false;
     no_more();
     stopped = "";
     search = new Reach(run, plan, to, heard);
+    search.gone = () => postMessage({ reached: { is: true, at: run.at } });
     reach_on(search);
   },
   assemble({ text, id }) { postMessage({ assembled: { id, ...machine.assemble(text) } }); },
@@ -599,6 +601,6 @@ function safely(action) {
 const ASIDE = new Set(["look", "assemble", "breaks", "tell_events", "record", "settings"]); // what a search goes on beside
 
 onmessage = ({ data }) => {
-  if (!ASIDE.has(data.do)) search = null;
+  if (!ASIDE.has(data.do) && search) { search.gone(); search = null; }
   safely(() => obey[data.do](data));
 };

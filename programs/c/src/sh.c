@@ -8,8 +8,8 @@
      ( COMMANDS )       runs them by a shell of their own
      exit [STATUS]      ends the shell, with the status of the last command if none is given
      wait               waits for all that was begun by &
-     ls                 names those programs of programs/bin that the machine has
-     help               says what can be typed
+     ls                 names those programs of programs/bin that the machine has, unless a program is called so
+     help               says what can be typed, unless a program is called so
      # ..               is passed over, as an empty line is
 
    There are no quotes: a text is what stands between blanks. There is no >, since files can't be written. */
@@ -230,17 +230,11 @@ static void open_input(const char *file)
         fail("sh: %s can't be opened\n", file);
 }
 
-static void run_program(char **texts)
-{
-    exec(texts[0], texts);
-    fail("sh: %s can't be run\n", texts[0]);
-}
-
 /* There are no directories: these are the names that ls looks for. */
 static const char *const known[] = {"cat", "crash", "echo", "forks", "grep", "head", "init", "kill", "lazy", "pingpong",
                                     "primes", "sh", "sleep", "sort", "storm", "tests", "wc"};
 
-static int list_programs(void)
+static void list_programs(void)
 {
     const char *between = "";
 
@@ -254,32 +248,34 @@ static int list_programs(void)
         between = "  ";
     }
     printf("\n");
-    return 0;
 }
 
-static int tell_help(void)
+static void tell_help(void)
 {
     printf("a line is a program's name and its texts: echo hello\n"
            "  a | b   b reads what a writes        a < file   a reads the file\n"
            "  a ; b   b begins when a has ended    a &        isn't waited for\n"
            "  ( a )   by a shell of its own        wait       waits for all that was begun by &\n"
            "  ls      names programs               exit       ends the shell\n");
-    return 0;
 }
 
-/* What the shell does itself. */
-enum own { NOTHING, EXIT, WAIT, LS, HELP };
-
-static enum own own_of(const struct node *node)
+/* Runs a program in this process, or does what the shell does where no program has the name. */
+static void run_program(char **texts)
 {
-    static const char *const names[] = {"", "exit", "wait", "ls", "help"};
+    exec(texts[0], texts);
+    if (strcmp(texts[0], "ls") == 0)
+        list_programs();
+    else if (strcmp(texts[0], "help") == 0)
+        tell_help();
+    else
+        fail("sh: %s can't be run\n", texts[0]);
+    exit(0);
+}
 
-    if (node->kind != PROGRAM)
-        return NOTHING;
-    for (int k = EXIT; k <= HELP; k++)
-        if (strcmp(node->words[0], names[k]) == 0)
-            return k;
-    return NOTHING;
+/* Whether the shell does this command itself. */
+static int is_own(const struct node *node)
+{
+    return node->kind == PROGRAM && (strcmp(node->words[0], "exit") == 0 || strcmp(node->words[0], "wait") == 0);
 }
 
 /* Runs a command in this process, which is a child and ends with it. */
@@ -290,7 +286,7 @@ static _Noreturn void become(const struct node *node)
     source = INPUT;
     if (node->file != NULL)
         open_input(node->file);
-    if (node->kind == PROGRAM && own_of(node) == NOTHING)
+    if (node->kind == PROGRAM && !is_own(node))
         run_program(node->words);
     exit(run(node->kind == GROUP ? node->left : node));
 }
@@ -353,26 +349,17 @@ static int run_background(const struct node *node)
     return 0;
 }
 
-static int run_own(enum own own, char **texts)
+static int run_own(char **texts)
 {
-    switch (own) {
-    case WAIT:
+    if (strcmp(texts[0], "wait") == 0)
         return await_all();
-    case LS:
-        return list_programs();
-    case HELP:
-        return tell_help();
-    default:
-        exit(texts[1] != NULL ? atoi(texts[1]) : last_status);
-    }
+    exit(texts[1] != NULL ? atoi(texts[1]) : last_status);
 }
 
 static int run_alone(const struct node *node)
 {
-    enum own own = own_of(node);
-
-    if (own != NOTHING)
-        return run_own(own, node->words);
+    if (is_own(node))
+        return run_own(node->words);
     int child = begin(node, 0, NULL);
     return child < 0 ? 1 : await(child);
 }
