@@ -1,4 +1,5 @@
-"""Looks at each link of each page: the file it leads to is there, and has the heading that stands behind '#'.
+"""Looks at each link of each page: the file it leads to is there, and has the heading that stands behind '#'; a link into
+the page names an example.
 
 A link whose text is a name of the code, as `two_worlds`, leads to a file in which that name stands; the statement
 of a law may stand there in its place, with capitals (`TwoWorlds`). Links to other sites aren't followed, and code that is
@@ -47,12 +48,21 @@ def stands_in(name, target):
     return re.search(rf"\b({word}|{capitals})\b", text_of(target)) is not None
 
 
+def is_place_of_page(place):
+    """Whether a link into the page, as #example=fork&at=3, names an example that it has; where it leads is tried by page/try/asked.mjs."""
+    found = re.match(r"example=([\w-]+)(%20course)?(&|$)", place)
+    folders = ["course"] if found and found[2] else ["examples", "course"]
+    return found is not None and (found[1] == "shell" or any((TOP / "programs" / it / found[1] / "init.s").exists() for it in folders))
+
+
 def wrong_with(page, name, link):
     """What is wrong with a link of a page, or nothing."""
     path, _, anchor = link.partition("#")
     target = page.parent / path if path else page
     if not target.exists():
         return "there is no such file"
+    if target.name == "nektavoly.html" and anchor:
+        return None if is_place_of_page(anchor) else "the page has no such example"
     if anchor and anchor not in anchors_of(target):
         return "there is no such heading"
     return None if stands_in(name, target) else f"{name} doesn't stand there"

@@ -6,7 +6,7 @@ import { all_calls, call_name } from "./calls.mjs";
 import { address_meant } from "./instruction.mjs";
 import { event_words } from "./time.mjs";
 
-const BEFORE = 28, BEHIND = 16; // events that are shown before the place, and behind it
+const BEFORE = 28, BEHIND = 16; // events that are shown before the place, and after it
 const MOST_LOOKED = 400000; // stretches that are looked at for them, each way
 const MOST_ASKED = 48; // events of one question to the worker
 
@@ -79,7 +79,7 @@ function draw() {
   for (const k of all) { if (!here.placed && line.at[k] >= view.at) { rows.push(here); here.placed = true; } rows.push(row(k)); }
   if (!here.placed) rows.push(here);
   const focused = document.activeElement?.dataset?.at;
-  box.replaceChildren(...(before.length ? [] : [element("p", { class: "dim" }, is_cut ? `none among the ${grouped(MOST_LOOKED)} before` : "none before")]), ...rows, ...(behind.length ? [] : [element("p", { class: "dim" }, "none behind, as far as the run goes")]));
+  box.replaceChildren(...(before.length ? [] : [element("p", { class: "dim" }, is_cut ? `none among the ${grouped(MOST_LOOKED)} before` : "none before")]), ...rows, ...(behind.length ? [] : [element("p", { class: "dim" }, "none after it, as far as the run goes")]));
   box.scrollTop = here.offsetTop - 0.6 * box.clientHeight;
   if (focused) box.querySelector(`[data-at="${focused}"]`)?.focus({ preventScroll: true });
   if (!view.playing) ask_for(all);

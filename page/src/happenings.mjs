@@ -1,4 +1,4 @@
-// What happened at an event of the record, asked of the machine as it was before and behind it: the arguments of a call in words, what it
+// What happened at an event of the record, asked of the machine as it was before and after it: the arguments of a call in words, what it
 // answered, and who woke. Its answers are made in the worker, for the events that are looked at alone.
 import { KIND } from "./machine.mjs";
 import { call_name } from "./calls.mjs";
@@ -128,7 +128,7 @@ function plain_words({ kind, pid, number }, machine) {
   }
 }
 
-/** The event at a place of the record: {at, words, answer, woke, ends}; the run stands behind it then. `ends`: the descriptors of a pipe. */
+/** The event at a place of the record: {at, words, answer, woke, ends}; the run stands after it then. `ends`: the descriptors of a pipe. */
 export function told_event(run, place) {
   const { machine, line } = run, k = line.find(place), event = { kind: line.kind[k], pid: line.pid[k], number: line.number[k], value: line.value[k] };
   run.go(place);

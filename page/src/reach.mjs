@@ -27,7 +27,7 @@ export class Reach {
     plan.find();
   }
 
-  /** Goes behind the event that is named, if the record has it already. */
+  /** Goes to the place after the event that is named, if the record has it already. */
   is_in_record() {
     const { run, to } = this, { line } = run;
     for (let k = 0; to.word && k < line.length && !this.is_there; k++) {

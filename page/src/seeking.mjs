@@ -20,7 +20,7 @@ function through(run, from, to, each) {
   for (let k = Math.max(0, line.find(run.at)); run.at < to && k < line.length; k++) each(k, Math.min(to, line.end_of(k)));
 }
 
-/** Replays a stretch of instructions, and calls with each place behind which the search was met. */
+/** Replays a stretch of instructions, and calls with each place at which the search was met. */
 function search(run, to, kind, pid, number, met) {
   while (run.at < to) {
     const told = run.machine.until(to - run.at, kind, pid, number);
@@ -71,7 +71,7 @@ function stop_in(run, from, to, before, breaks) {
       const kind = line.kind[k], pid = line.pid[k];
       if (it.kind === "call") {
         run.replay(end);
-        if ((kind === KIND.CALL || kind === KIND.WAIT) && line.number[k] === it.number) note(end, `behind ${it.name}`);
+        if ((kind === KIND.CALL || kind === KIND.WAIT) && line.number[k] === it.number) note(end, `after ${it.name}`);
       } else if (kind === KIND.STEP && fits(it, pid)) {
         const is_store = it.kind === "store";
         search(run, end, is_store ? UNTIL.STORE : UNTIL.AT, is_store ? 0 : pid, it.address, (at) => note(is_store ? at - 1 : at, is_store ? `before a store to ${it.name}` : `at ${it.name}`));

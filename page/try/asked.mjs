@@ -29,7 +29,7 @@ const EXIT = "  li a0, 7\n  li a7, 2\n  ecall\n";
 const SLIDES = [
   [80, "instruction", /uptime answers 2/], [3, "instruction", /Process 2/], [null, "opened", /the write end of the pipe/], [49, "why", /nobody can go on/i],
   [1, "pages", /51 pages of 51/], [1, "translate", /Bit U refuses/], [3, "why", /jump to an address that is no multiple of 4|no multiple of its size/], [5, "pages", /3 pages of/],
-  [2666, "happened", /has a turn/], [17, "opened", /write end/], [46, "happened", /exit\(1\) ends with 1/], [81, "instruction", /sb t0, 0\(a1\)/],
+  [2666, "happened", /has a turn/], [29, "opened", /2048 of 2048 bytes/], [46, "happened", /exit\(1\) ends with 1/], [81, "instruction", /sb t0, 0\(a1\)/],
 ];
 
 async function slides(page) {
