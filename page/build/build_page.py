@@ -55,7 +55,7 @@ def heading(source):
     return re.split(r"(?<=[.?!:])\s", words)[0].rstrip(".:")[:64]
 
 
-PROGRAMS = "init sh echo cat wc grep head sort kill sleep primes pingpong forks lazy crash storm tests".split()
+PROGRAMS = "init sh ls help echo cat wc grep head sort kill sleep primes pingpong forks lazy crash storm tests".split()
 
 
 def examples():

@@ -8,8 +8,6 @@
      ( COMMANDS )       runs them by a shell of their own
      exit [STATUS]      ends the shell, with the status of the last command if none is given
      wait               waits for all that was begun by &
-     ls                 names those programs of programs/bin that the machine has, unless a program is called so
-     help               says what can be typed, unless a program is called so
      # ..               is passed over, as an empty line is
 
    There are no quotes: a text is what stands between blanks. There is no >, since files can't be written. */
@@ -230,46 +228,10 @@ static void open_input(const char *file)
         fail("sh: %s can't be opened\n", file);
 }
 
-/* There are no directories: these are the names that ls looks for. */
-static const char *const known[] = {"cat", "crash", "echo", "forks", "grep", "head", "init", "kill", "lazy", "pingpong",
-                                    "primes", "sh", "sleep", "sort", "storm", "tests", "wc"};
-
-static void list_programs(void)
-{
-    const char *between = "";
-
-    for (size_t k = 0; k < sizeof known / sizeof known[0]; k++) {
-        int file = open(known[k], TO_READ);
-
-        if (file < 0)
-            continue;
-        close(file);
-        printf("%s%s", between, known[k]);
-        between = "  ";
-    }
-    printf("\n");
-}
-
-static void tell_help(void)
-{
-    printf("a line is a program's name and its texts: echo hello\n"
-           "  a | b   b reads what a writes        a < file   a reads the file\n"
-           "  a ; b   b begins when a has ended    a &        isn't waited for\n"
-           "  ( a )   by a shell of its own        wait       waits for all that was begun by &\n"
-           "  ls      names programs               exit       ends the shell\n");
-}
-
-/* Runs a program in this process, or does what the shell does where no program has the name. */
 static void run_program(char **texts)
 {
     exec(texts[0], texts);
-    if (strcmp(texts[0], "ls") == 0)
-        list_programs();
-    else if (strcmp(texts[0], "help") == 0)
-        tell_help();
-    else
-        fail("sh: %s can't be run\n", texts[0]);
-    exit(0);
+    fail("sh: %s can't be run\n", texts[0]);
 }
 
 /* Whether the shell does this command itself. */
