@@ -31,8 +31,9 @@ let known_of = "", asked = 0, anchor = null, seeks = 0;
 /** Whether a stretch is one of those that are wanted. */
 function wanted() {
   const { line } = app, pid = Number($("event-pid").value), what = $("event-what").value, answer = $("event-answer").value.trim().replace(/[−–]/g, "-");
-  const is = what.startsWith(CALL) ? (kind, number) => (kind === KIND.CALL || kind === KIND.WAIT) && call_name(number) === what.slice(CALL.length) : WHAT[what][1];
-  return (k) => is(line.kind[k], line.number[k]) && (!pid || line.pid[k] === pid) && (answer === "" || (line.kind[k] === KIND.CALL && String(line.value[k]) === answer) || (line.kind[k] === KIND.EXIT && String(line.number[k]) === answer));
+  const is_call = (kind, number) => (kind === KIND.CALL || kind === KIND.WAIT) && call_name(number) === what.slice(CALL.length);
+  const is = what.startsWith(CALL) ? is_call : WHAT[what][1], answer_of = (k) => ({ [KIND.CALL]: line.value[k], [KIND.EXIT]: line.number[k] })[line.kind[k]];
+  return (k) => is(line.kind[k], line.number[k]) && (!pid || line.pid[k] === pid) && (answer === "" || String(answer_of(k)) === answer);
 }
 
 /** The stretches that are wanted round a place: the last ones before it, and the next ones. */
@@ -59,9 +60,9 @@ function row(k) {
   const words = told ? told.words : event_words(at).replace(/^process \d+:? ?/, "").replace(/^turn of process \d+/, "has a turn");
   const woke = told?.woke.length ? ` · woke ${told.woke.map((it) => `${it} (${program_name(app.names.get(it))})`).join(", ")}` : "";
   const kind = line.kind[k] === KIND.FAULT ? "bad" : line.kind[k] === KIND.WAIT ? "waits" : line.value[k] === -1 && line.kind[k] === KIND.CALL ? "bad" : "";
+  const answer = told?.answer ? element("b", {}, ` = ${told.answer}`.replace(/ = (sleeps|ends)/, " $1")) : "", swatch = pid ? { class: "swatch", style: `background:${color_of(pid)}` } : {};
   return element("button", { class: `event ${kind}`, "data-at": at, title: "Go there: before this event", onclick: () => { anchor = null; ask("go", { place: at }); } },
-    element("span", { class: "number dim" }, grouped(at)), pid ? element("span", { class: "swatch", style: `background:${color_of(pid)}` }) : element("span"), element("span", { class: "dim" }, pid ? String(pid) : ""),
-    element("span", {}, words, told?.answer ? element("b", {}, ` = ${told.answer}`.replace(/ = (sleeps|ends)/, " $1")) : "", woke));
+    element("span", { class: "number dim" }, grouped(at)), element("span", swatch), element("span", { class: "dim" }, pid ? String(pid) : ""), element("span", {}, words, answer, woke));
 }
 
 let drawn = "";
@@ -79,7 +80,10 @@ function draw() {
   for (const k of all) { if (!here.placed && line.at[k] >= view.at) { rows.push(here); here.placed = true; } rows.push(row(k)); }
   if (!here.placed) rows.push(here);
   const focused = document.activeElement?.dataset?.at;
-  box.replaceChildren(...(before.length ? [] : [element("p", { class: "dim" }, is_cut ? `none among the ${grouped(MOST_LOOKED)} before` : "none before")]), ...rows, ...(behind.length ? [] : [element("p", { class: "dim" }, "none after it, as far as the run goes")]));
+  const none = (words) => element("p", { class: "dim" }, words);
+  if (!before.length) rows.unshift(none(is_cut ? `none among the ${grouped(MOST_LOOKED)} before` : "none before"));
+  if (!behind.length) rows.push(none("none after it, as far as the run goes"));
+  box.replaceChildren(...rows);
   box.scrollTop = here.offsetTop - 0.6 * box.clientHeight;
   if (focused) box.querySelector(`[data-at="${focused}"]`)?.focus({ preventScroll: true });
   if (!view.playing) ask_for(all);

@@ -8,10 +8,12 @@ const MOST_TEXT = 40; // bytes of a text that are told
 const MOST_TEXTS = 8; // texts of an exec that are told
 const DESCRIPTORS = 32; // of a process
 
+const SIGNS = { 9: "\\t", 10: "\\n", 34: '\\"', 92: "\\\\" }; // bytes that a text in quotes shows by two letters
+
 /** Bytes as a text in quotes. */
 function quoted(bytes, is_cut) {
   let text = "";
-  for (const byte of bytes) text += byte === 10 ? "\\n" : byte === 9 ? "\\t" : byte === 34 || byte === 92 ? `\\${String.fromCharCode(byte)}` : byte < 32 || byte > 126 ? `\\x${byte.toString(16).padStart(2, "0")}` : String.fromCharCode(byte);
+  for (const byte of bytes) text += SIGNS[byte] ?? (byte < 32 || byte > 126 ? `\\x${byte.toString(16).padStart(2, "0")}` : String.fromCharCode(byte));
   return `"${text}"${is_cut ? ".." : ""}`;
 }
 

@@ -25,7 +25,8 @@ export const is_slide = () => is_embedded() || is_lecture();
 
 /** The machine's settings that a link names, over those of the example; a place in a run is one in rounds, which are the same each time. */
 function how_of(example, { frames, rounds, keys, at }) {
-  const how = { ...DATA.examples[example] }, given = { frames: Number(frames) || how.frames, quantum: Number(rounds) || how.quantum, keys: keys === undefined ? how.keys : new TextDecoder().decode(programs.keys_of(keys)) };
+  const how = { ...DATA.examples[example] }, typed = keys === undefined ? how.keys : new TextDecoder().decode(programs.keys_of(keys));
+  const given = { frames: Number(frames) || how.frames, quantum: Number(rounds) || how.quantum, keys: typed };
   return { ...how, ...given, rounds: how.rounds || rounds !== undefined || at !== undefined };
 }
 
@@ -113,7 +114,8 @@ export function short_place() {
   const { work, booted, view, line } = app, { example, machine } = work;
   const name = example ?? Object.keys(DATA.examples).find((it) => work.name === `${it}, as a link has it`);
   if (!name || !booted?.how.rounds || booted.work !== work.name || !view) return null;
-  const shipped = shipped_files(name), is_shipped = work.files.length === shipped.length && shipped.every((it, k) => it.name === work.files[k].name && (it.text === undefined ? work.files[k].built_in : it.text === work.files[k].text)) && booted.files.every((it) => it.text === undefined || it.text === it.from.text);
+  const shipped = shipped_files(name), is_same = (it, own) => it.name === own.name && (it.text === undefined ? own.built_in : it.text === own.text);
+  const is_shipped = work.files.length === shipped.length && shipped.every((it, k) => is_same(it, work.files[k])) && booted.files.every((it) => it.text === undefined || it.text === it.from.text);
   const keys = programs.keys_of(machine.keys), is_typed = line.marks.key.some((stretch, k) => line.number[stretch] !== keys[k]);
   if (!is_shipped || is_typed || booted.config.frames !== Number(machine.frames) || booted.how.quantum !== Number(machine.quantum)) return null;
   const words = new URLSearchParams({ example: name }), usual = machine_of({ ...DATA.examples[name], rounds: true });
