@@ -15,7 +15,8 @@ const TOUR = [
   ["right", "What the process is at: its next instruction and registers, its page table, its descriptors, what happened up to here, and why somebody faults or sleeps."],
   ["left", "Your own: change a program here, and Boot runs it. Lessons, beside it, ask questions, and the machine tells whether you are right."],
 ];
-let step = -1;
+const ENOUGH = 3; // lines that were typed: who has typed so many needs no hint
+let step = -1, lines = 0;
 
 /** A command, typed as by hand. */
 function command(text) {
@@ -76,6 +77,10 @@ export function start() {
   $("tour-back").addEventListener("click", () => show_step(step - 1));
   $("tour-skip").addEventListener("click", () => show_step(-1));
   $("tour").addEventListener("keydown", (event) => { if (event.key === "Escape") { event.preventDefault(); show_step(-1); } });
+  on("typed", (bytes) => {
+    lines += bytes.filter((it) => it === 10).length;
+    if (lines >= ENOUGH && !first.hidden) hide();
+  });
   // (It is for the shell: another example has no prompt.)
   on("work", ({ name }) => { first.hidden = is_slide() || name !== "shell" || kept("first") === "seen"; });
 }
