@@ -16,7 +16,6 @@ const TAKERS = {
   "--frames": ALL, "--rounds": ["run", "--why", "--explain", "--picture"], "--quantum": ["run", "--why", "--explain", "--picture", "--gdb"],
   "--trace": ["run", "terminal", "--why", "--explain", "--debug"], "--tick": SESSION, "--record": SESSION, "--replay": SESSION,
   "--most": GDB, "--keys": GDB, "--type": GDB, "--file": GDB, "--commands": GDB,
-  "--pid": EXPLAIN, "--call": EXPLAIN, "--failed": EXPLAIN, "--count": EXPLAIN,
   "--notes": ALL, "--lines": ALL, "--apart": ALL, "--terminal": ALL, "--prompt": ALL,
 };
 

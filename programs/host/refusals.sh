@@ -28,7 +28,6 @@ takers() {
         --trace) echo 'run terminal --why --explain --debug' ;;
         --tick | --record | --replay) echo terminal ;;
         --most | --keys | --type | --file | --commands) echo --gdb ;;
-        --pid | --call | --failed | --count) echo --explain ;;
         # The options that scripts give.
         --notes | --lines | --apart | --terminal | --prompt) echo 'run terminal --why --explain --picture --debug --gdb' ;;
         *) echo none ;;
@@ -37,7 +36,7 @@ takers() {
 
 has_value() {
     case $1 in
-        --notes | --apart | --terminal | --prompt | --failed | --count) return 1 ;;
+        --notes | --apart | --terminal | --prompt) return 1 ;;
     esac
 }
 
