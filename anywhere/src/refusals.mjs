@@ -9,7 +9,7 @@ import { kinds_of } from "./words.mjs";
 const MOST_FILES = 64, MOST_NAME_BYTES = 14, MOST_MISTAKES = 20;
 const WORDS_REFUSED = 1, FILE_REFUSED = 2;
 const ALL = ["run", "terminal", "--why", "--explain", "--picture", "--debug", "--gdb"];
-const SESSION = ["terminal"], GDB = ["--gdb"], EXPLAIN = ["--explain"];
+const SESSION = ["terminal"], GDB = ["--gdb"];
 
 /** The kinds that take an option. The last five are given by scripts. */
 const TAKERS = {
