@@ -3,7 +3,8 @@
 //
 //   EXERCISE         a file of TOML, as programs/course/grading/children.toml; docs/manual/grading.md says what stands in it
 //   SUBMISSION       a folder for each student, whose name may have any bytes
-//   --work FOLDER    where each submission's results are kept: its console, notes, trace and picture (./grade-work)
+//   --work FOLDER    where each submission's results are kept: its console, notes, trace and picture (./grade-work/NAME, if
+//                    the exercise is NAME.toml)
 //   --resume         a submission that has a result there is not graded anew, unless it, the exercise or the program changed
 //   --jobs N         so many at a time (as many as there are processors)
 //
@@ -12,9 +13,12 @@
 // the names that the exercise has, no longer than 1,048,576 bytes, are taken, and copied before they are used; no link is
 // followed, and nothing of a submission is run on the host. How long a run may take is said in events, so the results are the
 // same on any host, in any order and on any number of processors. With XV_PICTURE= no pictures are drawn.
+// A submission that the host can't read, or whose result it can't write, has no mark: it is `not graded`, and --resume takes it
+// up. One grader at a time works in a FOLDER: its file `lock` says which.
 //
-// Status: 0 each submission has a result; 1 the words are refused; 2 the exercise is refused, a submission has no result, or there is no module;
-// 5 the results cannot be written; 125 Node is too old, or it met a fault of its own.
+// Status: 0 each submission has a result; 1 the words are refused; 2 the exercise is refused, another grader works in the FOLDER,
+// a submission is not graded, or there is no module; 5 the results can't be written; 125 Node is too old, or it met a fault of
+// its own.
 import { begin } from "./src/begin.mjs";
 
 begin("grade", "./grading/grade.mjs");

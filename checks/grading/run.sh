@@ -1,8 +1,10 @@
 #!/bin/bash
 # Grades made-up submissions, and compares what comes out with what is stored: checks/grading/run.sh [PROGRAM] grades the quick
-# ones, two or three of each kind, in some seconds; checks/grading/run.sh --all [PROGRAM] all 207 of them, twice, in two orders, on
+# ones, two or three of each kind, in some seconds; checks/grading/run.sh --all [PROGRAM] all 209 of them, twice, in two orders, on
 # one process and on four, with a kill and a second start in between; checks/grading/run.sh --many [PROGRAM] a thousand, made of these
 # under other names, by GNU parallel on two processes; checks/grading/run.sh --store [PROGRAM] stores anew.
+# Before that it grades the answers of the course's exercises (answers/EXERCISE/NAME): right ones in several variants, wrong ones, and
+# fakes, which are worth no more than what they do; and folders.sh tries folders, words and exercise files.
 # PROGRAM is xv_grade, under that name, and without it the one that stands in this repository. With XV_NODE=yes it is
 # anywhere/grade.mjs in place of programs/course/grade.sh: --many is done by two of its workers, and some jobs fail by a trap or by
 # the death of their worker. The status is 0 if all is as stored.
@@ -54,6 +56,22 @@ for folder in "$here"/answers/*/; do
         { failed=$((failed + 1)); cat "$room/errors" >&2; }
     compare "$room/$exercise.csv" "$exercise.csv"
 done
+
+# A name that begins with `right` has all points, and a fake hasn't.
+python3 - "$here"/stored/[0-9]*.csv <<'END' || failed=$((failed + 1))
+import csv, sys
+wrong = 0
+for name in sys.argv[1:]:
+    with open(name, encoding="utf-8", newline="") as file:
+        for row in csv.DictReader(file):
+            right, full = row["submission"].startswith("right"), row["status"] == "right" and row["points"] == row["of"]
+            if right != full:
+                wrong += 1
+                print("grading:", name.rsplit("/", 1)[1], row["submission"], row["points"], "of", row["of"], row["status"], file=sys.stderr)
+sys.exit(1 if wrong else 0)
+END
+
+"$here/folders.sh" "${grader[@]}" || failed=$((failed + 1))
 
 "$here/submissions.sh" "$room/made" || exit 2
 # A run of 20,000 events shows as well as one of a million that a submission loops.

@@ -59,7 +59,7 @@ done < <(printf '%s\0' 'Müller, Anna' "O'Brien \"Pat\"" $'new\nline' $'tab\ther
     '*' '$(touch owned)' '`touch owned`' '; touch owned' '| touch owned' '> owned' $'not UTF-8: \xff\xfe' '=1+1' '<b>&amp;' \
     $'\x1b[31mred' '..hidden' "$(printf 'long%.0s' {1..60})")
 
-# ---- hostile by their files: 26
+# ---- hostile by their files: 28
 program "$closes_write" '' 1 "$exits" >../outside.s
 mkdir -p link-to-a-host-file link-to-a-right-file fifo folder-as-file sparse-and-large empty no-file
 ln -sf /etc/passwd link-to-a-host-file/init.s
@@ -88,6 +88,8 @@ printf '  li a0, 1\n  li a7, 6\n  ecall\n' | put kills-itself
 printf '  la a0, name\n  li a1, 0\n  li a7, 15\n  ecall\n  mv s0, a0\n  li a0, 3\n  li a7, 2\n  ecall\n.data\nname: .asciz "/etc/passwd"\n' | put opens-a-host-file
 printf '  la a0, name\n  li a1, 0\n  li a7, 7\n  ecall\n  li a0, 3\n  li a7, 2\n  ecall\n.data\nname: .asciz "/bin/sh"\n' | put runs-a-host-program
 program "$closes_write" '' 1 "$exits" | sed 's/$/\r/' | put carriage-returns
+{ printf '\357\273\277' && program "$closes_write" '' 1 "$exits" | sed 's/$/\r/'; } | put byte-order-mark
+printf '\357\273\277 \r\n\r\n' | put blanks-alone
 { program "$closes_write" '' 1 "$exits" && head -c 300000 /dev/zero | tr '\0' '#'; } | put one-very-long-line
 mkdir -p hard-link
 ln -f ../outside.s hard-link/init.s

@@ -56,7 +56,7 @@ grade_class() {
     has 'grading: right' '^anna,6,6,right,$' cat graded.csv
     has 'grading: a fault with its line' '^chris,1,6,fault,.*line 14' cat graded.csv
     has 'grading: a name that no file has' '^gero,0,6,refused' cat graded.csv
-    edgar=$(grep -l '^edgar' grade-work/jobs/*/name)
+    edgar=$(grep -l '^edgar' grade-work/children/jobs/*/name)
     has 'grading: a picture of a run that waits' 'process 1[^<]*asleep' cat "${edgar%/name}/out/picture-1.svg"
 }
 

@@ -50,8 +50,8 @@ function sum_of(program, files) {
 /**
  * Reads the exercise at this path.
  *
- * @returns the module, its path as the program takes it, the names that are wanted, the files, and the sum of all on which a
- *   result depends beside the submission
+ * @returns the module, its path as the program takes it, the names that are wanted, the files, the sum of the exercise's text,
+ *   and that of all on which a result depends beside the submission
  */
 export function read_exercise(given) {
   const here = is_whole(given) ? given : inside(process.cwd(), given);
@@ -60,5 +60,6 @@ export function read_exercise(given) {
   const wanted = lines_of(module, [path]);
   // The exercise itself is the first of them.
   const files = new Map(lines_of(module, ["--inputs", path]).map((file) => [key_of(file), file_at(file)]));
-  return { module, path, wanted, files, common: sum_of(readFileSync(file_of("xv_grade")), files) };
+  const text = createHash("sha256").update(files.values().next().value.bytes).digest("hex");
+  return { module, path, wanted, files, text, common: sum_of(readFileSync(file_of("xv_grade")), files) };
 }

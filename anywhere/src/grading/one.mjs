@@ -42,10 +42,14 @@ function keep(job, made) {
   renameSync(inside(job, "out.new"), inside(job, "out"));
 }
 
-/** Tells in a job's folder why it has no result. */
+/** Tells in a job's folder why it has no result, as far as the host can write there. */
 export function fail(job, text) {
-  rmSync(inside(job, "out.new"), { recursive: true, force: true });
-  writeFileSync(inside(job, "failed"), text);
+  try {
+    rmSync(inside(job, "out.new"), { recursive: true, force: true });
+    writeFileSync(inside(job, "failed"), text);
+  } catch {
+    // There is no result, and that is told.
+  }
 }
 
 /**
@@ -54,9 +58,9 @@ export function fail(job, text) {
  * @param {{path: Uint8Array, files: Map, has_pictures: boolean}} exercise
  */
 export function grade_one(module, exercise, job) {
-  for (const name of ["out", "out.new", "failed"]) rmSync(inside(job, name), { recursive: true, force: true });
   const words = ["--name", "/name", "--refused", "/refused", "--out", "/out", exercise.path, "/files"];
   try {
+    for (const name of ["out", "out.new", "failed"]) rmSync(inside(job, name), { recursive: true, force: true });
     const { status, errors, made } = run_closed(module, "xv_grade", words, given_of(job, exercise));
     if (status !== 0) return fail(job, errors);
     keep(job, exercise.has_pictures ? [...made, ...pictures(module, made)] : [...made]);

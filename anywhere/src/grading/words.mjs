@@ -20,7 +20,7 @@ const OTHERS = "it is one of programs/course/grade.sh, on Linux";
 function read_option(words, options) {
   const word = words.shift().toString();
   const value = () => {
-    if (words.length === 0) throw new Refusal(1, `${word} takes a word`);
+    if (words.length === 0) throw new Refusal(1, `${word} takes a word behind it; --help tells which`);
     return words.shift();
   };
   switch (word) {
@@ -48,7 +48,7 @@ function read_option(words, options) {
 
 /** What the words, texts or bytes, ask for: options, the exercise and the paths of submissions. */
 export function read_words(words) {
-  const options = { work: Buffer.from("grade-work"), jobs: null, resume: false, help: false };
+  const options = { work: null, jobs: null, resume: false, help: false };
   const left = words.map((word) => Buffer.from(word));
   while (left.length > 0 && !options.help && left[0][0] === 0x2d) {
     if (left[0].toString() === "--") {

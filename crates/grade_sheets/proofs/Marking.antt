@@ -1,13 +1,14 @@
 -- Marks that are given one by one.
 use Rattle.std.proofs.Common.{◌≡◌, ℕ, ◌+◌, ◌<◌, List, [], ◌∷◌, ◌++◌, length, take, get_or, sym, ap, subst, ◌∙◌}
 use Rattle.std.proofs.lemmas.List.{take_more}
-use Rattle.std.specs.Prelude.{Bool, false, if◌then◌else◌, sum_by, refl}
-use Rattle.std.specs.List.{list_any}
+use Rattle.std.specs.Prelude.{Bool, true, false, ◌&&◌, if◌then◌else◌, sum_by, refl}
+use Rattle.std.specs.List.{list_any, list_all}
 use Rattle.std.proofs.lemmas.Bool.{or_parts}
 use Rattle.grade_sheets.specs.declared.asked.Asked.{Asked}
+use Rattle.grade_sheets.specs.declared.asked.Check.{Check}
 use Rattle.grade_sheets.specs.declared.judging.Mark.{Mark}
 use Rattle.grade_sheets.specs.declared.judging.Seen.{Seen}
-use Rattle.grade_sheets.specs.Grades.{IsMarked, AreMarked}
+use Rattle.grade_sheets.specs.Grades.{IsAnswered, AreEachAnswered, AreAnswered, IsMarked, AreMarked}
 use Rattle.grade_sheets.specs.Points.{given_for}
 use Rattle.grade_sheets.specs.Standings.{has}
 
@@ -25,6 +26,33 @@ pub marked_more : (asked : List Asked) (seen : Seen) (marks : List Mark) (place 
 marked_more asked seen marks place one mark within is all here =
     let is_that : take (place + 1) asked ≡ take place asked ++ one ∷ [] = take_more asked place one within ∙ ap (λ (a : Asked). take place asked ++ a ∷ []) (sym is) in
     subst (λ (xs : List Asked). AreMarked xs seen (marks ++ mark ∷ [])) (sym is_that) (one_more (take place asked) seen marks one mark all here)
+
+-- ---- answers that are given one by one
+
+answers_more : (checks : List Check) (seen : Seen) (answers : List Bool) (check : Check) (has : Bool) → AreEachAnswered checks seen answers → IsAnswered check seen has
+    → AreEachAnswered (checks ++ check ∷ []) seen (answers ++ has ∷ [])
+answers_more [] seen [] check has each here = (here, tt)
+answers_more [] seen (other ∷ answers) check has each here = absurd each
+answers_more (other ∷ checks) seen [] check has each here = absurd each
+answers_more (other ∷ checks) seen (its ∷ answers) check has each here = (each.0, answers_more checks seen answers check has each.1 here)
+
+all_more : (answers : List Bool) (has : Bool) → list_all (λ b. b) (answers ++ has ∷ []) ≡ list_all (λ b. b) answers && has
+all_more [] true = refl
+all_more [] false = refl
+all_more (true ∷ answers) has = all_more answers has
+all_more (false ∷ answers) has = refl
+
+-- the answer for what stands at a place, behind those for all before it
+pub answered_more : (checks : List Check) (seen : Seen) (so_far : Bool) (place : ℕ) (check : Check) (has : Bool) → place < length checks
+    → check ≡ get_or checks place check → AreAnswered (take place checks) seen so_far → IsAnswered check seen has
+    → AreAnswered (take (place + 1) checks) seen (so_far && has)
+answered_more checks seen so_far place check has within is before here =
+    let is_that : take (place + 1) checks ≡ take place checks ++ check ∷ [] = take_more checks place check within ∙ ap (λ (c : Check). take place checks ++ c ∷ []) (sym is) in
+    record {
+      answers = before.answers ++ has ∷ [];
+      each = subst (λ (xs : List Check). AreEachAnswered xs seen (before.answers ++ has ∷ [])) (sym is_that) (answers_more (take place checks) seen before.answers check has before.each here);
+      all = ap (λ (b : Bool). b && has) before.all ∙ sym (all_more before.answers has);
+    }
 
 -- ---- sums that stop at the largest number of 64 bits
 

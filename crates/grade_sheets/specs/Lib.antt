@@ -1,3 +1,4 @@
+pub mod Answers
 pub mod Grades
 pub mod Points
 pub mod Standings

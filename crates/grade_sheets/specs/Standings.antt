@@ -38,13 +38,13 @@ names_faults (Exactly of wanted) = list_any is_on_faults wanted.items
 
 -- of what is asked: a run that has it may have faults, by its rule, or since the programs aren't the student's
 abbrev pub check_may_fault : Check → Bool
-check_may_fault (Line line) = true
+check_may_fault (Line question wanted) = true
 check_may_fault (Predicts words) = true
 check_may_fault (Notes rule texts) = names_faults rule
 check_may_fault _ = false
 
 abbrev pub may_fault : Asked → Bool
-may_fault one = check_may_fault one.check
+may_fault one = list_any check_may_fault one.checks.items
 
 -- the run has what the mark is for
 abbrev pub has : Mark → Bool

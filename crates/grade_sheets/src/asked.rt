@@ -2,7 +2,7 @@
 use crate::keys::{Keys, natural};
 use crate::notation::pattern;
 use crate::refusal::{SheetError, refused, told};
-use grade_rules::{Edge, Pattern, Rule};
+use grade_rules::{Edge, Pattern, Rule, judge};
 use std::alloc::Global;
 use toml::Value;
 
@@ -18,81 +18,113 @@ const RULE_KEYS: [&str; 17] = [
     "at_most", "none_of", "first", "then", "steps", "order", "of", "notes",
 ];
 
-/// A kind of rules.
+/// A kind of what a rule asks.
 struct Kind {
     /// What such a rule is called where it is refused.
     place: &'static str,
-    /// The keys of what it asks for: it has each of them.
+    /// Its keys: a rule that has one of them has all.
     needed: &'static [&'static str],
-    /// The keys that it may have beside them.
+    /// Keys that go with them alone.
     others: &'static [&'static str],
+    /// What it asks.
+    read: Asks,
 }
 
-/// The keys that every rule may have.
-const PLAIN: &[&str] = &["name", "points"];
+/// What the keys of a kind ask.
+#[derive(Clone, Copy)]
+enum Asks {
+    Status,
+    Shown,
+    Shows,
+    Rise,
+    Line,
+    Predicts,
+    Count,
+    NoneOf,
+    Before,
+    InOrder,
+    Exactly,
+}
 
-/// The kinds of rules.
+/// The kinds.
 const KINDS: [Kind; 11] = [
     Kind {
         place: "a rule with `status`",
         needed: &["status"],
-        others: PLAIN,
+        others: &[],
+        read: Asks::Status,
     },
     Kind {
         place: "a rule with `shown`",
         needed: &["shown"],
-        others: PLAIN,
+        others: &[],
+        read: Asks::Shown,
     },
     Kind {
         place: "a rule with `shows`",
         needed: &["shows"],
-        others: PLAIN,
+        others: &[],
+        read: Asks::Shows,
     },
     Kind {
         place: "a rule with `rise`",
         needed: &["rise"],
-        others: PLAIN,
+        others: &[],
+        read: Asks::Rise,
     },
     Kind {
         place: "a rule with `line`",
         needed: &["line"],
-        others: PLAIN,
+        others: &[],
+        read: Asks::Line,
     },
     Kind {
         place: "a rule with `predicts`",
         needed: &["predicts"],
-        others: PLAIN,
+        others: &[],
+        read: Asks::Predicts,
     },
     Kind {
         place: "a rule with `note`",
         needed: &["note"],
-        others: &["name", "points", "at_least", "at_most"],
+        others: &["at_least", "at_most"],
+        read: Asks::Count,
     },
     Kind {
         place: "a rule with `none_of`",
         needed: &["none_of"],
-        others: PLAIN,
+        others: &[],
+        read: Asks::NoneOf,
     },
     Kind {
         place: "a rule with `first` and `then`",
         needed: &["first", "then"],
-        others: PLAIN,
+        others: &[],
+        read: Asks::Before,
     },
     Kind {
         place: "a rule with `steps`",
         needed: &["steps"],
-        others: &["name", "points", "order"],
+        others: &["order"],
+        read: Asks::InOrder,
     },
     Kind {
         place: "a rule with `of` and `notes`",
         needed: &["of", "notes"],
-        others: PLAIN,
+        others: &[],
+        read: Asks::Exactly,
     },
 ];
 
 /// Why an order is refused.
 const ORDER: &str =
     "order takes pairs of steps, counted from 1, of which the first is the lower one";
+
+/// Why a line is refused.
+const NO_LINE: &str = "line takes a question, a colon and an answer";
+
+/// Why a rule is refused that gives its points for nothing.
+const NOT_EARNED: &str = "a program that does nothing has it: let it ask for more, or give it no points";
 
 /// What a run has to have.
 #[derive(Drop)]
@@ -106,13 +138,25 @@ pub enum Check {
     /// Of the numbers that stand alone in a line of the console there are two at least, and each is so much above the
     /// one before.
     Rise(u64),
-    /// What was handed in has this line; `{status}` in it stands for the status with which `init` exits.
-    Line(String),
+    /// Of the lines that were handed in exactly one asks this question, before its colon, and it has this answer.
+    Line {
+        question: String,
+        answer: Answer,
+    },
     /// What was handed in has the lines of the trace that begin with one of these words, up to the end of `init`.
     Predicts(Vec<String>),
     /// The notes are as this rule says. The texts are those of its patterns, as the exercise has them: of the one
     /// that is counted, of `first`, of the steps, or of `notes`.
     Notes { rule: Rule, texts: Vec<String> },
+}
+
+/// The answer to a question in a text.
+#[derive(Drop)]
+pub enum Answer {
+    /// It is this text.
+    Text(String),
+    /// It is the status with which `init` exits.
+    Status,
 }
 
 /// What is asked of a run, and what it gives.
@@ -122,7 +166,8 @@ pub struct Asked {
     pub name: String,
     /// What it gives if the run has it.
     pub points: u32,
-    pub check: Check,
+    /// What the run has to have: each of these.
+    pub checks: Vec<Check>,
 }
 
 // The pattern of a text.
@@ -207,6 +252,9 @@ fn counted(alloc: Global, rule: &Keys<'_>) -> Result<Check, SheetError> {
     let usual = if rule.has("at_most") { 0 } else { 1 };
     let least = rule.number(alloc, "at_least", usual, 0, COUNT_MAX)? as usize;
     let most = rule.number(alloc, "at_most", COUNT_MAX, 0, COUNT_MAX)? as usize;
+    if least > most {
+        return Err(refused(alloc, "no number is `at_least` and `at_most` that"));
+    }
     let pattern = pattern_at(alloc, rule, "note")?;
     let texts = text_at(alloc, rule, "note")?;
     let rule = Rule::Count {
@@ -252,53 +300,128 @@ fn exactly(alloc: Global, rule: &Keys<'_>) -> Result<Check, SheetError> {
     Ok(Check::Notes { rule, texts })
 }
 
-// Refuses a rule that asks for nothing, lacks a key of its kind, or has one that its kind doesn't have.
-fn check_kind(alloc: Global, rule: &Keys<'_>) -> Result<(), SheetError> {
-    for kind in &KINDS {
-        if rule.has_one_of(kind.needed) {
-            let keys = Keys {
-                table: rule.table,
-                place: kind.place,
-            };
-            return keys.check(alloc, kind.needed, kind.others);
+// The line of a text that is asked for: its question, and its answer.
+fn line(alloc: Global, rule: &Keys<'_>) -> Result<Check, SheetError> {
+    let text = rule.text(alloc, "line")?;
+    let Some((question, answer)) = text.as_str().split_once(':') else {
+        return Err(refused(alloc, NO_LINE));
+    };
+    if question.trim().is_empty() || answer.trim().is_empty() {
+        return Err(refused(alloc, NO_LINE));
+    }
+    let question = String::from_str(alloc, question.trim())?;
+    let answer = match answer.trim() {
+        "{status}" => Answer::Status,
+        answer => Answer::Text(String::from_str(alloc, answer)?),
+    };
+    Ok(Check::Line { question, answer })
+}
+
+// Whether a word begins lines of a trace.
+fn is_kind_of_line(word: &str) -> bool {
+    matches!(
+        word,
+        "turn" | "step" | "call" | "block" | "exit" | "fault" | "idle" | "tick" | "key" | "sent"
+    )
+}
+
+// The lines of the trace that are to be predicted.
+fn predicts(alloc: Global, rule: &Keys<'_>) -> Result<Check, SheetError> {
+    let words = rule.texts(alloc, "predicts")?;
+    for word in &words {
+        if !is_kind_of_line(word.as_str()) {
+            return Err(told(format!(in alloc; "no line of a trace begins with `{word}`")));
         }
     }
-    Err(refused(alloc, "it asks for nothing"))
+    if words.is_empty() {
+        return Err(refused(alloc, "it predicts nothing"));
+    }
+    Ok(Check::Predicts(words))
 }
 
-// What a rule whose keys are those of its kind asks of the notes.
-fn notes_of(alloc: Global, rule: &Keys<'_>) -> Result<Check, SheetError> {
-    if rule.has("note") {
-        counted(alloc, rule)
-    } else if rule.has("none_of") {
-        none_of(alloc, rule)
-    } else if rule.has("first") {
-        before(alloc, rule)
-    } else if rule.has("steps") {
-        in_order(alloc, rule)
-    } else {
-        exactly(alloc, rule)
+// What the keys of a kind ask.
+fn check_of(alloc: Global, rule: &Keys<'_>, read: Asks) -> Result<Check, SheetError> {
+    match read {
+        Asks::Status => rule.status(alloc, "status").map(Check::Status),
+        Asks::Shown => rule.text(alloc, "shown").map(Check::Shown),
+        Asks::Shows => rule.text(alloc, "shows").map(Check::Shows),
+        Asks::Rise => rule.number(alloc, "rise", 0, 0, RISE_MAX).map(Check::Rise),
+        Asks::Line => line(alloc, rule),
+        Asks::Predicts => predicts(alloc, rule),
+        Asks::Count => counted(alloc, rule),
+        Asks::NoneOf => none_of(alloc, rule),
+        Asks::Before => before(alloc, rule),
+        Asks::InOrder => in_order(alloc, rule),
+        Asks::Exactly => exactly(alloc, rule),
     }
 }
 
-// What a rule asks for.
-fn check_of(alloc: Global, rule: &Keys<'_>) -> Result<Check, SheetError> {
-    check_kind(alloc, rule)?;
-    if rule.has("status") {
-        rule.status(alloc, "status").map(Check::Status)
-    } else if rule.has("shown") {
-        rule.text(alloc, "shown").map(Check::Shown)
-    } else if rule.has("shows") {
-        rule.text(alloc, "shows").map(Check::Shows)
-    } else if rule.has("rise") {
-        rule.number(alloc, "rise", 0, 0, RISE_MAX).map(Check::Rise)
-    } else if rule.has("line") {
-        rule.text(alloc, "line").map(Check::Line)
-    } else if rule.has("predicts") {
-        rule.texts(alloc, "predicts").map(Check::Predicts)
-    } else {
-        notes_of(alloc, rule)
+// What the keys of a kind ask, of which a rule has one at least: it has to have all that are needed.
+fn check_of_kind(alloc: Global, rule: &Keys<'_>, kind: &Kind) -> Result<Check, SheetError> {
+    let keys = Keys {
+        table: rule.table,
+        place: kind.place,
+        variant: rule.variant,
+    };
+    keys.check(alloc, kind.needed, &RULE_KEYS)?;
+    check_of(alloc, rule, kind.read)
+}
+
+// Refuses keys that go with a kind alone that the rule isn't of.
+fn check_others(alloc: Global, rule: &Keys<'_>, kind: &Kind) -> Result<(), SheetError> {
+    for key in kind.others {
+        if rule.has(key) {
+            let place = kind.place;
+            return Err(told(format!(in alloc; "`{key}` belongs to {place}")));
+        }
     }
+    Ok(())
+}
+
+// All that a rule asks for.
+fn checks_of(alloc: Global, rule: &Keys<'_>) -> Result<Vec<Check>, SheetError> {
+    let mut checks = Vec::new(alloc);
+    for kind in &KINDS {
+        if rule.has_one_of(kind.needed) {
+            checks.push(check_of_kind(alloc, rule, kind)?)?;
+        } else {
+            check_others(alloc, rule, kind)?;
+        }
+    }
+    if checks.is_empty() {
+        return Err(refused(alloc, "it asks for nothing"));
+    }
+    Ok(checks)
+}
+
+// Whether a run in which nothing happens has this.
+fn holds_of_nothing(alloc: Global, check: &Check) -> Result<bool, SheetError> {
+    match check {
+        Check::Shown(text) => Ok(text.as_str().is_empty()),
+        Check::Shows(text) => Ok(text.as_str().is_empty()),
+        Check::Notes { rule, .. } => Ok(judge(alloc, rule, &[])?.holds()),
+        _ => Ok(false),
+    }
+}
+
+// Refuses a rule with points that a run has in which nothing happens.
+fn check_earned(alloc: Global, points: u32, checks: &[Check]) -> Result<(), SheetError> {
+    if points == 0 {
+        return Ok(());
+    }
+    for check in checks {
+        if !holds_of_nothing(alloc, check)? {
+            return Ok(());
+        }
+    }
+    Err(refused(alloc, NOT_EARNED))
+}
+
+// What a rule of these points asks for.
+fn earned_checks(alloc: Global, rule: &Keys<'_>, points: u32) -> Result<Vec<Check>, SheetError> {
+    let checks = checks_of(alloc, rule)?;
+    check_earned(alloc, points, checks.as_slice())?;
+    Ok(checks)
 }
 
 // A refusal with the place and the name of its rule.
@@ -306,9 +429,9 @@ fn named(alloc: Global, place: &str, name: &str, why: &str) -> SheetError {
     told(format!(in alloc; "{place}, \"{name}\": {why}"))
 }
 
-// What a rule of a run asks for, whose rules are counted from 1: exactly one of `status`, `shown`, `shows`, `rise`, `line`,
+// What a rule of a run asks for, whose rules are counted from 1: one at least of `status`, `shown`, `shows`, `rise`, `line`,
 // `predicts`, `note` (with `at_least` and `at_most`), `none_of`, `first` and `then`, `steps` (with `order`), `of` and
-// `notes`.
+// `notes`; and all of them that it has.
 pub(crate) fn read_rule(
     alloc: Global,
     run: &Keys<'_>,
@@ -321,11 +444,11 @@ pub(crate) fn read_rule(
     rule.check(alloc, &["name"], &RULE_KEYS)?;
     let name = rule.text(alloc, "name")?;
     let points = rule.number(alloc, "points", 1, 0, COUNT_MAX)? as u32;
-    match check_of(alloc, &rule) {
-        Ok(check) => Ok(Asked {
+    match earned_checks(alloc, &rule, points) {
+        Ok(checks) => Ok(Asked {
             name,
             points,
-            check,
+            checks,
         }),
         Err(SheetError::Text(why)) => Err(named(alloc, rule.place, name.as_str(), why.as_str())),
         Err(SheetError::Memory) => Err(SheetError::Memory),

@@ -1,7 +1,8 @@
 //! The file of an exercise, in TOML 1.1.
 use crate::asked::{Asked, read_rule};
 use crate::keys::Keys;
-use crate::refusal::{SheetError, told};
+use crate::refusal::{SheetError, refused, told};
+use crate::variant::place_of;
 use std::alloc::Global;
 use toml::{Table, Value};
 use xk_base::limits::{FRAMES_MAX, FRAMES_MIN};
@@ -30,6 +31,9 @@ const RUN_KEYS: [&str; 7] = [
 /// second, at most, for a submission that loops.
 const RUNS: u64 = 1_000_000;
 
+/// Why variants are refused.
+const NO_VARIANTS: &str = "the variants don't have the same keys, each a text or a number";
+
 /// The frames of a run that says nothing of them.
 const FRAMES: u64 = 4_096;
 
@@ -48,6 +52,8 @@ pub struct Text {
 pub struct Exercise {
     /// What it is called.
     pub title: String,
+    /// What the student's variant has, by its keys; empty if the exercise has no variants.
+    pub variant: Vec<Text>,
     /// How what was handed in is run, each time on a machine of its own.
     pub runs: Vec<Run>,
 }
@@ -148,7 +154,7 @@ fn limits_of(alloc: Global, run: &Keys<'_>) -> Result<(u32, u32, u64), SheetErro
 fn read_run(alloc: Global, run: &Keys<'_>, file: &Keys<'_>) -> Result<Run, SheetError> {
     run.check(alloc, &["name", "rule"], &RUN_KEYS)?;
     let (frames, quantum, most_runs) = limits_of(alloc, run)?;
-    Ok(Run {
+    let made = Run {
         name: run.text(alloc, "name")?,
         files: names_of(alloc, run, file)?,
         frames,
@@ -158,7 +164,9 @@ fn read_run(alloc: Global, run: &Keys<'_>, file: &Keys<'_>) -> Result<Run, Sheet
         texts: files_of(alloc, run)?,
         keys: run.text(alloc, "keys")?,
         asked: all_asked(alloc, run)?,
-    })
+    };
+    check_files(alloc, run.place, &made)?;
+    Ok(made)
 }
 
 // The run of an item of a file's list, whose items are counted from 1.
@@ -177,6 +185,84 @@ fn all_runs(alloc: Global, file: &Keys<'_>) -> Result<Vec<Run>, SheetError> {
     Ok(runs)
 }
 
+// The part of a path behind its last slash, without the end `.s` of a source: so the machine calls the program.
+fn program_name(path: &str) -> &str {
+    let name = match path.rsplit_once('/') {
+        Some((_, name)) => name,
+        None => path,
+    };
+    name.strip_suffix(".s").unwrap_or(name)
+}
+
+// Whether one of the files of these paths is a program of this name.
+fn has_program(paths: &[String], name: &str) -> bool {
+    for path in paths {
+        if program_name(path.as_str()) == name {
+            return true;
+        }
+    }
+    false
+}
+
+// The first of the files of these paths that has the name of another one there.
+fn twice<'a>(paths: &'a [String]) -> Option<&'a str> {
+    for (place, path) in paths.iter().enumerate() {
+        let name = program_name(path.as_str());
+        if has_program(paths.split_at(place).0, name) {
+            return Some(name);
+        }
+    }
+    None
+}
+
+// The first text of a run that has the name of one of its programs, or of what is handed in.
+fn text_twice<'a>(run: &'a Run) -> Option<&'a str> {
+    for text in &run.texts {
+        let name = text.name.as_str();
+        if has_program(run.with.as_slice(), name) || has_program(run.files.as_slice(), name) {
+            return Some(name);
+        }
+    }
+    None
+}
+
+// The first program of a run that has the name of what is handed in.
+fn program_twice<'a>(run: &'a Run) -> Option<&'a str> {
+    for path in &run.with {
+        let name = program_name(path.as_str());
+        if has_program(run.files.as_slice(), name) {
+            return Some(name);
+        }
+    }
+    None
+}
+
+// Whether a text of a run has this name.
+fn has_text(run: &Run, name: &str) -> bool {
+    for text in &run.texts {
+        if text.name.as_str() == name {
+            return true;
+        }
+    }
+    false
+}
+
+// Refuses a run that no machine boots: one without a program `init`, or with two files of one name.
+fn check_files(alloc: Global, place: &str, run: &Run) -> Result<(), SheetError> {
+    if has_text(run, "init") {
+        return Err(told(format!(in alloc; "a text is named `init` in {place}, and that is no program")));
+    }
+    let own = run.files.as_slice();
+    if !has_program(run.with.as_slice(), "init") && !has_program(own, "init") {
+        return Err(told(format!(in alloc; "no file of {place} is the program `init`, so it never boots")));
+    }
+    let name = twice(run.with.as_slice()).or(program_twice(run)).or(text_twice(run));
+    match name {
+        Some(name) => Err(told(format!(in alloc; "two files are named `{name}` in {place}"))),
+        None => Ok(()),
+    }
+}
+
 // The table of a file.
 fn table_of(alloc: Global, text: &str) -> Result<Table, SheetError> {
     match toml::table_from_str(alloc, text) {
@@ -185,29 +271,103 @@ fn table_of(alloc: Global, text: &str) -> Result<Table, SheetError> {
     }
 }
 
-// The exercise of a file's table.
+// What a variant has under a key, as text, if it is a text or a number.
+fn fact_of(alloc: Global, key: &str, value: &Value) -> Result<Text, SheetError> {
+    let text = match value {
+        Value::String(text) => String::from_str(alloc, text.as_str())?,
+        Value::Integer(number) => format!(in alloc; "{number}")?,
+        _ => return Err(refused(alloc, NO_VARIANTS)),
+    };
+    Ok(Text {
+        name: String::from_str(alloc, key)?,
+        text,
+    })
+}
+
+// What a variant has.
+fn facts_of(alloc: Global, variant: &Table) -> Result<Vec<Text>, SheetError> {
+    let mut facts = Vec::new(alloc);
+    for (key, value) in variant.iter() {
+        facts.push(fact_of(alloc, key.as_str(), value)?)?;
+    }
+    Ok(facts)
+}
+
+// Refuses a variant that hasn't the keys of another.
+fn check_keys(alloc: Global, variant: &Table, other: &Table) -> Result<(), SheetError> {
+    for key in variant.keys() {
+        if other.get(key.as_str()).is_none() {
+            return Err(refused(alloc, NO_VARIANTS));
+        }
+    }
+    Ok(())
+}
+
+// The variant of a list's item, which has the keys of the first.
+fn variant_of<'a>(alloc: Global, first: &Value, item: &'a Value) -> Result<&'a Table, SheetError> {
+    let (Some(first), Some(table)) = (first.as_table(), item.as_table()) else {
+        return Err(refused(alloc, NO_VARIANTS));
+    };
+    check_keys(alloc, first, table)?;
+    check_keys(alloc, table, first)?;
+    Ok(table)
+}
+
+// Refuses variants that don't have the same keys, or have what is neither a text nor a number.
+fn check_variants(alloc: Global, first: &Value, variants: &[Value]) -> Result<(), SheetError> {
+    for item in variants {
+        facts_of(alloc, variant_of(alloc, first, item)?)?;
+    }
+    Ok(())
+}
+
+// The variant of a student of this name, if there are variants.
+fn own_variant<'a>(
+    alloc: Global,
+    file: &Keys<'a>,
+    name: &[u8],
+) -> Result<Option<&'a Table>, SheetError> {
+    let variants = file.list(alloc, "variant")?;
+    let Some(first) = variants.first() else {
+        return Ok(None);
+    };
+    check_variants(alloc, first, variants)?;
+    let place = place_of(name, (variants.len() as u64).max(1)) as usize;
+    let item = variants.get(place).unwrap_or(first);
+    Ok(Some(variant_of(alloc, first, item)?))
+}
+
+// The exercise of a file's table, for a student who has this variant.
 fn exercise_of(alloc: Global, file: &Keys<'_>) -> Result<Exercise, SheetError> {
-    file.check(alloc, &["title", "run"], &["files"])?;
+    let variant = match file.variant {
+        Some(variant) => facts_of(alloc, variant)?,
+        None => Vec::new(alloc),
+    };
     Ok(Exercise {
         title: file.text(alloc, "title")?,
+        variant,
         runs: all_runs(alloc, file)?,
     })
 }
 
 impl Exercise {
-    /// The exercise of a file's text.
+    /// The exercise of a file's text, as a student of this name has it: with the student's variant in its texts and
+    /// numbers, if there are variants.
     ///
     /// # Errors
     ///
     /// [`SheetError::Text`] if it is no TOML, lacks a key or has one that isn't known, or has a number, a name or a
-    /// rule that isn't right: the text tells the line, or the run and the rule, counted from 1. And
-    /// [`SheetError::Memory`].
-    pub fn read(alloc: Global, text: &str) -> Result<Exercise, SheetError> {
+    /// rule that isn't right, or if nobody or everybody would pass it: the text tells the line, or the run and the rule,
+    /// counted from 1. And [`SheetError::Memory`].
+    pub fn read(alloc: Global, text: &str, name: &[u8]) -> Result<Exercise, SheetError> {
         let table = table_of(alloc, text)?;
-        let file = Keys {
+        let mut file = Keys {
             table: &table,
             place: "the file",
+            variant: None,
         };
+        file.check(alloc, &["title", "run"], &["files", "variant"])?;
+        file.variant = own_variant(alloc, &file, name)?;
         exercise_of(alloc, &file)
     }
 }

@@ -2,7 +2,7 @@
 ghost use Rattle.std.specs.Prelude.{◌≡◌, false, min, is_none, IfOk};
 ghost use Rattle.std.specs.List.{list_all, list_any};
 ghost use Rattle.grade_sheets.specs.Points.{points_of_run, points_of_runs, points_of_exercise};
-ghost use Rattle.grade_sheets.specs.Standings.{is_fault, may_fault, is_on_faults, names_faults, has, standing_of, first_standing, IsGraded, IsUngraded};
+ghost use Rattle.grade_sheets.specs.Standings.{is_fault, check_may_fault, may_fault, is_on_faults, names_faults, has, standing_of, first_standing, IsGraded, IsUngraded};
 ghost use Rattle.grade_sheets.specs.Records.{word_of};
 
 use crate::asked::{Asked, Check};
@@ -109,16 +109,30 @@ fn names_faults(rule: &Rule) -> bool
     }
 }
 
-// Whether a run that has what is asked may have faults: a rule asks for them, or the programs aren't the student's.
-fn may_fault(asked: &Asked) -> bool
-    ensures { result ≡ may_fault asked.now }
+// Whether a run that has this may have faults: a rule asks for them, or the programs aren't the student's.
+fn check_may_fault(check: &Check) -> bool
+    ensures { result ≡ check_may_fault check.now }
 {
-    match &asked.check {
+    match check {
         Check::Notes { rule, .. } => names_faults(rule),
-        Check::Line(_) => true,
+        Check::Line { .. } => true,
         Check::Predicts(_) => true,
         _ => false,
     }
+}
+
+// Whether a run that has all of this may have faults.
+fn checks_may_fault(checks: &[Check]) -> bool
+    ensures { result ≡ list_any check_may_fault checks.now }
+{
+    checks.iter().any(check_may_fault)
+}
+
+// Whether a run that has what is asked may have faults.
+fn may_fault(asked: &Asked) -> bool
+    ensures { result ≡ may_fault asked.now }
+{
+    checks_may_fault(asked.checks.as_slice())
 }
 
 // Whether a run has what a mark is for.

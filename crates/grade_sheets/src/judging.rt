@@ -1,7 +1,7 @@
 //! Whether a run has what is asked of it, and why not.
-ghost use Rattle.std.specs.Prelude.{◌≡◌, ◌↔◌, IsTrue, is_none, IfOk};
+ghost use Rattle.std.specs.Prelude.{◌≡◌, ◌↔◌, ◌&&◌, IsTrue, is_none, IfOk};
 ghost use Rattle.grade_rules.specs.Judged.{HoldsOf};
-ghost use Rattle.grade_sheets.specs.Grades.{IsAnswered, IsMarked, AreMarked};
+ghost use Rattle.grade_sheets.specs.Grades.{IsAnswered, AreAnswered, IsMarked, AreMarked};
 ghost use Rattle.grade_sheets.specs.Points.{given_for};
 
 use crate::asked::{Asked, Check};
@@ -21,8 +21,8 @@ pub struct Seen<'a> {
     pub end: End,
     /// The lines of the trace up to the end of `init`.
     pub trace: &'a str,
-    /// The bytes of the file that was handed in.
-    pub handed_in: &'a [u8],
+    /// The text that was handed in; empty if it is none.
+    pub handed_in: &'a str,
 }
 
 /// What a run gets for something that is asked of it.
@@ -290,10 +290,36 @@ fn complaint(alloc: Global, check: &Check, seen: &Seen<'_>) -> Result<Option<Str
         Check::Shown(wanted) => other_text(alloc, wanted.as_str().as_bytes(), seen.shown),
         Check::Shows(part) => not_shown(alloc, part.as_str().as_bytes(), seen.shown),
         Check::Rise(least) => no_rise(alloc, seen.shown, *least),
-        Check::Line(line) => not_said(alloc, line.as_str(), seen),
+        Check::Line { question, answer } => not_said(alloc, question.as_str(), answer, seen),
         Check::Predicts(words) => not_predicted(alloc, words.as_slice(), seen),
         Check::Notes { rule, texts } => broken(alloc, texts.as_slice(), rule, seen.notes),
     }
+}
+
+// The first of two reasons, if there is any.
+fn earlier(first: Option<String>, second: Option<String>) -> Option<String>
+    ensures { is_none result ≡ is_none first && is_none second }
+{
+    match first {
+        Some(why) => Some(why),
+        None => second,
+    }
+}
+
+// The first reason why a run doesn't have all of this.
+fn first_complaint(
+    alloc: Global,
+    checks: &[Check],
+    seen: &Seen<'_>,
+) -> Result<Option<String>, AllocError>
+    ensures { IfOk result (λ why. AreAnswered checks.now seen.now (is_none why)) }
+{
+    let mut first = None;
+    for check in checks {
+        let why = complaint(alloc, check, seen)?;
+        first = earlier(first, why);
+    }
+    Ok(first)
 }
 
 // What a run gets for one thing.
@@ -302,7 +328,7 @@ fn mark_for(alloc: Global, asked: &Asked, seen: &Seen<'_>) -> Result<Mark, Alloc
 {
     Ok(Mark {
         points: asked.points,
-        why: complaint(alloc, &asked.check, seen)?,
+        why: first_complaint(alloc, asked.checks.as_slice(), seen)?,
     })
 }
 

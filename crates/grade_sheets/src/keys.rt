@@ -2,6 +2,7 @@
 ghost use Rattle.std.specs.Prelude.{◌≤◌, IfOk};
 
 use crate::refusal::{SheetError, told};
+use crate::variant::{filled, named_by};
 use std::alloc::Global;
 use toml::{Table, Value};
 
@@ -11,6 +12,8 @@ pub(crate) struct Keys<'a> {
     pub table: &'a Table,
     /// What the file calls it.
     pub place: &'a str,
+    /// The student's variant of the exercise, if it has any.
+    pub variant: Option<&'a Table>,
 }
 
 // Whether a key is one of these.
@@ -82,10 +85,10 @@ impl<'a> Keys<'a> {
         }
     }
 
-    /// A key's text; empty without the key.
+    /// A key's text, with the student's variant in it; empty without the key.
     pub fn text(&self, alloc: Global, key: &str) -> Result<String, SheetError> {
         match self.table.get(key) {
-            Some(Value::String(text)) => Ok(String::from_str(alloc, text.as_str())?),
+            Some(Value::String(text)) => Ok(filled(alloc, text.as_str(), self.variant)?),
             Some(_) => Err(self.refused(alloc, "no text:", key)),
             None => Ok(String::new(alloc)),
         }
@@ -106,7 +109,7 @@ impl<'a> Keys<'a> {
         let Some(value) = self.table.get(key) else {
             return Ok(usual);
         };
-        match natural(value) {
+        match natural(named_by(value, self.variant)) {
             Some(number) if least <= number && number <= most => Ok(number),
             _ => {
                 let place = self.place;
@@ -120,7 +123,8 @@ impl<'a> Keys<'a> {
 
     // A key's exit status, if it is one.
     fn as_status(&self, key: &str) -> Option<i32> {
-        i32::try_from(self.table.get(key)?.as_integer()?).ok()
+        let value = named_by(self.table.get(key)?, self.variant);
+        i32::try_from(value.as_integer()?).ok()
     }
 
     /// A key's exit status.
@@ -147,9 +151,16 @@ impl<'a> Keys<'a> {
         key: &str,
         item: &'b Value,
         place: &'b str,
-    ) -> Result<Keys<'b>, SheetError> {
+    ) -> Result<Keys<'b>, SheetError>
+    where
+        'a: 'b,
+    {
         match item.as_table() {
-            Some(table) => Ok(Keys { table, place }),
+            Some(table) => Ok(Keys {
+                table,
+                place,
+                variant: self.variant,
+            }),
             None => Err(self.refused(alloc, "no list of tables:", key)),
         }
     }
@@ -161,7 +172,7 @@ impl<'a> Keys<'a> {
             let Some(text) = value.as_str() else {
                 return Err(self.refused(alloc, "no list of texts:", key));
             };
-            texts.push(String::from_str(alloc, text)?)?;
+            texts.push(filled(alloc, text, self.variant)?)?;
         }
         Ok(texts)
     }

@@ -17,8 +17,9 @@ mod records;
 mod refusal;
 mod sums;
 mod texts;
+mod variant;
 
-pub use asked::{Asked, Check};
+pub use asked::{Answer, Asked, Check};
 pub use exercise::{Exercise, Run, Text};
 pub use grade::{Grade, RunGrade, Standing, graded, ungraded};
 pub use judging::{Mark, Seen, marks};
@@ -26,3 +27,4 @@ pub use quoted::{Grouped, Quoted};
 pub use records::{csv_line, xml_suite};
 pub use refusal::SheetError;
 pub use sums::{points, points_asked};
+pub use variant::place_of;

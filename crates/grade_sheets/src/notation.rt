@@ -38,9 +38,14 @@ fn ordered(word: &str) -> Option<Numbers> {
     Some(within(i64::MIN, above.checked_sub(1)?))
 }
 
-// The numbers from one to another, both words.
+// The numbers from one to another, both words: there is one at least.
 fn interval(least: &str, most: &str) -> Option<Numbers> {
-    Some(within(least.parse().ok()?, most.parse().ok()?))
+    let (least, most): (i64, i64) = (least.parse().ok()?, most.parse().ok()?);
+    if least <= most {
+        Some(within(least, most))
+    } else {
+        None
+    }
 }
 
 // The numbers of two words that each stand for one.

@@ -1,7 +1,12 @@
 //! What is asked of texts: of what the console showed, and of what was handed in. Each function here tells why it isn't
 //! there, in a student's words; `None` if it is.
-ghost use Rattle.std.specs.Prelude.{◌≡◌, ◌↔◌, IsTrue, is_none, IfOk};
+ghost use Rattle.std.specs.Prelude.{◌≡◌, ◌↔◌, IsTrue, is_none, IfOk, map, count_by};
+ghost use Rattle.std.specs.List.{list_any};
+ghost use Rattle.std.specs.Str.Lines.{lines};
+ghost use Rattle.grade_sheets.specs.Answers.{question_of, answer_of, asks, says, IsOnlyAnswer};
+ghost use Rattle.grade_sheets.specs.Grades.{IsSaid};
 
+use crate::asked::Answer;
 use crate::judging::Seen;
 use crate::quoted::Quoted;
 use grade_rules::{End, Note};
@@ -188,19 +193,7 @@ fn predicted(alloc: Global, words: &[String], seen: &Seen<'_>) -> Result<String,
     Ok(lines)
 }
 
-// Bytes without carriage returns.
-fn without_returns(alloc: Global, bytes: &[u8]) -> Result<Vec<u8>, AllocError> {
-    let mut kept = Vec::new(alloc);
-    for &byte in bytes {
-        if byte != b'\r' {
-            kept.push(byte)?;
-        }
-    }
-    Ok(kept)
-}
-
-/// Why a text isn't what was to be predicted: its first line that differs. Blanks and empty lines at its end, and
-/// carriage returns, don't count.
+/// Why a text isn't what was to be predicted: its first line that differs. Blanks and empty lines at its end don't count.
 pub(crate) fn not_predicted(
     alloc: Global,
     words: &[String],
@@ -208,46 +201,116 @@ pub(crate) fn not_predicted(
 ) -> Result<Option<String>, AllocError> {
     let wanted = predicted(alloc, words, seen)?;
     let wanted = wanted.as_str().as_bytes().trim_ascii_end();
-    let own = without_returns(alloc, seen.handed_in)?;
-    other_text(alloc, wanted, own.as_slice().trim_ascii_end())
+    other_text(alloc, wanted, seen.handed_in.as_bytes().trim_ascii_end())
 }
 
-// A line of an answer, with the status in its place.
-fn answer(alloc: Global, line: &str, end: End) -> Result<String, AllocError> {
-    let (Some((before, behind)), End::Exited(status)) = (line.split_once("{status}"), end) else {
-        return String::from_str(alloc, line);
-    };
-    format!(in alloc; "{before}{status}{behind}")
+// The lines of a text.
+fn lines_in(alloc: Global, text: &str) -> Result<Vec<&str>, AllocError>
+    ensures { IfOk result (λ found. map (λ line. line.now) found.items ≡ lines text.now) }
+{
+    text.lines().collect(alloc)
 }
 
-// Whether one of these lines is this one, but for blanks around it.
-fn has_line(lines: &[u8], wanted: &[u8]) -> bool {
-    for line in lines.split(ends_line) {
-        if line.trim_ascii() == wanted {
+// What a line asks: what stands before its first colon, without the blanks around it.
+fn question_of(line: &str) -> &str
+    ensures { result.now ≡ question_of line.now }
+{
+    match line.split_once(':') {
+        Some((question, _)) => question.trim(),
+        None => line.trim(),
+    }
+}
+
+// What a line answers: what stands behind its first colon, without the blanks around it.
+fn answer_of(line: &str) -> &str
+    ensures { result.now ≡ answer_of line.now }
+{
+    match line.split_once(':') {
+        Some((_, answer)) => answer.trim(),
+        None => "",
+    }
+}
+
+// Whether a line asks this question.
+fn asks(question: &str, line: &str) -> bool
+    ensures { result ≡ asks question.now line.now }
+{
+    question_of(line) == question
+}
+
+// Whether a line asks this question, and has this answer.
+fn says(question: &str, answer: &str, line: &str) -> bool
+    ensures { result ≡ says question.now answer.now line.now }
+{
+    asks(question, line) && answer_of(line) == answer
+}
+
+// How many of the lines ask this question.
+fn count_asking(question: &str, lines: &[&str]) -> usize
+    ensures { result ≡ count_by (asks question.now) (map (λ line. line.now) lines.now) }
+{
+    let mut found: usize = 0;
+    for line in lines {
+        if asks(question, line) {
+            found += 1;
+        }
+    }
+    found
+}
+
+// Whether a line asks this question, and has this answer.
+fn has_answer(question: &str, answer: &str, lines: &[&str]) -> bool
+    ensures { result ≡ list_any (says question.now answer.now) (map (λ line. line.now) lines.now) }
+{
+    for line in lines {
+        if says(question, answer, line) {
             return true;
         }
     }
     false
 }
 
-// What stands before the colon of an answer.
-fn question(line: &str) -> &str {
-    match line.split_once(':') {
-        Some((question, _)) => question,
-        None => line,
+// What is wrong with the lines that ask a question, of which there are so many.
+fn other_answer(alloc: Global, question: &str, found: usize) -> Result<String, AllocError> {
+    match found {
+        0 => format!(in alloc; "there is no line `{question}:`"),
+        1 => format!(in alloc; "`{question}:` has another answer"),
+        _ => format!(in alloc; "`{question}:` has {found} answers, and not one"),
     }
 }
 
-/// Why what was handed in hasn't a line that is asked for. What stands behind a colon isn't told.
-pub(crate) fn not_said(
+// Why a text doesn't have one answer to a question, and this one.
+fn not_answered(
     alloc: Global,
-    line: &str,
-    seen: &Seen<'_>,
-) -> Result<Option<String>, AllocError> {
-    let answer = answer(alloc, line, seen.end)?;
-    if has_line(seen.handed_in, answer.as_str().as_bytes().trim_ascii()) {
+    question: &str,
+    answer: &str,
+    text: &str,
+) -> Result<Option<String>, AllocError>
+    ensures { IfOk result (λ why. IsTrue (is_none why) ↔ IsOnlyAnswer question.now answer.now text.now) }
+{
+    let lines = lines_in(alloc, text)?;
+    let found = count_asking(question, lines.as_slice());
+    if found == 1 && has_answer(question, answer, lines.as_slice()) {
         return Ok(None);
     }
-    let question = question(line);
-    format!(in alloc; "`{question}:` has another answer").map(Some)
+    other_answer(alloc, question, found).map(Some)
+}
+
+/// Why what was handed in doesn't have one answer to a question, and the right one. The right one isn't told.
+pub(crate) fn not_said(
+    alloc: Global,
+    question: &str,
+    answer: &Answer,
+    seen: &Seen<'_>,
+) -> Result<Option<String>, AllocError>
+    ensures { IfOk result (λ why. IsTrue (is_none why) ↔ IsSaid question.now answer.now seen.now) }
+{
+    match (answer, seen.end) {
+        (Answer::Text(answer), _) => not_answered(alloc, question, answer.as_str(), seen.handed_in),
+        (Answer::Status, End::Exited(status)) => {
+            let answer = format!(in alloc; "{status}")?;
+            not_answered(alloc, question, answer.as_str(), seen.handed_in)
+        }
+        (Answer::Status, _) => Ok(Some(String::from_str(alloc, "init does not exit")?)),
+    }
 }

@@ -19,6 +19,8 @@ pub struct Settings {
     pub out: Option<String>,
     /// Whether the exercise's own files are told.
     pub inputs: bool,
+    /// Whether the variant of the submission's student is told.
+    pub variant: bool,
 }
 
 /// What stands below the list of options in the text of `--help`.
@@ -26,7 +28,8 @@ const MORE_HELP: &str = "\
 The EXERCISE is a file of TOML, and SUBMISSION a folder. One line of CSV goes to standard output:
 the submission's name, its points, of how many, what it comes to, and why.
 
-Without a SUBMISSION the names of the files that may be handed in are shown, a line each.
+Without a SUBMISSION the names of the files that may be handed in are shown, a line each. With --variant
+the submission isn't read, and need not be there: its name says which variant its student has.
 
 With --out these files are written into that folder, with N from 1 for each run:
   result.csv    the line of CSV
@@ -38,7 +41,7 @@ With --out these files are written into that folder, with N from 1 for each run:
 Exit status:
   0  there is a result
   1  the command line is refused
-  2  the EXERCISE or one of its files is refused, or memory ran out
+  2  the EXERCISE or one of its files is refused, the host can't read the SUBMISSION, or memory ran out
   5  a file or standard output can't be written";
 
 const COMMAND_LINE: CommandLine = CommandLine {
@@ -64,6 +67,10 @@ const COMMAND_LINE: CommandLine = CommandLine {
         CommandWord::Flag {
             name: "inputs",
             help: "Shows the paths of the exercise's own files, and nothing else",
+        },
+        CommandWord::Flag {
+            name: "variant",
+            help: "Shows what the exercise has for a student of the submission's name, and nothing else",
         },
         CommandWord::Needed {
             name: "EXERCISE",
@@ -98,5 +105,6 @@ pub fn read_settings<S: AsStr>(alloc: Global, words: &[S]) -> Result<Settings, S
         refused: given.text("refused")?,
         out: given.text("out")?,
         inputs: given.flag("inputs"),
+        variant: given.flag("variant"),
     })
 }

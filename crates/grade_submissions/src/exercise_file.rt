@@ -1,13 +1,13 @@
 //! The file of an exercise: what it asks for, and what it says of files.
 use crate::command_line::Settings;
 use crate::host_files::{folder_of, refused, text_of};
-use grade_sheets::Exercise;
+use grade_sheets::{Exercise, Text};
 use program_files::Failure;
 use std::alloc::Global;
 use std::io::Write;
 use std::rt::Files;
 
-/// The exercise of a file.
+/// The exercise of a file, as a student of this name has it.
 ///
 /// # Errors
 ///
@@ -16,10 +16,11 @@ use std::rt::Files;
 pub fn read_exercise<R: Files + AllocGlobal>(
     rt: &R,
     path: &str,
+    name: &[u8],
 ) -> Result<Exercise, Failure<'static>> {
     let alloc = rt.alloc();
     let text = text_of(rt, path)?;
-    match Exercise::read(alloc, text.as_str()) {
+    match Exercise::read(alloc, text.as_str(), name) {
         Ok(exercise) => Ok(exercise),
         Err(error) => {
             let why = format!(in alloc; "{error}")?;
@@ -84,12 +85,39 @@ pub fn show_files<R: Files + AllocGlobal, W: Write>(
     settings: &Settings,
     output: &mut W,
 ) -> Result<(), Failure<'static>> {
-    let exercise = read_exercise(rt, settings.exercise.as_str())?;
+    let exercise = read_exercise(rt, settings.exercise.as_str(), &[])?;
     if settings.inputs {
         return show_inputs(rt.alloc(), settings, &exercise, output);
     }
     for run in &exercise.runs {
         show_lines(output, run.files.as_slice())?;
+    }
+    Ok(())
+}
+
+// Shows what a variant has under a key.
+fn show_fact<W: Write>(output: &mut W, fact: &Text) -> Result<(), Failure<'static>> {
+    let (name, text) = (fact.name.as_str(), fact.text.as_str());
+    match writeln!(output, "{name}: {text}") {
+        Ok(()) => Ok(()),
+        Err(_) => Err(Failure::Write),
+    }
+}
+
+/// Shows what an exercise has for a student of this name, a line `KEY: VALUE` each.
+///
+/// # Errors
+///
+/// [`Failure::Refused`] for the exercise's file, [`Failure::OutOfMemory`], and [`Failure::Write`].
+pub fn show_variant<R: Files + AllocGlobal, W: Write>(
+    rt: &R,
+    settings: &Settings,
+    name: &[u8],
+    output: &mut W,
+) -> Result<(), Failure<'static>> {
+    let exercise = read_exercise(rt, settings.exercise.as_str(), name)?;
+    for fact in &exercise.variant {
+        show_fact(output, fact)?;
     }
     Ok(())
 }

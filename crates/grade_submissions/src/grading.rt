@@ -20,8 +20,12 @@ use xv_machine::{Config, Note as Event};
 /// The most events that a trace keeps.
 const TRACE: u32 = 4_096;
 
-// The submission's name, which may be any bytes.
-fn name_of<R: Files + AllocGlobal>(
+/// The submission's name, which may be any bytes: those of the file that the settings name, or the last part of its path.
+///
+/// # Errors
+///
+/// [`Failure::Refused`] if that file can't be read, and [`Failure::OutOfMemory`].
+pub fn name_of<R: Files + AllocGlobal>(
     rt: &R,
     settings: &Settings,
     folder: &str,
@@ -30,6 +34,27 @@ fn name_of<R: Files + AllocGlobal>(
         Some(path) => bytes_of(rt, path.as_str()),
         None => Ok(Vec::from_slice(rt.alloc(), last_part(folder).as_bytes())?),
     }
+}
+
+// Adds a byte of a name that isn't UTF-8.
+fn add_byte(alloc: Global, shown: &mut String, byte: u8) -> Result<(), AllocError> {
+    if byte < 128 {
+        shown.push(byte as char)
+    } else {
+        shown.push_str(format!(in alloc; "\\x{byte:02x}")?.as_str())
+    }
+}
+
+// A name as text: in one that isn't UTF-8, what isn't ASCII is shown as `\xff`.
+fn shown_name(alloc: Global, name: &[u8]) -> Result<String, AllocError> {
+    if let Ok(text) = std::str::from_utf8(name) {
+        return String::from_str(alloc, text);
+    }
+    let mut shown = String::new(alloc);
+    for &byte in name {
+        add_byte(alloc, &mut shown, byte)?;
+    }
+    Ok(shown)
 }
 
 // The lines that say why files aren't to be run.
@@ -65,7 +90,7 @@ fn lines_to_the_end(alloc: Global, played: &Played) -> Result<String, AllocError
 }
 
 // What is known of a run that was made.
-fn seen_of<'a>(played: &'a Played, trace: &'a str, handed_in: &'a [u8]) -> Seen<'a>
+fn seen_of<'a>(played: &'a Played, trace: &'a str, handed_in: &'a str) -> Seen<'a>
     ensures { IsSeenOf played.now result }
 {
     Seen {
@@ -87,7 +112,7 @@ fn run_grade(
     ensures { IfOk result (IsGradeOf run.now played.now) }
 {
     let trace = lines_to_the_end(alloc, played)?;
-    let seen = seen_of(played, trace.as_str(), submission.bytes.as_slice());
+    let seen = seen_of(played, trace.as_str(), submission.text.as_str());
     let mut grade = graded(alloc, run.asked.as_slice(), &seen)?;
     grade.cause = cause(alloc, grade.standing, submission, played)?;
     Ok(grade)
@@ -228,13 +253,15 @@ pub fn grade_submission<R: Files + AllocGlobal, W: Write>(
 ) -> Result<(), Failure<'static>>
     ensures { OnOk result (IsLineShown (W.contents output.old) (W.contents output.new)) }
 {
-    let exercise = read_exercise(rt, settings.exercise.as_str())?;
     let name = name_of(rt, settings, folder)?;
+    let exercise = read_exercise(rt, settings.exercise.as_str(), name.as_slice())?;
+    let name = shown_name(rt.alloc(), name.as_slice())?;
+    let name = name.as_str().as_bytes();
     let grade = whole_grade(rt, settings, &exercise, folder)?;
-    let Ok(line) = csv_line(rt.alloc(), name.as_slice(), &grade) else {
+    let Ok(line) = csv_line(rt.alloc(), name, &grade) else {
         return Err(Failure::OutOfMemory);
     };
-    write_suite(rt, settings, &exercise, name.as_slice(), &grade)?;
+    write_suite(rt, settings, &exercise, name, &grade)?;
     write_result(rt, settings, "result.csv", line.as_slice())?;
     put(output, line.as_slice())?;
     Ok(())

@@ -18,8 +18,8 @@ mod results;
 mod submission;
 
 pub use command_line::{Settings, read_settings};
-pub use exercise_file::show_files;
-pub use grading::grade_submission;
+pub use exercise_file::{show_files, show_variant};
+pub use grading::{grade_submission, name_of};
 use program_files::Failure;
 use program_files::exit_statuses::{DONE, WORDS_REFUSED};
 use std::io::Write;
@@ -31,6 +31,10 @@ pub const NAME: &str = "xv_grade";
 /// What the settings ask for: the results of a submission, or the names of an exercise's files.
 fn grade(rt: &HostRuntime, settings: &Settings) -> Result<(), Failure<'static>> {
     match &settings.submission {
+        Some(folder) if settings.variant => {
+            let name = name_of(rt, settings, folder.as_str())?;
+            show_variant(rt, settings, name.as_slice(), &mut rt.stdout())
+        }
         Some(folder) => grade_submission(rt, settings, folder.as_str(), &mut rt.stdout()),
         None => show_files(rt, settings, &mut rt.stdout()),
     }

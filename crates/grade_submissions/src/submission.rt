@@ -1,8 +1,10 @@
 //! What was handed in.
+use crate::host_files::refused;
 use grade_sheets::{Run, Text};
 use program_files::{Failure, FileRefusal, SourcedProgram, program};
 use std::alloc::{AllocError, Global};
 use std::fs;
+use std::io::ErrorKind;
 use std::rt::Files;
 use uasm_core::SourceLines;
 use xk_base::Program;
@@ -15,6 +17,8 @@ pub struct Submission {
     pub file: String,
     /// Its bytes.
     pub bytes: Vec<u8>,
+    /// Its text, without a byte order mark at its beginning and without carriage returns; empty if it isn't UTF-8.
+    pub text: String,
     /// Its program.
     pub program: Program,
     /// Where the lines of the source stand in the program, if it was assembled.
@@ -54,29 +58,57 @@ fn unfit(alloc: Global, file: &str, why: &str) -> Result<HandedIn, AllocError> {
     Ok(HandedIn::Refused(format!(in alloc; "{file}: {why}")?))
 }
 
-// The file of this name, of these bytes.
-fn submission_of(alloc: Global, file: &str, bytes: Vec<u8>) -> Result<HandedIn, Failure<'static>> {
-    let made = match program(alloc, Ok(bytes.as_slice()), file) {
-        Ok(made) => made,
-        Err(refusal) => return Ok(HandedIn::Refused(told(alloc, &refusal)?)),
-    };
-    Ok(HandedIn::File(Submission {
-        file: String::from_str(alloc, file)?,
-        bytes,
-        program: made.program,
-        lines: made.lines,
-    }))
+// Bytes without the byte order mark that an editor may have put before them.
+fn without_mark(bytes: &[u8]) -> &[u8] {
+    bytes.strip_prefix(&[0xef, 0xbb, 0xbf]).unwrap_or(bytes)
 }
 
-// The file of this name and path, if it can be read.
+// The text of bytes, without carriage returns; empty if they aren't UTF-8.
+fn plain_text(alloc: Global, bytes: &[u8]) -> Result<String, AllocError> {
+    let mut text = String::new(alloc);
+    for part in std::str::from_utf8(bytes).unwrap_or("").split('\r') {
+        text.push_str(part)?;
+    }
+    Ok(text)
+}
+
+// What was handed in under this name, whose program is made of it.
+fn submission_made(
+    alloc: Global,
+    file: &str,
+    bytes: &[u8],
+    made: SourcedProgram,
+) -> Result<Submission, AllocError> {
+    Ok(Submission {
+        file: String::from_str(alloc, file)?,
+        bytes: Vec::from_slice(alloc, bytes)?,
+        text: plain_text(alloc, bytes)?,
+        program: made.program,
+        lines: made.lines,
+    })
+}
+
+// The file of this name, of these bytes.
+fn submission_of(alloc: Global, file: &str, bytes: &[u8]) -> Result<HandedIn, Failure<'static>> {
+    let bytes = without_mark(bytes);
+    if bytes.trim_ascii().is_empty() {
+        return Ok(unfit(alloc, file, "empty")?);
+    }
+    match program(alloc, Ok(bytes), file) {
+        Ok(made) => Ok(HandedIn::File(submission_made(alloc, file, bytes, made)?)),
+        Err(refusal) => Ok(HandedIn::Refused(told(alloc, &refusal)?)),
+    }
+}
+
+// The file of this name and path. If the host can't read it, that is no fault of who handed it in, and there is no result.
 fn file_at<R: Files + AllocGlobal>(
     rt: &R,
     path: &str,
     file: &str,
 ) -> Result<HandedIn, Failure<'static>> {
     match fs::read(rt, path) {
-        Ok(bytes) => submission_of(rt.alloc(), file, bytes),
-        Err(_) => Ok(unfit(rt.alloc(), file, "cannot be read")?),
+        Ok(bytes) => submission_of(rt.alloc(), file, bytes.as_slice()),
+        Err(_) => Err(refused(rt.alloc(), path, "cannot be read")),
     }
 }
 
@@ -88,8 +120,10 @@ fn file_in<R: Files + AllocGlobal>(
     file: &str,
 ) -> Result<Option<HandedIn>, Failure<'static>> {
     let path = path_in(rt.alloc(), folder, file)?;
-    let Ok(found) = fs::symlink_metadata(rt, path.as_str()) else {
-        return Ok(None);
+    let found = match fs::symlink_metadata(rt, path.as_str()) {
+        Ok(found) => found,
+        Err(error) if error.kind() == ErrorKind::NotFound => return Ok(None),
+        Err(_) => return Err(refused(rt.alloc(), path.as_str(), "cannot be read")),
     };
     if !found.is_file() {
         return Ok(Some(unfit(rt.alloc(), file, "not a plain file")?));
@@ -141,7 +175,7 @@ fn no_file(alloc: Global, files: &[String]) -> Result<String, AllocError> {
 ///
 /// # Errors
 ///
-/// [`Failure::OutOfMemory`].
+/// [`Failure::Refused`] if the host can't read it, and [`Failure::OutOfMemory`].
 pub fn handed_in<R: Files + AllocGlobal>(
     rt: &R,
     files: &[String],

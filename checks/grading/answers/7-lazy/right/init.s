@@ -8,7 +8,7 @@
   ecall
   beq a0, x0, child
   addi a0, sp, -16
-  li a7, 3          # wait, with an address in the stack
+  li a7, 3          # wait
   ecall
   lb a0, 0(s0)
   li a7, 2          # exit
@@ -17,5 +17,7 @@ child:
   lui t1, 1
 touch:
   sb x0, 0(s0)
+  li a7, 11         # getpid: a page came
+  ecall
   add s0, s0, t1
   j touch

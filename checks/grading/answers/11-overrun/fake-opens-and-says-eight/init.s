@@ -1,0 +1,15 @@
+  la a0, name
+  li a1, 0
+  li a7, 15         # open
+  ecall
+  la a1, text
+  li a2, 63
+  li a7, 5          # read
+  ecall
+  li a0, 8
+  li a7, 2          # exit
+  ecall
+.data
+name: .asciz "word"
+.balign 8
+text: .space 64

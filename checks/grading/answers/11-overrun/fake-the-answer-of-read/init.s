@@ -1,0 +1,14 @@
+  la a0, name
+  li a1, 0
+  li a7, 15         # open
+  ecall
+  la a1, text
+  li a2, 63
+  li a7, 5          # read
+  ecall
+  li a7, 2          # exit with what read answered
+  ecall
+.data
+name: .asciz "word"
+.balign 8
+text: .space 64

@@ -1,0 +1,7 @@
+/* It does nothing. */
+#include "user.h"
+
+int main(void)
+{
+    return 0;
+}

@@ -1,0 +1,5 @@
+/* It does nothing. */
+int main(void)
+{
+    return 0;
+}

@@ -1,0 +1,8 @@
+/* Asks, and prints nothing. */
+#include "user.h"
+
+int main(void)
+{
+    uptime();
+    return 0;
+}

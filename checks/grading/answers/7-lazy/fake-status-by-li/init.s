@@ -1,0 +1,3 @@
+  li a0, 7
+  li a7, 2          # exit
+  ecall

@@ -1,0 +1,7 @@
+use Rattle.std.proofs.Common.{take}
+use Rattle.std.specs.Prelude.{is_none}
+use Rattle.grade_sheets.specs.Grades.{AreAnswered}
+use Rattle.grade_sheets.proofs.judging.first_complaint.Given as goal
+
+abbrev pub invariant-loop-check : goal.invariant-loop-check
+invariant-loop-check l = AreAnswered (take l.check-index l.checks) l.seen (is_none l.first)
