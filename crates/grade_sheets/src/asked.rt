@@ -12,9 +12,9 @@ const COUNT_MAX: u64 = u32::MAX as u64;
 /// The most by which numbers can be asked to rise: the largest number of a file.
 const RISE_MAX: u64 = i64::MAX as u64;
 
-/// The keys that a rule may have, beside its name.
-const RULE_KEYS: [&str; 17] = [
-    "points", "status", "shown", "shows", "rise", "line", "predicts", "note", "at_least",
+/// The keys that a rule may have.
+const RULE_KEYS: [&str; 18] = [
+    "name", "points", "status", "shown", "shows", "rise", "line", "predicts", "note", "at_least",
     "at_most", "none_of", "first", "then", "steps", "order", "of", "notes",
 ];
 

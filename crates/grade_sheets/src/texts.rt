@@ -262,12 +262,13 @@ fn count_asking(question: &str, lines: &[&str]) -> usize
 fn has_answer(question: &str, answer: &str, lines: &[&str]) -> bool
     ensures { result ≡ list_any (says question.now answer.now) (map (λ line. line.now) lines.now) }
 {
+    let mut found = false;
     for line in lines {
         if says(question, answer, line) {
-            return true;
+            found = true;
         }
     }
-    false
+    found
 }
 
 // What is wrong with the lines that ask a question, of which there are so many.

@@ -10,6 +10,5 @@
   li a7, 2          # exit
   ecall
 .data
-name: .asciz "word"
-.balign 8
 text: .space 64
+name: .asciz "word"

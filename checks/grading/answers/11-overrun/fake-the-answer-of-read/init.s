@@ -9,6 +9,5 @@
   li a7, 2          # exit with what read answered
   ecall
 .data
-name: .asciz "word"
-.balign 8
 text: .space 64
+name: .asciz "word"

@@ -38,6 +38,5 @@ end:
 .data
 buffer: .space 32
 count: .dword 0
-name: .asciz "word"
-.balign 8
 text: .space 64
+name: .asciz "word"

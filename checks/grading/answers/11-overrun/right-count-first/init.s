@@ -35,6 +35,5 @@ end:
 .data
 count: .dword 0
 buffer: .space 31
-name: .asciz "word"
-.balign 8
 text: .space 64
+name: .asciz "word"
