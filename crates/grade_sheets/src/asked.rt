@@ -124,7 +124,8 @@ const ORDER: &str =
 const NO_LINE: &str = "line takes a question, a colon and an answer";
 
 /// Why a rule is refused that gives its points for nothing.
-const NOT_EARNED: &str = "a program that does nothing has it: let it ask for more, or give it no points";
+const NOT_EARNED: &str =
+    "a program that does nothing has it: let it ask for more, or give it no points";
 
 /// What a run has to have.
 #[derive(Drop)]
@@ -139,10 +140,7 @@ pub enum Check {
     /// one before.
     Rise(u64),
     /// Of the lines that were handed in exactly one asks this question, before its colon, and it has this answer.
-    Line {
-        question: String,
-        answer: Answer,
-    },
+    Line { question: String, answer: Answer },
     /// What was handed in has the lines of the trace that begin with one of these words, up to the end of `init`.
     Predicts(Vec<String>),
     /// The notes are as this rule says. The texts are those of its patterns, as the exercise has them: of the one

@@ -250,13 +250,19 @@ fn has_text(run: &Run, name: &str) -> bool {
 // Refuses a run that no machine boots: one without a program `init`, or with two files of one name.
 fn check_files(alloc: Global, place: &str, run: &Run) -> Result<(), SheetError> {
     if has_text(run, "init") {
-        return Err(told(format!(in alloc; "a text is named `init` in {place}, and that is no program")));
+        return Err(told(format!(in alloc;
+            "a text is named `init` in {place}, and that is no program"
+        )));
     }
     let own = run.files.as_slice();
     if !has_program(run.with.as_slice(), "init") && !has_program(own, "init") {
-        return Err(told(format!(in alloc; "no file of {place} is the program `init`, so it never boots")));
+        return Err(told(format!(in alloc;
+            "no file of {place} is the program `init`, so it never boots"
+        )));
     }
-    let name = twice(run.with.as_slice()).or(program_twice(run)).or(text_twice(run));
+    let name = twice(run.with.as_slice())
+        .or(program_twice(run))
+        .or(text_twice(run));
     match name {
         Some(name) => Err(told(format!(in alloc; "two files are named `{name}` in {place}"))),
         None => Ok(()),
