@@ -1,7 +1,7 @@
 //! What is asked of texts: of what the console showed, and of what was handed in. Each function here tells why it isn't
 //! there, in a student's words; `None` if it is.
-ghost use Rattle.std.specs.Prelude.{◌≡◌, ◌↔◌, IsTrue, is_none, IfOk, map, count_by};
-ghost use Rattle.std.specs.List.{list_any};
+ghost use Rattle.std.specs.Prelude.{◌≡◌, ◌↔◌, ◌==◌, IsTrue, is_none, IfOk, map, count_by};
+ghost use Rattle.std.specs.List.{list_any, after_first};
 ghost use Rattle.std.specs.Str.Lines.{lines};
 ghost use Rattle.grade_sheets.specs.Answers.{question_of, answer_of, asks, says, IsOnlyAnswer};
 ghost use Rattle.grade_sheets.specs.Grades.{IsSaid};
@@ -221,14 +221,21 @@ fn question_of(line: &str) -> &str
     }
 }
 
+// What stands behind a line's first colon; nothing if it has none.
+fn behind_colon(line: &str) -> &str
+    ensures { result.now ≡ after_first (λ b. b == 58) line.now }
+{
+    match line.split_once(':') {
+        Some((_, behind)) => behind,
+        None => "",
+    }
+}
+
 // What a line answers: what stands behind its first colon, without the blanks around it.
 fn answer_of(line: &str) -> &str
     ensures { result.now ≡ answer_of line.now }
 {
-    match line.split_once(':') {
-        Some((_, answer)) => answer.trim(),
-        None => "",
-    }
+    behind_colon(line).trim()
 }
 
 // Whether a line asks this question.

@@ -1,10 +1,9 @@
-use Rattle.std.proofs.Common.{◌≡◌, ◌+◌, length, sym, ap, arith, lit<, rules}
+use Rattle.std.proofs.Common.{◌≡◌, ◌+◌, length, sym, arith, lit<, rules}
 use Rattle.std.proofs.lemmas.List.{drop_all}
 use Rattle.std.proofs.lemmas.Str.Pattern.{split_once_first}
 use Rattle.std.specs.Prelude.{◌==◌}
 use Rattle.std.specs.List.{position_or_len}
-use Rattle.std.specs.Str.{trim}
-use Rattle.grade_sheets.proofs.texts.answer_of.Goals as goal
+use Rattle.grade_sheets.proofs.texts.behind_colon.Goals as goal
 
 -- a line without a colon has nothing behind it
 pub returns-in-None : goal.returns-in-None
@@ -12,4 +11,4 @@ returns-in-None c =
     let line = c.args.line.now in
     let told = split_once_first 58 line c.split_once.result c.split_once.ensures.cases (lit< tt) in
     let whole : position_or_len (λ b. b == 58) line ≡ length line = search rules in
-    ap trim (sym (drop_all (position_or_len (λ b. b == 58) line + 1) line (omega (arith, whole))))
+    sym (drop_all (position_or_len (λ b. b == 58) line + 1) line (omega (arith, whole)))
