@@ -9,7 +9,7 @@ import stat
 from source import BEGIN, END, Lab, LabError
 
 MOST_BYTES = 65536
-ANSWER = "answer.rt"
+ANSWER = "answer.rs"
 
 TOKENS = re.compile(
     r"""

@@ -16,7 +16,7 @@ from source import LABS, TOP, Lab, LabError, all_labs
 from verdicts import Verdict
 
 HELP = """usage: lab                     the labs, from the first on
-       lab NAME [FOLDER]       makes a folder of your own with the lab NAME (lab-NAME, if no FOLDER is named)
+       lab NAME [FOLDER]       makes a folder of your own with the lab NAME (lab-NAME, beside the clone, if no FOLDER is named)
        lab check [FOLDER]      is the body wrong, proved or open? Half a minute
        lab run FOLDER FILE..   runs programs on the kernel with your body in it, in a build without proofs
        lab grade [--jobs N] FOLDER..    CSV: each folder's lab, verdict and reason; N folders at once
@@ -52,9 +52,18 @@ def show_labs():
             print(f"  {name:12} {told.strip()}")
 
 
+def folder_for(name, folder=None):
+    """Where a lab's folder is to be: not in the clone, in which each .rt file has to be a crate's."""
+    is_inside = pathlib.Path.cwd().resolve().is_relative_to(TOP)
+    home = pathlib.Path(folder or (TOP.parent if is_inside else pathlib.Path()) / f"lab-{name}")
+    if home.resolve().is_relative_to(TOP):
+        raise LabError(f"{home} lies in the clone, in which each .rt file has to be a crate's: name a folder beside it")
+    return home
+
+
 def make_folder(name, folder=None):
     """Makes a folder with a lab."""
-    home = pathlib.Path(folder or f"lab-{name}")
+    home = folder_for(name, folder)
     if home.exists():
         raise LabError(f"{home} is there already: name another folder, `lab {name} FOLDER`")
     lab = Lab(name)

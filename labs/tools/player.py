@@ -20,8 +20,8 @@ class Play:
 
 
 def module_of(lab, name):
-    """The module that plays the function of this name, from the lab's play.rt."""
-    text = (LABS / "tools" / "dice.rt").read_text(encoding="utf-8") + (lab.home / "play.rt").read_text(encoding="utf-8")
+    """The module that plays the function of this name, from the lab's play.rs."""
+    text = (LABS / "tools" / "dice.rs").read_text(encoding="utf-8") + (lab.home / "play.rs").read_text(encoding="utf-8")
     return f"\n#[cfg(test)]\nmod {name}_play {{\n" + text.replace("STUDENT", name) + "}\n"
 
 

@@ -1,14 +1,17 @@
 """Rooms: small repositories of a crate and all below it, in which rt checks or tries the crate with another body."""
 import contextlib
 import fcntl
+import hashlib
 import os
 import pathlib
 import shutil
 
-from source import LABS, TOP, LabError
+from source import TOP, LabError
 
 PARTS = ("src", "specs", "proofs")
-WORK = LABS / "out"
+# Where rooms lie: outside the clone, in which each .rt file has to be a crate's.
+CACHE = pathlib.Path(os.environ.get("XDG_CACHE_HOME") or pathlib.Path.home() / ".cache")
+WORK = CACHE / "nektavoly-labs" / hashlib.sha256(os.fsencode(TOP)).hexdigest()[:16]
 
 
 def link_tree(old, new):
@@ -32,7 +35,7 @@ def missing_below(lab):
 @contextlib.contextmanager
 def room_for(lab, kind):
     """A room for the lab, which nobody else has until it is given back."""
-    WORK.mkdir(exist_ok=True)
+    WORK.mkdir(parents=True, exist_ok=True)
     for number in range(1, 65):
         home = WORK / f"{lab.name}-{kind}-{number}"
         with open(f"{home}.lock", "w", encoding="utf-8") as lock:
@@ -84,10 +87,11 @@ class Room:
             shutil.copytree(old / "out" / "incremental", kept)
         extra = self.lab.home / "proofs"
         if extra.is_dir():
-            for file in extra.glob("*.antt"):
-                shutil.copy(file, self.crate / "proofs" / file.name)
+            for file in extra.glob("*.antt.txt"):
+                name = file.name.removesuffix(".antt.txt")
+                shutil.copy(file, self.crate / "proofs" / f"{name}.antt")
                 with open(self.crate / "proofs" / "Lib.antt", "a", encoding="utf-8") as lib:
-                    lib.write(f"pub mod {file.stem}\n")
+                    lib.write(f"pub mod {name}\n")
 
     def proofs_of(self, name):
         """The folder of the proof of one function of the lab's file."""

@@ -140,7 +140,7 @@ class Lab:
 
     def variants(self, kind):
         """Its stored bodies, right or wrong, by their names."""
-        return {it.stem: body_of_file(it) for it in sorted((self.home / kind).glob("*.rt"))}
+        return {it.stem: body_of_file(it) for it in sorted((self.home / kind).glob("*.rs"))}
 
 
 def body_of_file(path):

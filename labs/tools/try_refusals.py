@@ -69,11 +69,11 @@ def files():
     good = with_body(GOOD)
 
     def text(data):
-        return lambda home: (home / "answer.rt").write_bytes(data if isinstance(data, bytes) else data.encode())
+        return lambda home: (home / "answer.rs").write_bytes(data if isinstance(data, bytes) else data.encode())
 
     def link(home):
-        (home / "real.rt").write_text(good, encoding="utf-8")
-        (home / "answer.rt").symlink_to("real.rt")
+        (home / "real.rs").write_text(good, encoding="utf-8")
+        (home / "answer.rs").symlink_to("real.rs")
 
     def read_file(home):
         text(good)(home)
@@ -91,9 +91,9 @@ def files():
     yield "blanks at the ends of lines", text(good.replace("\n", "  \n")), ""
     yield "no file", lambda home: None, "can't be read"
     yield "a link", link, "can't be read"
-    yield "a folder", lambda home: (home / "answer.rt").mkdir(), "is no file"
-    yield "a pipe", lambda home: os.mkfifo(home / "answer.rt"), "is no file"
-    yield "a device", lambda home: (home / "answer.rt").symlink_to("/dev/zero"), "can't be read"
+    yield "a folder", lambda home: (home / "answer.rs").mkdir(), "is no file"
+    yield "a pipe", lambda home: os.mkfifo(home / "answer.rs"), "is no file"
+    yield "a device", lambda home: (home / "answer.rs").symlink_to("/dev/zero"), "can't be read"
     yield "too long", text(good + "\n" * 70000), "more than"
     yield "a byte 0", text(good.replace("let ", "let\0")), "byte 0"
     yield "no UTF-8", text(good.encode() + b"\xff"), "UTF-8"
@@ -126,7 +126,7 @@ def reason_for(make):
 
 def main():
     """Hands in all of it."""
-    cases = [(f"body {body!r}", lambda home, b=body: (home / "answer.rt").write_text(with_body(b), encoding="utf-8"), word) for body, word in BODIES]
+    cases = [(f"body {body!r}", lambda home, b=body: (home / "answer.rs").write_text(with_body(b), encoding="utf-8"), word) for body, word in BODIES]
     amiss = 0
     for name, make, word in [*cases, *files()]:
         said = reason_for(make)

@@ -97,7 +97,7 @@ def placed(lab, error, first):
     """An error of the compiler, at its line of the answer."""
     file, line, why = error
     if first and file == lab.file and line > first[0]:
-        return f"answer.rt:{line - first[0] + first[1]}: {why}"
+        return f"answer.rs:{line - first[0] + first[1]}: {why}"
     return f"{file}:{line}: {why}"
 
 
