@@ -115,6 +115,8 @@ git archive HEAD xv xv.mjs xv.cmd package.json anywhere README.md CONTRIBUTING.m
     checks/grading checks/programs.sh checks/parts.sh |
     tar -x -C "$RELEASE"
 mv "$RELEASE/docs/html" "$room/html"
+# How the proofs are made is for those who have a clone: links to these pages become words.
+rm -f "$RELEASE"/docs/{MAP,THEOREM,SPECIFICATION,GATE,PROVING,DECISIONS}.md "$RELEASE/CONTRIBUTING.md"
 # What makes and tries the modules is of no use without the crates.
 rm -rf "$RELEASE/anywhere/build" "$RELEASE/anywhere/try" "$RELEASE"/anywhere/*.sh
 
