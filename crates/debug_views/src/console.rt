@@ -1,8 +1,8 @@
 //! The bytes that the console holds.
-ghost use Rattle.std.specs.Prelude.{◌≡◌, ◌++◌, OnOk, string_bytes, take};
-ghost use Rattle.arrayvec.specs.ArrayVec.{array_vec_len};
+ghost use Rattle.std.specs.Prelude.{◌≡◌, OnOk, take};
 ghost use Rattle.console_core.specs.Lists.{list_of};
 ghost use Rattle.debug_views.specs.ConsoleText.{behind_number, console_text, list_text, room_text};
+ghost use Rattle.debug_views.specs.Written.{Appends};
 
 use arrayvec::ArrayVec;
 use debug_words::texts::{Grouped, Many, Quoted};
@@ -30,7 +30,7 @@ fn bytes_of(machine: &Machine, list: ConsoleList) -> ArrayVec<u8, SHOWN_MOST>
 
 /// Writes bytes behind how many they are, if there are any.
 fn show_bytes(bytes: &[u8], answer: &mut String) -> Result<(), AllocError>
-    ensures { OnOk result (string_bytes answer.new ≡ string_bytes answer.old ++ behind_number bytes.now) }
+    ensures { OnOk result (Appends answer.old answer.new (behind_number bytes.now)) }
 {
     if bytes.is_empty() {
         return Ok(());
@@ -47,7 +47,9 @@ fn show_list(
     what: &str,
     answer: &mut String,
 ) -> Result<(), AllocError>
-    ensures { OnOk result (string_bytes answer.new ≡ string_bytes answer.old ++ list_text what.now (take SHOWN_MOST (list_of list machine.now.world.state.console))) }
+    ensures { OnOk result
+        (Appends answer.old answer.new
+        (list_text what.now (take SHOWN_MOST (list_of list machine.now.world.state.console)))) }
 {
     let bytes = bytes_of(machine, list);
     let many = Many(bytes.len() as u64, "byte");
@@ -58,7 +60,7 @@ fn show_list(
 
 /// Writes for how many bytes there is room.
 fn show_room(answer: &mut String) -> Result<(), AllocError>
-    ensures { OnOk result (string_bytes answer.new ≡ string_bytes answer.old ++ room_text) }
+    ensures { OnOk result (Appends answer.old answer.new room_text) }
 {
     let typed = Grouped(CONSOLE_BYTES as u64);
     let waiting = Grouped(SEND_BYTES as u64);
@@ -74,7 +76,7 @@ fn show_room(answer: &mut String) -> Result<(), AllocError>
 ///
 /// The host has too little memory.
 pub fn show_console(session: &Session, answer: &mut String) -> Result<(), AllocError>
-    ensures { OnOk result (string_bytes answer.new ≡ string_bytes answer.old ++ console_text session.now.machine.world.state.console) }
+    ensures { OnOk result (Appends answer.old answer.new (console_text session.now.machine.world.state.console)) }
 {
     let machine = session.machine();
     show_list(

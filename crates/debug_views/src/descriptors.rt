@@ -1,8 +1,12 @@
 //! The descriptors of a process.
-ghost use Rattle.std.specs.Prelude.{◌≡◌, ◌++◌, OnOk, string_bytes};
-ghost use Rattle.debug_views.specs.DescriptorText.{descriptor_text, descriptor_told, descriptors_shown, descriptors_text, end_name, end_text, file_name, file_text, first_descriptors, rights_text, sharing_text, target_text};
+ghost use Rattle.std.specs.Prelude.{◌≡◌, OnOk};
+ghost use Rattle.debug_views.specs.DescriptorText.{descriptor_text, descriptor_told, descriptors_shown};
+ghost use Rattle.debug_views.specs.DescriptorText.{descriptors_text, end_name, end_text};
+ghost use Rattle.debug_views.specs.DescriptorText.{file_name, file_text, first_descriptors};
+ghost use Rattle.debug_views.specs.DescriptorText.{rights_text, sharing_text, target_text};
 ghost use Rattle.debug_views.specs.Sharing.{first_with, names_file};
 ghost use Rattle.kcall_core.specs.Observers.{descriptor_of};
+ghost use Rattle.debug_views.specs.Written.{Appends};
 
 use crate::focus::{lives, program_name, show_none};
 use debug_words::texts::{Grouped, Named, Plain};
@@ -34,7 +38,7 @@ fn end_name(end: End) -> &'static str
 
 /// Writes a program's file, and which of its bytes is the next.
 fn show_file(name: &[u8], offset: u64, answer: &mut String) -> Result<(), AllocError>
-    ensures { OnOk result (string_bytes answer.new ≡ string_bytes answer.old ++ file_text name.now offset) }
+    ensures { OnOk result (Appends answer.old answer.new (file_text name.now offset)) }
 {
     let name = Plain(name);
     let offset = Grouped(offset);
@@ -43,7 +47,7 @@ fn show_file(name: &[u8], offset: u64, answer: &mut String) -> Result<(), AllocE
 
 /// Writes an end of a pipe, which lies in a frame.
 fn show_end(end: End, frame: Frame, answer: &mut String) -> Result<(), AllocError>
-    ensures { OnOk result (string_bytes answer.new ≡ string_bytes answer.old ++ end_text end frame) }
+    ensures { OnOk result (Appends answer.old answer.new (end_text end frame)) }
 {
     let end = end_name(end);
     let frame = frame.number();
@@ -52,7 +56,7 @@ fn show_end(end: End, frame: Frame, answer: &mut String) -> Result<(), AllocErro
 
 /// Writes what an open file is on.
 fn show_target(machine: &Machine, target: Target, answer: &mut String) -> Result<(), AllocError>
-    ensures { OnOk result (string_bytes answer.new ≡ string_bytes answer.old ++ target_text machine.now.world.state.programs target) }
+    ensures { OnOk result (Appends answer.old answer.new (target_text machine.now.world.state.programs target)) }
 {
     match target {
         Target::Console => answer.push_str("console"),
@@ -100,7 +104,7 @@ fn first_on(machine: &Machine, pid: Pid, file: FileId) -> Option<Fd>
 
 /// Writes the first descriptor that shares an open file with this one, if it is another.
 fn show_sharing(fd: Fd, first: Option<Fd>, answer: &mut String) -> Result<(), AllocError>
-    ensures { OnOk result (string_bytes answer.new ≡ string_bytes answer.old ++ sharing_text fd first) }
+    ensures { OnOk result (Appends answer.old answer.new (sharing_text fd first)) }
 {
     let Some(first) = first else {
         return answer.push_str("\n");
@@ -121,7 +125,8 @@ fn show_descriptor(
     descriptor: &Descriptor,
     answer: &mut String,
 ) -> Result<(), AllocError>
-    ensures { OnOk result (string_bytes answer.new ≡ string_bytes answer.old ++ descriptor_text machine.now.world.state pid fd descriptor.now) }
+    ensures { OnOk result
+        (Appends answer.old answer.new (descriptor_text machine.now.world.state pid fd descriptor.now)) }
 {
     let number = fd.number();
     let rights = rights_of(&descriptor.open_file);
@@ -132,7 +137,9 @@ fn show_descriptor(
 
 /// Writes the line of a descriptor, if it is in use.
 fn show_if_used(machine: &Machine, pid: Pid, fd: Fd, answer: &mut String) -> Result<(), AllocError>
-    ensures { OnOk result (string_bytes answer.new ≡ string_bytes answer.old ++ descriptor_told machine.now.world.state pid fd (descriptor_of machine.now.world.state pid fd)) }
+    ensures { OnOk result
+        (Appends answer.old answer.new
+        (descriptor_told machine.now.world.state pid fd (descriptor_of machine.now.world.state pid fd))) }
 {
     match machine.descriptor(pid, fd) {
         Some(descriptor) => show_descriptor(machine, pid, fd, &descriptor, answer),
@@ -143,7 +150,7 @@ fn show_if_used(machine: &Machine, pid: Pid, fd: Fd, answer: &mut String) -> Res
 /// Writes the lines of all descriptors of a process.
 #[tactic(auto, unfolding(crate::specs::DescriptorText::first_descriptors))]
 fn show_all(machine: &Machine, pid: Pid, answer: &mut String) -> Result<(), AllocError>
-    ensures { OnOk result (string_bytes answer.new ≡ string_bytes answer.old ++ first_descriptors machine.now.world.state pid NOFILE) }
+    ensures { OnOk result (Appends answer.old answer.new (first_descriptors machine.now.world.state pid NOFILE)) }
 {
     for number in 0..NOFILE {
         show_if_used(machine, pid, Fd::new(number as u8), answer)?;
@@ -153,7 +160,7 @@ fn show_all(machine: &Machine, pid: Pid, answer: &mut String) -> Result<(), Allo
 
 /// Writes the descriptors of a live process.
 fn show_known(session: &Session, pid: Pid, answer: &mut String) -> Result<(), AllocError>
-    ensures { OnOk result (string_bytes answer.new ≡ string_bytes answer.old ++ descriptors_text session.now pid) }
+    ensures { OnOk result (Appends answer.old answer.new (descriptors_text session.now pid)) }
 {
     let owner = pid.number();
     let name = Named(program_name(session, pid));
@@ -170,7 +177,7 @@ fn show_known(session: &Session, pid: Pid, answer: &mut String) -> Result<(), Al
 ///
 /// The host has too little memory.
 pub fn show_descriptors(session: &Session, pid: Pid, answer: &mut String) -> Result<(), AllocError>
-    ensures { OnOk result (string_bytes answer.new ≡ string_bytes answer.old ++ descriptors_shown session.now pid) }
+    ensures { OnOk result (Appends answer.old answer.new (descriptors_shown session.now pid)) }
 {
     if lives(session.machine(), pid) {
         show_known(session, pid, answer)

@@ -1,9 +1,11 @@
 //! Processes by their pids, and the programs that they run.
-ghost use Rattle.std.specs.Prelude.{◌≡◌, ℕ, ◌≤◌, ◌++◌, IfSome, IfNone, OnOk, is_some, option_map, string_bytes};
+ghost use Rattle.std.specs.Prelude.{◌≡◌, ℕ, ◌≤◌, IfSome};
+ghost use Rattle.std.specs.Prelude.{IfNone, OnOk, is_some, option_map};
 ghost use Rattle.kernel_spec.specs.views.State.{named_file, live};
 ghost use Rattle.kernel_spec.specs.waking.Turns.{HasSlot};
 ghost use Rattle.xv_machine.specs.Sound.{IsSoundMachine};
 ghost use Rattle.debug_views.specs.Focus.{IsLeastFrom, lesser, name_in, no_process, program_in};
+ghost use Rattle.debug_views.specs.Written.{Appends};
 
 use std::alloc::AllocError;
 use xk_base::limits::NPROC;
@@ -83,7 +85,7 @@ pub fn program_name(session: &Session, pid: Pid) -> Option<&[u8]>
 
 /// Writes that no live process has this pid.
 pub(crate) fn show_none(pid: Pid, answer: &mut String) -> Result<(), AllocError>
-    ensures { OnOk result (string_bytes answer.new ≡ string_bytes answer.old ++ no_process pid) }
+    ensures { OnOk result (Appends answer.old answer.new (no_process pid)) }
 {
     let number = pid.number();
     writeln!(

@@ -1,7 +1,9 @@
 //! What each frame of RAM is used for.
 ghost use Rattle.std.specs.Prelude.{◌≡◌, IfOk, count_by, position};
 ghost use Rattle.debug_views.specs.Focus.{lesser};
-ghost use Rattle.debug_views.specs.FrameLists.{AreUses, IsLeastLower, is_counted, is_frame_of, is_lower_of, is_page_of, is_pipe, is_root_of, is_table_of, is_this_table, is_trapframe_of, is_upper_of, lower_in};
+ghost use Rattle.debug_views.specs.FrameLists.{AreUses, IsLeastLower, is_counted, is_frame_of, is_lower_of};
+ghost use Rattle.debug_views.specs.FrameLists.{is_page_of, is_pipe, is_root_of, is_table_of, is_this_table};
+ghost use Rattle.debug_views.specs.FrameLists.{is_trapframe_of, is_upper_of, lower_in};
 
 use std::alloc::{AllocError, Global};
 use xk_base::limits::FRAMES_MAX;

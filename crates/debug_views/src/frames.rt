@@ -1,9 +1,11 @@
 //! Who owns the frames of RAM.
 ghost use Rattle.std.specs.Prelude.{◌≡◌, ◌++◌, OnOk, string_bytes};
-ghost use Rattle.debug_views.specs.FrameText.{AreShares, IsFrameText, IsFramesText, IsSharesText, more_text, or_stroke, owner_text, page_head, share_text, shares_head, table_head, use_text};
+ghost use Rattle.debug_views.specs.FrameText.{AreShares, IsFrameText, IsFramesText, IsSharesText};
+ghost use Rattle.debug_views.specs.FrameText.{more_text, or_stroke, owner_text, page_head};
+ghost use Rattle.debug_views.specs.FrameText.{share_text, shares_head, table_head, use_text};
 ghost use Rattle.kcall_core.specs.declared.kernel.observers.frame_uses.FrameUse.TheVariants.{Page};
 ghost use Rattle.debug_views.specs.Focus.{name_in};
-ghost use Rattle.debug_views.specs.Written.{Writes};
+ghost use Rattle.debug_views.specs.Written.{Writes, Appends};
 
 use crate::focus::{least_from, program_name};
 use crate::frame_uses::{Counted, count_of, uses_of};
@@ -21,7 +23,7 @@ const LINES_MOST: u32 = 16;
 /// Writes a process, with the name of its program, and ends the line.
 #[tactic(auto, unfolding(crate::specs::FrameText::owner_text))]
 fn show_owner(session: &Session, pid: Pid, answer: &mut String) -> Result<(), AllocError>
-    ensures { OnOk result (string_bytes answer.new ≡ string_bytes answer.old ++ owner_text session.now pid) }
+    ensures { OnOk result (Appends answer.old answer.new (owner_text session.now pid)) }
 {
     let number = pid.number();
     let name = Named(program_name(session, pid));
@@ -36,7 +38,7 @@ fn show_table(
     pid: Pid,
     answer: &mut String,
 ) -> Result<(), AllocError>
-    ensures { OnOk result (string_bytes answer.new ≡ string_bytes answer.old ++ (table_head level.now place ++ owner_text session.now pid)) }
+    ensures { OnOk result (Appends answer.old answer.new (table_head level.now place ++ owner_text session.now pid)) }
 {
     write!(answer, "{level} table {place} of ")?;
     show_owner(session, pid, answer)
@@ -44,7 +46,7 @@ fn show_table(
 
 /// Writes where a page of a process is, and what it allows.
 fn show_place(session: &Session, pid: Pid, vpn: Vpn, answer: &mut String) -> Result<(), AllocError>
-    ensures { OnOk result (string_bytes answer.new ≡ string_bytes answer.old ++ page_head session.now pid vpn) }
+    ensures { OnOk result (Appends answer.old answer.new (page_head session.now pid vpn)) }
 {
     let address = Hexadecimal(u64::from(vpn.number()) * PAGE_BYTES);
     let rights = RightsShown(session.machine().perm(pid, vpn));
@@ -53,7 +55,7 @@ fn show_place(session: &Session, pid: Pid, vpn: Vpn, answer: &mut String) -> Res
 
 /// Writes a page of a process.
 fn show_page(session: &Session, pid: Pid, vpn: Vpn, answer: &mut String) -> Result<(), AllocError>
-    ensures { OnOk result (string_bytes answer.new ≡ string_bytes answer.old ++ use_text session.now (Page pid vpn)) }
+    ensures { OnOk result (Appends answer.old answer.new (use_text session.now (Page pid vpn))) }
 {
     show_place(session, pid, vpn, answer)?;
     show_owner(session, pid, answer)
@@ -61,7 +63,7 @@ fn show_page(session: &Session, pid: Pid, vpn: Vpn, answer: &mut String) -> Resu
 
 /// Writes what a frame is used for.
 fn show_use(session: &Session, used: &FrameUse, answer: &mut String) -> Result<(), AllocError>
-    ensures { OnOk result (string_bytes answer.new ≡ string_bytes answer.old ++ use_text session.now used.now) }
+    ensures { OnOk result (Appends answer.old answer.new (use_text session.now used.now)) }
 {
     match *used {
         FrameUse::Free => answer.push_str("free\n"),
@@ -114,7 +116,7 @@ fn show_share(
     pid: Pid,
     answer: &mut String,
 ) -> Result<(), AllocError>
-    ensures { OnOk result (string_bytes answer.new ≡ string_bytes answer.old ++ share_text session.now uses.now pid) }
+    ensures { OnOk result (Appends answer.old answer.new (share_text session.now uses.now pid)) }
 {
     let number = pid.number();
     let name = Plain(name_or_stroke(session, pid));
@@ -130,7 +132,7 @@ fn show_share(
 
 /// Writes which process is the next, if there are more.
 fn show_more(next: Option<Pid>, answer: &mut String) -> Result<(), AllocError>
-    ensures { OnOk result (string_bytes answer.new ≡ string_bytes answer.old ++ more_text next) }
+    ensures { OnOk result (Appends answer.old answer.new (more_text next)) }
 {
     let Some(pid) = next else {
         return Ok(());
@@ -150,7 +152,9 @@ fn show_from(
     from: u32,
     answer: &mut String,
 ) -> Result<(), AllocError>
-    ensures { OnOk result (Writes (string_bytes answer.old) (string_bytes answer.new) (AreShares session.now uses.now lines from)) }
+    ensures { OnOk result
+        (Writes (string_bytes answer.old) (string_bytes answer.new)
+        (AreShares session.now uses.now lines from)) }
 {
     let next = least_from(session.machine(), from);
     if lines == 0 {
@@ -165,7 +169,7 @@ fn show_from(
 
 /// Writes how many frames there are, how many of them no process has, and the head of the lines of processes.
 fn show_head(session: &Session, uses: &[FrameUse], answer: &mut String) -> Result<(), AllocError>
-    ensures { OnOk result (string_bytes answer.new ≡ string_bytes answer.old ++ shares_head session.now uses.now) }
+    ensures { OnOk result (Appends answer.old answer.new (shares_head session.now uses.now)) }
 {
     let frames = Many(uses.len() as u64, "frame");
     let bytes = Grouped(PAGE_BYTES);
@@ -198,7 +202,8 @@ pub fn show_frames(
     frame: Option<Frame>,
     answer: &mut String,
 ) -> Result<(), AllocError>
-    ensures { OnOk result (Writes (string_bytes answer.old) (string_bytes answer.new) (IsFramesText session.now frame)) }
+    ensures { OnOk result
+        (Writes (string_bytes answer.old) (string_bytes answer.new) (IsFramesText session.now frame)) }
 {
     match frame {
         Some(frame) => show_frame(session, frame, answer),

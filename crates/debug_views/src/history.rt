@@ -1,10 +1,11 @@
 //! The events that the machine got, and the notes that its trace keeps.
-ghost use Rattle.std.specs.Prelude.{◌≡◌, ◌++◌, [], Some, OnOk, length, option_map, string_bytes};
+ghost use Rattle.std.specs.Prelude.{◌≡◌, [], Some, OnOk, length, option_map, string_bytes};
 ghost use Rattle.xv_machine.specs.Events.{event_of};
 ghost use Rattle.xv_session.specs.Answers.{AreEqualFrom};
 ghost use Rattle.debug_views.specs.declared.history.Equal.{Equal};
-ghost use Rattle.debug_views.specs.EventText.{AreEvents, IsEventsText, equal_text, event_text, first_place, more_events, no_notes};
-ghost use Rattle.debug_views.specs.Written.{Writes};
+ghost use Rattle.debug_views.specs.EventText.{AreEvents, IsEventsText, equal_text, event_text};
+ghost use Rattle.debug_views.specs.EventText.{first_place, more_events, no_notes};
+ghost use Rattle.debug_views.specs.Written.{Writes, Appends};
 
 use debug_words::texts::{Grouped, Many, Quoted};
 use std::alloc::AllocError;
@@ -58,7 +59,8 @@ fn equal_from(session: &Session, place: u64) -> Option<Equal>
 
 /// Writes the line of events that are equal: the place of the first, how many they are, and which.
 fn show_equal(place: u64, equal: &Equal, answer: &mut String) -> Result<(), AllocError>
-    ensures { OnOk result (string_bytes answer.new ≡ string_bytes answer.old ++ equal_text place equal.now.count (event_of equal.now.event)) }
+    ensures { OnOk result
+        (Appends answer.old answer.new (equal_text place equal.now.count (event_of equal.now.event))) }
 {
     let begin = Grouped(place);
     let times = Grouped(equal.count);
@@ -68,7 +70,7 @@ fn show_equal(place: u64, equal: &Equal, answer: &mut String) -> Result<(), Allo
 
 /// Writes the place from which on there are more of all events, if there are.
 fn show_more(all: u64, place: u64, answer: &mut String) -> Result<(), AllocError>
-    ensures { OnOk result (string_bytes answer.new ≡ string_bytes answer.old ++ more_events all place) }
+    ensures { OnOk result (Appends answer.old answer.new (more_events all place)) }
 {
     if place >= all {
         return Ok(());
@@ -83,7 +85,9 @@ fn show_from(
     place: u64,
     answer: &mut String,
 ) -> Result<(), AllocError>
-    ensures { OnOk result (Writes (string_bytes answer.old) (string_bytes answer.new) (AreEvents session.now.events lines place)) }
+    ensures { OnOk result
+        (Writes (string_bytes answer.old) (string_bytes answer.new)
+        (AreEvents session.now.events lines place)) }
 {
     let all = session.at();
     if lines == 0 {
@@ -137,7 +141,8 @@ pub fn show_events(
 ///
 /// The host has too little memory.
 pub fn show_trace(session: &Session, count: u32, answer: &mut String) -> Result<(), AllocError>
-    ensures { session.now.machine.notes ≡ [] → OnOk result (string_bytes answer.new ≡ string_bytes answer.old ++ no_notes) }
+    ensures { session.now.machine.notes ≡ []
+        → OnOk result (Appends answer.old answer.new no_notes) }
 {
     let machine = session.machine();
     let kept = machine.trace_len();

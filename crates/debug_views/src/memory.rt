@@ -1,7 +1,10 @@
 //! Bytes of a process's memory.
-ghost use Rattle.std.specs.Prelude.{◌≡◌, ◌++◌, ◌<◌, ◌≤◌, OnOk, string_bytes};
+ghost use Rattle.std.specs.Prelude.{◌≡◌, ◌<◌, OnOk};
 ghost use Rattle.debug_views.specs.Bytes.{byte_behind};
-ghost use Rattle.debug_views.specs.MemoryText.{byte_in_line, character, characters_between, characters_in_line, digits_in_line, digits_shown, gap_at, memory_line, memory_lines, memory_shown, memory_text};
+ghost use Rattle.debug_views.specs.MemoryText.{byte_in_line, character, characters_between, characters_in_line};
+ghost use Rattle.debug_views.specs.MemoryText.{digits_in_line, digits_shown, gap_at, memory_line};
+ghost use Rattle.debug_views.specs.MemoryText.{memory_lines, memory_shown, memory_text};
+ghost use Rattle.debug_views.specs.Written.{Appends};
 
 use crate::focus::{lives, program_name, show_none};
 use debug_words::texts::Named;
@@ -32,7 +35,7 @@ fn gap_at(place: u32) -> &'static str
 
 /// Writes a byte in hexadecimal digits.
 fn show_digits(byte: Option<u8>, answer: &mut String) -> Result<(), AllocError>
-    ensures { OnOk result (string_bytes answer.new ≡ string_bytes answer.old ++ digits_shown byte) }
+    ensures { OnOk result (Appends answer.old answer.new (digits_shown byte)) }
 {
     match byte {
         Some(byte) => write!(answer, "{byte:02x}"),
@@ -49,7 +52,8 @@ fn show_byte(
     place: u32,
     answer: &mut String,
 ) -> Result<(), AllocError>
-    ensures { OnOk result (string_bytes answer.new ≡ string_bytes answer.old ++ byte_in_line machine.now.world.state pid address count place) }
+    ensures { OnOk result
+        (Appends answer.old answer.new (byte_in_line machine.now.world.state pid address count place)) }
 {
     answer.push_str(gap_at(place))?;
     if place >= count {
@@ -66,7 +70,8 @@ fn show_bytes(
     count: u32,
     answer: &mut String,
 ) -> Result<(), AllocError>
-    ensures { OnOk result (string_bytes answer.new ≡ string_bytes answer.old ++ digits_in_line machine.now.world.state pid address count 16) }
+    ensures { OnOk result
+        (Appends answer.old answer.new (digits_in_line machine.now.world.state pid address count 16)) }
 {
     for place in 0..LINE_BYTES {
         show_byte(machine, pid, address, count, place, answer)?;
@@ -93,7 +98,8 @@ fn show_characters(
     count: u32,
     answer: &mut String,
 ) -> Result<(), AllocError>
-    ensures { OnOk result (string_bytes answer.new ≡ string_bytes answer.old ++ characters_in_line machine.now.world.state pid address count) }
+    ensures { OnOk result
+        (Appends answer.old answer.new (characters_in_line machine.now.world.state pid address count)) }
 {
     for place in 0..count {
         let shown = character(byte_behind(machine, pid, address, place));
@@ -110,7 +116,8 @@ fn show_between_strokes(
     count: u32,
     answer: &mut String,
 ) -> Result<(), AllocError>
-    ensures { OnOk result (string_bytes answer.new ≡ string_bytes answer.old ++ characters_between machine.now.world.state pid address count) }
+    ensures { OnOk result
+        (Appends answer.old answer.new (characters_between machine.now.world.state pid address count)) }
 {
     answer.push_str("  |")?;
     show_characters(machine, pid, address, count, answer)?;
@@ -125,7 +132,7 @@ fn show_line(
     count: u32,
     answer: &mut String,
 ) -> Result<(), AllocError>
-    ensures { OnOk result (string_bytes answer.new ≡ string_bytes answer.old ++ memory_line machine.now.world.state pid address count) }
+    ensures { OnOk result (Appends answer.old answer.new (memory_line machine.now.world.state pid address count)) }
 {
     write!(answer, "0x{address:010x} ")?;
     show_bytes(machine, pid, address, count, answer)?;
@@ -141,7 +148,8 @@ fn show_lines(
     count: u32,
     answer: &mut String,
 ) -> Result<(), AllocError>
-    ensures { OnOk result (string_bytes answer.new ≡ string_bytes answer.old ++ memory_lines machine.now.world.state pid lines address count) }
+    ensures { OnOk result
+        (Appends answer.old answer.new (memory_lines machine.now.world.state pid lines address count)) }
 {
     if lines == 0 || count == 0 {
         return Ok(());
@@ -162,7 +170,7 @@ fn show_known(
     count: u32,
     answer: &mut String,
 ) -> Result<(), AllocError>
-    ensures { OnOk result (string_bytes answer.new ≡ string_bytes answer.old ++ memory_text session.now pid from count) }
+    ensures { OnOk result (Appends answer.old answer.new (memory_text session.now pid from count)) }
 {
     let number = pid.number();
     let name = Named(program_name(session, pid));
@@ -185,7 +193,7 @@ pub fn show_memory(
     count: u32,
     answer: &mut String,
 ) -> Result<(), AllocError>
-    ensures { OnOk result (string_bytes answer.new ≡ string_bytes answer.old ++ memory_shown session.now pid from count) }
+    ensures { OnOk result (Appends answer.old answer.new (memory_shown session.now pid from count)) }
 {
     if lives(session.machine(), pid) {
         show_known(session, pid, from, count, answer)

@@ -82,7 +82,8 @@ fn alike(machine: &Machine, pid: Pid, kind: &Kind, first: u32, end: u32) -> u32
     requires within { end ≤ VPN_END }
     ensures some { 0 < result }
     ensures within { first + result ≤ end }
-    ensures alike { (n : ℕ) → first ≤ n → n < first + result → kind_by (rights_at machine.now.world.state pid n) ≡ kind.now }
+    ensures alike { (n : ℕ) → first ≤ n → n < first + result
+        → kind_by (rights_at machine.now.world.state pid n) ≡ kind.now }
 {
     for number in first + 1..end {
         if kind_of(machine, pid, number) != *kind {
@@ -99,7 +100,8 @@ fn run_in_table(machine: &Machine, pid: Pid, first: u32, end: u32) -> PageRun
     ensures first { result.first ≡ first }
     ensures some { 0 < result.count }
     ensures within { first + result.count ≤ end }
-    ensures alike { (n : ℕ) → first ≤ n → n < first + result.count → kind_by (rights_at machine.now.world.state pid n) ≡ result.kind }
+    ensures alike { (n : ℕ) → first ≤ n → n < first + result.count
+        → kind_by (rights_at machine.now.world.state pid n) ≡ result.kind }
 {
     let kind = kind_of(machine, pid, first);
     let count = alike(machine, pid, &kind, first, end);

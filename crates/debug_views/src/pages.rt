@@ -1,6 +1,7 @@
 //! The tables and pages of a process, as a tree (RISC-V Privileged ISA, "Sv39: Page-Based 39-bit Virtual-Memory
 //! System").
-ghost use Rattle.std.specs.Prelude.{◌≡◌, [], ◌++◌, ◌+◌, ◌/◌, ◌<◌, ◌≤◌, min, length, take, drop, All, OnOk, Some, string_bytes};
+ghost use Rattle.std.specs.Prelude.{◌≡◌, [], ◌+◌, ◌/◌, ◌<◌, ◌≤◌, min};
+ghost use Rattle.std.specs.Prelude.{length, take, drop, All, OnOk, Some, string_bytes};
 ghost use Rattle.std.specs.List.{list_any};
 ghost use Rattle.xk_base.specs.declared.limits.TheConstants.{VPN_END};
 ghost use Rattle.xv_machine.specs.FrameUses.{page_frame_at};
@@ -8,7 +9,7 @@ ghost use Rattle.debug_views.specs.Focus.{name_in};
 ghost use Rattle.debug_views.specs.FrameText.{letter, rights_shown};
 ghost use Rattle.debug_views.specs.PageRuns.{behind_runs};
 ghost use Rattle.debug_views.specs.PagesText as meant;
-ghost use Rattle.debug_views.specs.Written.{Writes};
+ghost use Rattle.debug_views.specs.Written.{Writes, Appends};
 
 use crate::focus::{program_name, show_none};
 use crate::frame_uses::{Table, table_frame, uses_of};
@@ -159,7 +160,8 @@ fn show_frame(
     answer: &mut String,
 ) -> Result<(), AllocError>
     requires { number < VPN_END }
-    ensures { OnOk result (string_bytes answer.new ≡ string_bytes answer.old ++ meant.frame_text (page_frame_at machine.now.frames pid number)) }
+    ensures { OnOk result
+        (Appends answer.old answer.new (meant.frame_text (page_frame_at machine.now.frames pid number))) }
 {
     match machine.page_frame(pid, Vpn::new(number)) {
         Some(frame) => {
@@ -179,7 +181,7 @@ fn show_frames_from(
     answer: &mut String,
 ) -> Result<(), AllocError>
     requires { first + count ≤ VPN_END }
-    ensures { OnOk result (string_bytes answer.new ≡ string_bytes answer.old ++ meant.frames_text machine.now.frames pid first count) }
+    ensures { OnOk result (Appends answer.old answer.new (meant.frames_text machine.now.frames pid first count)) }
 {
     for place in 0..count {
         show_frame(machine, pid, first + place, answer)?;
@@ -209,7 +211,7 @@ fn show_frames_of(
     answer: &mut String,
 ) -> Result<(), AllocError>
     requires { run.now.first + run.now.count ≤ VPN_END }
-    ensures { OnOk result (string_bytes answer.new ≡ string_bytes answer.old ++ meant.frames_of_text machine.now.frames pid run.now) }
+    ensures { OnOk result (Appends answer.old answer.new (meant.frames_of_text machine.now.frames pid run.now)) }
 {
     let shown = run.count.min(FRAMES_SHOWN);
     answer.push_str(frames_word(run.count))?;
@@ -229,7 +231,7 @@ fn rights_in(kind: Kind) -> Option<Perm>
 
 /// Writes where the pages of a run begin, what they allow, and how many they are.
 fn show_head(run: &PageRun, answer: &mut String) -> Result<(), AllocError>
-    ensures { OnOk result (string_bytes answer.new ≡ string_bytes answer.old ++ meant.pages_head run.now) }
+    ensures { OnOk result (Appends answer.old answer.new (meant.pages_head run.now)) }
 {
     let address = u64::from(run.first) * PAGE_BYTES;
     let rights = RightsShown(rights_in(run.kind));
@@ -245,7 +247,8 @@ fn show_kind(
     answer: &mut String,
 ) -> Result<(), AllocError>
     requires { run.now.first + run.now.count ≤ VPN_END }
-    ensures { OnOk result (string_bytes answer.new ≡ string_bytes answer.old ++ meant.kind_text machine.now.frames pid run.now run.now.kind) }
+    ensures { OnOk result
+        (Appends answer.old answer.new (meant.kind_text machine.now.frames pid run.now run.now.kind)) }
 {
     match run.kind {
         Kind::There(_) => show_frames_of(machine, pid, run, answer),
@@ -262,7 +265,7 @@ fn show_pages_of(
     answer: &mut String,
 ) -> Result<(), AllocError>
     requires { run.now.first + run.now.count ≤ VPN_END }
-    ensures { OnOk result (string_bytes answer.new ≡ string_bytes answer.old ++ meant.pages_text machine.now.frames pid run.now) }
+    ensures { OnOk result (Appends answer.old answer.new (meant.pages_text machine.now.frames pid run.now)) }
 {
     show_head(run, answer)?;
     show_kind(machine, pid, run, answer)
@@ -270,7 +273,7 @@ fn show_pages_of(
 
 /// Writes the frame of a table, if it is there, and ends the line.
 fn show_table(frame: Option<usize>, answer: &mut String) -> Result<(), AllocError>
-    ensures { OnOk result (string_bytes answer.new ≡ string_bytes answer.old ++ meant.table_text frame) }
+    ensures { OnOk result (Appends answer.old answer.new (meant.table_text frame)) }
 {
     match frame {
         Some(frame) => writeln!(answer, "frame {frame}"),
@@ -280,7 +283,7 @@ fn show_table(frame: Option<usize>, answer: &mut String) -> Result<(), AllocErro
 
 /// Writes the line of the root table.
 fn show_root(uses: &[FrameUse], pid: Pid, answer: &mut String) -> Result<(), AllocError>
-    ensures { OnOk result (string_bytes answer.new ≡ string_bytes answer.old ++ meant.root_text uses.now pid) }
+    ensures { OnOk result (Appends answer.old answer.new (meant.root_text uses.now pid)) }
 {
     answer.push_str("root table: ")?;
     show_table(table_frame(uses, pid, Table::TheRoot), answer)
@@ -294,7 +297,7 @@ fn show_upper(
     branches: &Branches,
     answer: &mut String,
 ) -> Result<(), AllocError>
-    ensures { OnOk result (string_bytes answer.new ≡ string_bytes answer.old ++ meant.upper_text uses.now pid place branches.now) }
+    ensures { OnOk result (Appends answer.old answer.new (meant.upper_text uses.now pid place branches.now)) }
 {
     let before = branch(branches.last_upper);
     write!(answer, "{before}upper table {place}: ")?;
@@ -309,7 +312,7 @@ fn show_lower(
     branches: &Branches,
     answer: &mut String,
 ) -> Result<(), AllocError>
-    ensures { OnOk result (string_bytes answer.new ≡ string_bytes answer.old ++ meant.lower_text uses.now pid place branches.now) }
+    ensures { OnOk result (Appends answer.old answer.new (meant.lower_text uses.now pid place branches.now)) }
 {
     let above = below(branches.last_upper);
     let before = branch(branches.last_lower);
@@ -326,7 +329,8 @@ fn show_without(
     answer: &mut String,
 ) -> Result<(), AllocError>
     requires { run.now.first + run.now.count ≤ VPN_END }
-    ensures { OnOk result (string_bytes answer.new ≡ string_bytes answer.old ++ meant.without_text machine.now.frames pid run.now branches.now) }
+    ensures { OnOk result
+        (Appends answer.old answer.new (meant.without_text machine.now.frames pid run.now branches.now)) }
 {
     let above = below(branches.last_upper);
     let before = branch(branches.last_lower);
@@ -343,7 +347,8 @@ fn show_below(
     answer: &mut String,
 ) -> Result<(), AllocError>
     requires { run.now.first + run.now.count ≤ VPN_END }
-    ensures { OnOk result (string_bytes answer.new ≡ string_bytes answer.old ++ meant.below_text machine.now.frames pid run.now branches.now) }
+    ensures { OnOk result
+        (Appends answer.old answer.new (meant.below_text machine.now.frames pid run.now branches.now)) }
 {
     let above = below(branches.last_upper);
     let beside = below(branches.last_lower);
@@ -360,7 +365,10 @@ fn show_lower_begun(
     branches: &Branches,
     answer: &mut String,
 ) -> Result<(), AllocError>
-    ensures { OnOk result (string_bytes answer.new ≡ string_bytes answer.old ++ meant.if_begins branches.now.begins_lower (meant.lower_text uses.now pid (run.now.first / 512) branches.now)) }
+    ensures { OnOk result
+        (Appends answer.old answer.new
+        (meant.if_begins branches.now.begins_lower
+        (meant.lower_text uses.now pid (run.now.first / 512) branches.now))) }
 {
     if !branches.begins_lower {
         return Ok(());
@@ -376,7 +384,10 @@ fn show_upper_begun(
     branches: &Branches,
     answer: &mut String,
 ) -> Result<(), AllocError>
-    ensures { OnOk result (string_bytes answer.new ≡ string_bytes answer.old ++ meant.if_begins branches.now.begins_upper (meant.upper_text uses.now pid (run.now.first / 512 / 512) branches.now)) }
+    ensures { OnOk result
+        (Appends answer.old answer.new
+        (meant.if_begins branches.now.begins_upper
+        (meant.upper_text uses.now pid (run.now.first / 512 / 512) branches.now))) }
 {
     if !branches.begins_upper {
         return Ok(());
@@ -394,7 +405,9 @@ fn show_in_table(
     answer: &mut String,
 ) -> Result<(), AllocError>
     requires { run.now.first + run.now.count ≤ VPN_END }
-    ensures { OnOk result (string_bytes answer.new ≡ string_bytes answer.old ++ meant.in_table_text machine.now.frames uses.now pid run.now branches.now) }
+    ensures { OnOk result
+        (Appends answer.old answer.new
+        (meant.in_table_text machine.now.frames uses.now pid run.now branches.now)) }
 {
     show_lower_begun(uses, pid, run, branches, answer)?;
     show_below(machine, pid, run, branches, answer)
@@ -410,7 +423,9 @@ fn show_leaf(
     answer: &mut String,
 ) -> Result<(), AllocError>
     requires { run.now.first + run.now.count ≤ VPN_END }
-    ensures { OnOk result (string_bytes answer.new ≡ string_bytes answer.old ++ meant.leaf_text machine.now.frames uses.now pid run.now branches.now run.now.kind) }
+    ensures { OnOk result
+        (Appends answer.old answer.new
+        (meant.leaf_text machine.now.frames uses.now pid run.now branches.now run.now.kind)) }
 {
     match run.kind {
         Kind::NoTable => show_without(machine, pid, run, branches, answer),
@@ -428,7 +443,9 @@ fn show_run(
     answer: &mut String,
 ) -> Result<(), AllocError>
     requires { run.now.first + run.now.count ≤ VPN_END }
-    ensures { OnOk result (string_bytes answer.new ≡ string_bytes answer.old ++ meant.run_text machine.now.frames uses.now pid run.now branches.now) }
+    ensures { OnOk result
+        (Appends answer.old answer.new
+        (meant.run_text machine.now.frames uses.now pid run.now branches.now)) }
 {
     show_upper_begun(uses, pid, run, branches, answer)?;
     show_leaf(machine, uses, pid, run, branches, answer)
@@ -443,7 +460,8 @@ fn show_runs(
     answer: &mut String,
 ) -> Result<(), AllocError>
     requires { All (λ run. run.first + run.count ≤ VPN_END) runs.now }
-    ensures { OnOk result (string_bytes answer.new ≡ string_bytes answer.old ++ meant.runs_text machine.now.frames uses.now pid [] runs.now) }
+    ensures { OnOk result
+        (Appends answer.old answer.new (meant.runs_text machine.now.frames uses.now pid [] runs.now)) }
 {
     for place in 0..runs.len() {
         let run = runs[place];
@@ -466,7 +484,7 @@ fn behind_runs(from: u32, runs: &[PageRun]) -> u32
 
 /// Writes where the pages go on, if there are more.
 fn show_more(behind: u32, end: u32, answer: &mut String) -> Result<(), AllocError>
-    ensures { OnOk result (string_bytes answer.new ≡ string_bytes answer.old ++ meant.go_on_text behind end) }
+    ensures { OnOk result (Appends answer.old answer.new (meant.go_on_text behind end)) }
 {
     if behind >= end {
         return Ok(());
@@ -483,7 +501,7 @@ fn show_size(
     pages: u32,
     answer: &mut String,
 ) -> Result<(), AllocError>
-    ensures { OnOk result (string_bytes answer.new ≡ string_bytes answer.old ++ meant.size_text pid (name_in session.now pid) size pages) }
+    ensures { OnOk result (Appends answer.old answer.new (meant.size_text pid (name_in session.now pid) size pages)) }
 {
     let owner = pid.number();
     let name = Named(program_name(session, pid));
@@ -502,7 +520,9 @@ fn show_tree(
     answer: &mut String,
 ) -> Result<(), AllocError>
     requires { end ≤ VPN_END }
-    ensures { OnOk result (Writes (string_bytes answer.old) (string_bytes answer.new) (meant.IsTreeText machine.now uses.now pid begin end)) }
+    ensures { OnOk result
+        (Writes (string_bytes answer.old) (string_bytes answer.new)
+        (meant.IsTreeText machine.now uses.now pid begin end)) }
 {
     show_root(uses, pid, answer)?;
     let list = runs_of(machine, uses, pid, begin, end);
@@ -522,7 +542,9 @@ fn show_from(
     answer: &mut String,
 ) -> Result<(), AllocError>
     requires { end ≤ VPN_END }
-    ensures { OnOk result (Writes (string_bytes answer.old) (string_bytes answer.new) (meant.ArePagesFrom session.now pid begin end size)) }
+    ensures { OnOk result
+        (Writes (string_bytes answer.old) (string_bytes answer.new)
+        (meant.ArePagesFrom session.now pid begin end size)) }
 {
     let machine = session.machine();
     show_size(session, pid, size, end, answer)?;
@@ -558,7 +580,9 @@ pub fn show_pages(
     from: u64,
     answer: &mut String,
 ) -> Result<(), AllocError>
-    ensures { OnOk result (Writes (string_bytes answer.old) (string_bytes answer.new) (meant.IsPagesText session.now pid from)) }
+    ensures { OnOk result
+        (Writes (string_bytes answer.old) (string_bytes answer.new)
+        (meant.IsPagesText session.now pid from)) }
 {
     let Some(size) = session.machine().size(pid) else {
         return show_none(pid, answer);

@@ -1,7 +1,9 @@
 //! The registers of a process.
-ghost use Rattle.std.specs.Prelude.{◌≡◌, ◌++◌, ◌<◌, OnOk, string_bytes};
-ghost use Rattle.debug_views.specs.RegisterText.{first_registers, gap_before, register_text, registers_shown, registers_text};
+ghost use Rattle.std.specs.Prelude.{◌≡◌, ◌<◌, OnOk};
+ghost use Rattle.debug_views.specs.RegisterText.{first_registers, gap_before, register_text};
+ghost use Rattle.debug_views.specs.RegisterText.{registers_shown, registers_text};
 ghost use Rattle.debug_views.specs.Focus.{name_in};
+ghost use Rattle.debug_views.specs.Written.{Appends};
 
 use crate::focus::{program_name, show_none};
 use debug_words::texts::{Hexadecimal, Named};
@@ -21,7 +23,7 @@ fn gap_before(number: u8) -> &'static str
 /// Writes a register, behind what stands before it.
 fn show_register(regs: &Regs, number: u8, answer: &mut String) -> Result<(), AllocError>
     requires { number < 32 }
-    ensures { OnOk result (string_bytes answer.new ≡ string_bytes answer.old ++ register_text regs.now number) }
+    ensures { OnOk result (Appends answer.old answer.new (register_text regs.now number)) }
 {
     let gap = gap_before(number);
     let register = Reg::new(number);
@@ -33,7 +35,7 @@ fn show_register(regs: &Regs, number: u8, answer: &mut String) -> Result<(), All
 /// Writes x1 to x31.
 #[tactic(auto, unfolding(crate::specs::RegisterText::first_registers))]
 fn show_all(regs: &Regs, answer: &mut String) -> Result<(), AllocError>
-    ensures { OnOk result (string_bytes answer.new ≡ string_bytes answer.old ++ first_registers regs.now 31) }
+    ensures { OnOk result (Appends answer.old answer.new (first_registers regs.now 31)) }
 {
     for place in 0..31_u8 {
         show_register(regs, place + 1, answer)?;
@@ -48,7 +50,7 @@ fn show_known(
     regs: &Regs,
     answer: &mut String,
 ) -> Result<(), AllocError>
-    ensures { OnOk result (string_bytes answer.new ≡ string_bytes answer.old ++ registers_text pid (name_in session.now pid) regs.now) }
+    ensures { OnOk result (Appends answer.old answer.new (registers_text pid (name_in session.now pid) regs.now)) }
 {
     let number = pid.number();
     let name = Named(program_name(session, pid));
@@ -65,7 +67,7 @@ fn show_known(
 ///
 /// The host has too little memory.
 pub fn show_registers(session: &Session, pid: Pid, answer: &mut String) -> Result<(), AllocError>
-    ensures { OnOk result (string_bytes answer.new ≡ string_bytes answer.old ++ registers_shown session.now pid) }
+    ensures { OnOk result (Appends answer.old answer.new (registers_shown session.now pid)) }
 {
     match session.machine().registers(pid) {
         Some(regs) => show_known(session, pid, &regs, answer),

@@ -1,4 +1,3 @@
 pub mod Fitting
 pub mod Flags
-pub mod Numbers
 pub mod Walks

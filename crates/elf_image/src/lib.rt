@@ -19,13 +19,12 @@ ghost use Rattle.std.specs.Prelude.{◌≡◌, length, IfOk, IsTrue, ◌≤◌};
 ghost use Rattle.xk_base.specs.ProgramFile.{is_elf, header_of, segments_of, Fit};
 
 mod iter;
-mod number;
 mod program_header;
 
 pub use iter::Segments;
-use number::{u16_at, u64_at};
 use program_header::{is_loaded, tested_header};
 use xk_base::ExecError;
+use xk_base::file_number::{u16_at, u64_at};
 pub use xk_base::{Header, Segment};
 
 /// Bytes of a file header (ELF-64 Object File Format, "ELF Header": `Elf64_Ehdr`).

@@ -5,7 +5,7 @@ ghost use Rattle.std.specs.Prelude.{OnSome, IfSome, Some, None, if◌then◌else
 ghost use Rattle.xk_base.specs.ProgramFile.{page_up, program_header, program_header_at, segment};
 ghost use Rattle.xk_base.specs.ProgramFile.{is_loaded, is_misplaced, is_bad, is_refused_after};
 
-use crate::number::{u32_at, u64_at};
+use xk_base::file_number::{u32_at, u64_at};
 use xk_base::limits::{PAGE_BYTES, SIZE_LIMIT};
 use xk_base::{Header, Perm, ProgramHeader, Rights, Segment};
 

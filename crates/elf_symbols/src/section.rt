@@ -2,7 +2,7 @@
 ghost use Rattle.std.specs.Prelude.{◌≡◌, ◌≤◌, ◌+◌, ◌*◌, length};
 ghost use Rattle.elf_symbols.specs.Symbols as meant;
 
-use crate::number::{u32_at, u64_at};
+use xk_base::file_number::{u32_at, u64_at};
 
 /// Bytes of a section header.
 const SECTION_HEADER_BYTES: usize = 64;

@@ -1,9 +1,10 @@
 //! Symbols and their names (ELF-64 Object File Format, "Symbol Table": `Elf64_Sym`, and "String Table").
-ghost use Rattle.std.specs.Prelude.{◌≡◌, ◌≤◌, ◌+◌, ◌*◌, ◌<◌, ◌==◌, length, position, option_map, IfSome};
+ghost use Rattle.std.specs.Prelude.{◌≡◌, ◌≤◌, ◌+◌, ◌*◌, ◌<◌};
+ghost use Rattle.std.specs.Prelude.{◌==◌, length, position, option_map, IfSome};
 ghost use Rattle.elf_symbols.specs.Symbols as meant;
 
-use crate::number::{u32_at, u64_at};
 use crate::section::Section;
+use xk_base::file_number::{u32_at, u64_at};
 
 /// Bytes of a symbol.
 const SYMBOL_BYTES: usize = 24;

@@ -1,11 +1,12 @@
 //! From an address to the name of its function.
-ghost use Rattle.std.specs.Prelude.{◌≡◌, ◌≤◌, ◌+◌, ◌*◌, length, true, false, option_map, MatchOption, IsTrue};
+ghost use Rattle.std.specs.Prelude.{◌≡◌, ◌≤◌, ◌+◌, ◌*◌, length};
+ghost use Rattle.std.specs.Prelude.{true, false, option_map, MatchOption, IsTrue};
 ghost use Rattle.xk_base.specs.ProgramFile.{is_elf as elf};
 ghost use Rattle.elf_symbols.specs.Symbols as meant;
 
-use crate::number::{u16_at, u64_at};
 use crate::section::{STRING_TABLE, Section, read_section, symbol_table};
 use crate::symbol::{first_function, name_at};
+use xk_base::file_number::{u16_at, u64_at};
 
 /// Bytes of a file header (ELF-64 Object File Format, "ELF Header": `Elf64_Ehdr`).
 const FILE_HEADER_BYTES: usize = 64;
@@ -37,7 +38,9 @@ fn is_elf(file: &[u8]) -> bool
 
 /// The section headers of a file, if they are wholly in it.
 fn read_headers(file: &[u8]) -> Option<Headers>
-    ensures { MatchOption result (meant.has_sections file.now ≡ false) (λ h. (meant.has_sections file.now ≡ true) × (h.place ≡ meant.sections_place file.now) × (h.count ≡ meant.section_count file.now)) }
+    ensures { MatchOption result (meant.has_sections file.now ≡ false) (λ h.
+        (meant.has_sections file.now ≡ true) × (h.place ≡ meant.sections_place file.now)
+        × (h.count ≡ meant.section_count file.now)) }
 {
     if !is_elf(file) {
         return None;

@@ -26,9 +26,9 @@ pub enum Order {
 
 // The place of the first note from a place on that the pattern fits.
 fn first_from(pattern: &Pattern, notes: &[Note], start: usize) -> Option<usize>
-    ensures { MatchOption result
-        ((k : ℕ) → start ≤ k → ¬ (StandsAt pattern.now notes.now k))
-        (λ place. (start ≤ place) × StandsAt pattern.now notes.now place × ((k : ℕ) → start ≤ k → k < place → ¬ (StandsAt pattern.now notes.now k))) }
+    ensures { MatchOption result ((k : ℕ) → start ≤ k → ¬ (StandsAt pattern.now notes.now k)) (λ place.
+        (start ≤ place) × StandsAt pattern.now notes.now place
+        × ((k : ℕ) → start ≤ k → k < place → ¬ (StandsAt pattern.now notes.now k))) }
 {
     for (place, note) in notes.iter().enumerate() {
         if start <= place && pattern.fits(*note) {

@@ -10,9 +10,9 @@ use crate::pattern::{Pattern, fits_any};
 /// Among the notes that one of the patterns `of` fits, the place of the first that `wanted` doesn't have there, the
 /// notes' number if too few are there; `None` if they are as `wanted` says, one by one.
 pub fn first_other(of: &[Pattern], wanted: &[Pattern], notes: &[Note]) -> Option<usize>
-    ensures { MatchOption result
-        (are_these wanted.now (filter (fits_one_of of.now) notes.now) ≡ true)
-        (λ place. (are_these wanted.now (filter (fits_one_of of.now) notes.now) ≡ false) × IsOther of.now wanted.now notes.now place) }
+    ensures { MatchOption result (are_these wanted.now (filter (fits_one_of of.now) notes.now) ≡ true)
+        (λ place. (are_these wanted.now (filter (fits_one_of of.now) notes.now) ≡ false)
+        × IsOther of.now wanted.now notes.now place) }
 {
     let mut done: usize = 0;
     for (place, note) in notes.iter().enumerate() {

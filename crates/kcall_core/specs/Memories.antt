@@ -3,6 +3,7 @@ use Rattle.std.specs.Prelude.{◌≡◌, ◌≢◌, ℕ, zero, suc, ◌+◌, ◌
 use Rattle.std.specs.Ordering.{nat_cmp}
 use Rattle.std.specs.FinMap.{FinMap, get}
 use Rattle.xk_base.specs.Frames.{copies}
+use Rattle.xk_base.specs.Image.{Image}
 use Rattle.xk_base.specs.Gathered.{gathered}
 use Rattle.xk_base.specs.declared.limits.TheConstants.{NPROC, FRAMES_MAX}
 use Rattle.frame_list.specs.declared.Pool.{Pool}
@@ -119,6 +120,14 @@ pub record SlotChanges (old new : Memories) (slot : ℕ) (after : Option Held) :
   pub free : free_of new + held_cost after ≡ free_of old + held_cost (get_or (each_of old) slot None)
   pub frames : length new.ram ≡ length old.ram
   pub runs : (other : ℕ) (hart : Hart) → other ≢ slot → RunsIn old other hart → RunsIn new other hart
+
+-- the image of the process in a slot
+abbrev pub image_at : Memories → (slot : ℕ) → Image
+image_at m slot = (held_at (each_of m) slot).image
+
+-- the image in a slot is another, and the registers in its trapframe stay
+abbrev pub ImageChanges : (old new : Memories) → (slot : ℕ) → Image → Type 0
+ImageChanges old new slot image = SlotChanges old new slot (Some (with_image image (held_at (each_of old) slot)))
 
 -- the pipe that a frame keeps is another, or it keeps none: all memories, all other pipes and each hart stay, no frame is lost
 pub record PipeChanges (old new : Memories) (f : ℕ) (after : Option Pipe) : Type 0 where

@@ -19,7 +19,8 @@ ghost use Rattle.kernel_spec.specs.runs.Run.{Turn, TurnTaken};
 ghost use Rattle.kernel_spec.specs.waking.Wakes.{IsRunnable, IsNearest};
 ghost use Rattle.kcall_core.specs.Holdings.{HasMemory};
 ghost use Rattle.kcall_core.specs.Memories.{each_of, RunsIn};
-ghost use Rattle.kcall_core.specs.Kernel.{frame_count, IsStopped, state_of, IsSound, IsRunning, slot_now, pid_now, live_now};
+ghost use Rattle.kcall_core.specs.Kernel.{frame_count, IsStopped, state_of, IsSound};
+ghost use Rattle.kcall_core.specs.Kernel.{IsRunning, slot_now, pid_now, live_now};
 ghost use Rattle.kcall_core.specs.Machine.{world_of};
 ghost use Rattle.kcall_core.specs.Starts.{HasNoProcess};
 ghost use Rattle.kcall_core.specs.Whole.{IsWhole};
@@ -83,7 +84,8 @@ impl Kernel {
         requires running { IsRunning self.old }
         requires between_calls { laws.IsBetweenCalls (live_now self.old hart.old) }
         ensures stop { result ≡ stop_now self.old hart.old }
-        ensures done { result ≡ stops.Next → Makes self.old hart.old (own (view_now self.old hart.old)) self.new hart.new }
+        ensures done { result ≡ stops.Next
+            → Makes self.old hart.old (own (view_now self.old hart.old)) self.new hart.new }
         ensures stays { result ≢ stops.Next → Stays self.old hart.old self.new hart.new }
         ensures same { result ≢ stops.Next → StillRuns self.old hart.old self.new hart.new }
     {
@@ -195,7 +197,10 @@ impl Kernel {
         ensures table { self.new.table ≡ changed_at (slot_now self.old) (ended status) self.old.table }
         ensures files { self.new.files ≡ self.old.files }
         ensures frames { frame_count self.new ≡ frame_count self.old }
-        ensures state { let live = live_now self.old hart.old in state_of self.new hart.new ≡ give_frames (price live.image + 1) (end_process (pid_now self.old) live.parent status (state_of self.old hart.old)) }
+        ensures state { let live = live_now self.old hart.old in
+            state_of self.new hart.new
+            ≡ give_frames (price live.image + 1)
+            (end_process (pid_now self.old) live.parent status (state_of self.old hart.old)) }
     {
         let slot = self.running_slot();
         hart.leave();
@@ -223,13 +228,17 @@ impl Kernel {
         requires whole { IsWhole self.old hart.old }
         requires stopped { IsStopped self.old }
         ensures whole { IsWhole self.new hart.new }
-        ensures turn { IfSome result (λ pid. TurnTaken (world_of self.old hart.old None) (Turn pid) (world_of self.new hart.new None)) }
-        ensures nearest { IfSome result (λ pid. IsRunnable (world_of self.old hart.old None) pid × IsNearest (world_of self.old hart.old None) pid) }
+        ensures turn { IfSome result (λ pid.
+            TurnTaken (world_of self.old hart.old None) (Turn pid) (world_of self.new hart.new None)) }
+        ensures nearest { IfSome result (λ pid.
+            IsRunnable (world_of self.old hart.old None) pid
+            × IsNearest (world_of self.old hart.old None) pid) }
         ensures idle { IfNone result ((p : ℕ) → ¬ IsRunnable (world_of self.old hart.old None) p) }
         ensures stays { IfNone result (world_of self.new hart.new None ≡ world_of self.old hart.old None) }
         ensures nobody { HasNoProcess self.old → IfNone result (HasNoProcess self.new) }
         ensures frames { frame_count self.new ≡ frame_count self.old }
-        ensures kept { (slot : ℕ) → self.new.current ≡ Some slot → RunsIn self.old.memories slot hart.old → hart.new.cache ≡ hart.old.cache }
+        ensures kept { (slot : ℕ) → self.new.current ≡ Some slot
+            → RunsIn self.old.memories slot hart.old → hart.new.cache ≡ hart.old.cache }
     {
         let slot = self.table.next_turn()?;
         self.enter(hart, slot);

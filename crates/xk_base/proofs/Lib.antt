@@ -6,5 +6,6 @@ pub mod Laid
 pub mod Least
 mod LoadedRows
 pub mod Maps
+pub mod Numbers
 pub mod Options
 pub mod Words

@@ -8,6 +8,7 @@
 mod access;
 mod descriptor;
 mod errors;
+pub mod file_number;
 pub mod limits;
 mod page;
 mod process_id;

@@ -4,7 +4,8 @@ ghost use Rattle.kernel_spec.specs.runs.First.{first};
 ghost use Rattle.kernel_spec.specs.views.State.{named_file};
 ghost use Rattle.xv_machine.specs.Boots.{Boots};
 ghost use Rattle.xv_session.specs.Answers.{machine_of, IsNew};
-ghost use Rattle.xv_page.specs.Booting.{boxed, files_of, held, boot_told, refusal, exec_refusal, AddedTo, IsBoxed, IsBooted};
+ghost use Rattle.xv_page.specs.Booting.{boxed, files_of, held, boot_told, refusal};
+ghost use Rattle.xv_page.specs.Booting.{exec_refusal, AddedTo, IsBoxed, IsBooted};
 
 use crate::answers::Answer;
 use std::alloc::{AllocError, Global};
@@ -110,7 +111,8 @@ pub fn xv_page_add(
     name: &[u8],
     bytes: &[u8],
 ) -> Answer
-    ensures { AddedTo (record { name = name.now; bytes = bytes.now }) result (files_of programs.old) (files_of programs.new) }
+    ensures { AddedTo (record { name = name.now; bytes = bytes.now }) result (files_of programs.old)
+        (files_of programs.new) }
 {
     match program(alloc, name, bytes) {
         Ok(program) => put(alloc, programs, program),
@@ -141,7 +143,8 @@ fn in_box(alloc: Global, session: Session) -> Result<Box<Session>, BootError>
 
 /// A session of a machine that was just booted, in a box of its own.
 fn booted(alloc: Global, config: Config, programs: Vec<Program>) -> Result<Box<Session>, BootError>
-    ensures boots { Boots config.frames (machine_of (boxed result)) (first config.frames config.trace (map named_file programs.items)) }
+    ensures boots { Boots config.frames (machine_of (boxed result))
+        (first config.frames config.trace (map named_file programs.items)) }
     ensures fresh { IfOk result (λ b. IsNew config.frames config.trace (map named_file programs.items) b.value) }
 {
     match Session::boot(alloc, config, programs) {

@@ -1,7 +1,9 @@
 //! Numbers of the host as names of the machine's parts. A number that names nothing is none, and never a default.
 ghost use Rattle.std.specs.Prelude.{◌≡◌, ◌<◌, IfSome, option_map};
 ghost use Rattle.xv_machine.specs.Events.{event_of};
-ghost use Rattle.xv_page.specs.Named.{pid_named, page_named, descriptor_named, frame_named, register_named, slot_named, list_named, key_named, event_named, call_named, condition_named};
+ghost use Rattle.xv_page.specs.Named.{pid_named, page_named, descriptor_named, frame_named};
+ghost use Rattle.xv_page.specs.Named.{register_named, slot_named, list_named, key_named};
+ghost use Rattle.xv_page.specs.Named.{event_named, call_named, condition_named};
 
 use xk_base::limits::{FRAMES_MAX, NOFILE, NPROC, PID_MAX, VPN_END};
 use xk_base::{Fd, Frame, Pid, Vpn};

@@ -10,8 +10,10 @@ ghost use Rattle.xv_session.specs.Looking.{next_step_of};
 ghost use Rattle.xv_machine.specs.FrameUses.{page_frame_at};
 ghost use Rattle.xv_session.specs.Names.{place_in};
 ghost use Rattle.xv_page.specs.Booting.{held};
-ghost use Rattle.xv_page.specs.Named.{pid_named, page_named, descriptor_named, frame_named, register_named, slot_named, list_named, both};
-ghost use Rattle.xv_page.specs.Told.{facts_of, word_told, process_told, descriptor_told, pipe_told, rights_told, register_in, address_in};
+ghost use Rattle.xv_page.specs.Named.{pid_named, page_named, descriptor_named, frame_named};
+ghost use Rattle.xv_page.specs.Named.{register_named, slot_named, list_named, both};
+ghost use Rattle.xv_page.specs.Told.{facts_of, word_told, process_told, descriptor_told};
+ghost use Rattle.xv_page.specs.Told.{pipe_told, rights_told, register_in, address_in};
 ghost use Rattle.xv_page.specs.Observed.{IsSlotTold, IsUseTold, FactsTold, NoteTold, Reads};
 
 use crate::answers::Answer;
@@ -68,7 +70,8 @@ fn slot_of(machine: &Machine, slot: usize) -> Word
 /// Tells the pid of the process in a slot of the process table, live or not.
 #[inline(never)]
 pub fn xv_page_slot(session: &Option<Box<Session>>, slot: u32, told: &mut Word) -> Answer
-    ensures { Reads (slot_named slot) (λ s slot told. IsSlotTold s.machine slot told) (held session.now) result told.old told.new }
+    ensures { Reads (slot_named slot) (λ s slot told. IsSlotTold s.machine slot told) (held session.now)
+        result told.old told.new }
 {
     let Some(session) = session else {
         return Answer::NotBooted;
@@ -83,7 +86,8 @@ pub fn xv_page_slot(session: &Option<Box<Session>>, slot: u32, told: &mut Word) 
 /// Tells what the process of this pid is.
 #[inline(never)]
 pub fn xv_page_process(session: &Option<Box<Session>>, pid: u32, told: &mut ProcessTold) -> Answer
-    ensures { Reads (pid_named pid) (λ s pid told. told ≡ process_told (process_at s.machine.world pid)) (held session.now) result told.old told.new }
+    ensures { Reads (pid_named pid) (λ s pid told. told ≡ process_told (process_at s.machine.world pid))
+        (held session.now) result told.old told.new }
 {
     let Some(session) = session else {
         return Answer::NotBooted;
@@ -98,7 +102,8 @@ pub fn xv_page_process(session: &Option<Box<Session>>, pid: u32, told: &mut Proc
 /// Tells how many bytes the memory of a live process has, from address 0 on.
 #[inline(never)]
 pub fn xv_page_size(session: &Option<Box<Session>>, pid: u32, told: &mut Word) -> Answer
-    ensures { Reads (pid_named pid) (λ s pid told. told ≡ word_told (size_of s.machine.world.state pid)) (held session.now) result told.old told.new }
+    ensures { Reads (pid_named pid) (λ s pid told. told ≡ word_told (size_of s.machine.world.state pid))
+        (held session.now) result told.old told.new }
 {
     let Some(session) = session else {
         return Answer::NotBooted;
@@ -131,7 +136,9 @@ pub fn xv_page_register(
     register: u32,
     told: &mut Word,
 ) -> Answer
-    ensures { Reads (both (pid_named pid) (register_named register)) (λ s it told. told ≡ word_told (register_in it.1 (registers_of s.machine.world.state it.0))) (held session.now) result told.old told.new }
+    ensures { Reads (both (pid_named pid) (register_named register))
+        (λ s it told. told ≡ word_told (register_in it.1 (registers_of s.machine.world.state it.0)))
+        (held session.now) result told.old told.new }
 {
     let Some(session) = session else {
         return Answer::NotBooted;
@@ -163,7 +170,9 @@ pub fn xv_page_byte(
     address: u64,
     told: &mut Word,
 ) -> Answer
-    ensures { Reads (pid_named pid) (λ s pid told. told ≡ word_told (byte_at s.machine.world.state pid address)) (held session.now) result told.old told.new }
+    ensures { Reads (pid_named pid)
+        (λ s pid told. told ≡ word_told (byte_at s.machine.world.state pid address)) (held session.now)
+        result told.old told.new }
 {
     let Some(session) = session else {
         return Answer::NotBooted;
@@ -179,7 +188,9 @@ pub fn xv_page_byte(
 /// Virtual Address Translation"): V, that it is there, then R, W, X and U. 0: it isn't there.
 #[inline(never)]
 pub fn xv_page_rights(session: &Option<Box<Session>>, pid: u32, page: u32, told: &mut u32) -> Answer
-    ensures { Reads (both (pid_named pid) (page_named page)) (λ s it told. told ≡ rights_told (rights_at s.machine.world.state it.0 it.1)) (held session.now) result told.old told.new }
+    ensures { Reads (both (pid_named pid) (page_named page))
+        (λ s it told. told ≡ rights_told (rights_at s.machine.world.state it.0 it.1)) (held session.now)
+        result told.old told.new }
 {
     let Some(session) = session else {
         return Answer::NotBooted;
@@ -202,7 +213,9 @@ pub fn xv_page_descriptor(
     fd: u32,
     told: &mut DescriptorTold,
 ) -> Answer
-    ensures { Reads (both (pid_named pid) (descriptor_named fd)) (λ s it told. told ≡ descriptor_told (descriptor_of s.machine.world.state it.0 it.1)) (held session.now) result told.old told.new }
+    ensures { Reads (both (pid_named pid) (descriptor_named fd))
+        (λ s it told. told ≡ descriptor_told (descriptor_of s.machine.world.state it.0 it.1))
+        (held session.now) result told.old told.new }
 {
     let Some(session) = session else {
         return Answer::NotBooted;
@@ -220,7 +233,9 @@ pub fn xv_page_descriptor(
 /// Tells how the pipe in a frame stands.
 #[inline(never)]
 pub fn xv_page_pipe(session: &Option<Box<Session>>, frame: u32, told: &mut PipeTold) -> Answer
-    ensures { Reads (frame_named frame) (λ s frame told. told ≡ pipe_told (pipe_counts_of s.machine.world.state frame)) (held session.now) result told.old told.new }
+    ensures { Reads (frame_named frame)
+        (λ s frame told. told ≡ pipe_told (pipe_counts_of s.machine.world.state frame))
+        (held session.now) result told.old told.new }
 {
     let Some(session) = session else {
         return Answer::NotBooted;
@@ -249,7 +264,9 @@ pub fn xv_page_pipe_byte(
     place: usize,
     told: &mut Word,
 ) -> Answer
-    ensures { Reads (frame_named frame) (λ s frame told. told ≡ word_told (pipe_byte_of s.machine.world.state frame place)) (held session.now) result told.old told.new }
+    ensures { Reads (frame_named frame)
+        (λ s frame told. told ≡ word_told (pipe_byte_of s.machine.world.state frame place))
+        (held session.now) result told.old told.new }
 {
     let Some(session) = session else {
         return Answer::NotBooted;
@@ -270,8 +287,8 @@ fn console_byte_of(machine: &Machine, list: ConsoleList, place: usize) -> Word
     }
 }
 
-/// Tells the byte at a place of one of the console's lists, of which 0 is the oldest: of list 0 what was typed and may be
-/// read, of 1 what may still be taken back, of 2 what waits to be sent.
+/// Tells the byte at a place of one of the console's lists, of which 0 is the oldest: of list 0 what was typed and may
+/// be read, of 1 what may still be taken back, of 2 what waits to be sent.
 #[inline(never)]
 pub fn xv_page_console(
     session: &Option<Box<Session>>,
@@ -279,7 +296,9 @@ pub fn xv_page_console(
     place: usize,
     told: &mut Word,
 ) -> Answer
-    ensures { Reads (list_named list) (λ s list told. told ≡ word_told (slice_get (list_of list s.machine.world.state.console) place)) (held session.now) result told.old told.new }
+    ensures { Reads (list_named list)
+        (λ s list told. told ≡ word_told (slice_get (list_of list s.machine.world.state.console) place))
+        (held session.now) result told.old told.new }
 {
     let Some(session) = session else {
         return Answer::NotBooted;
@@ -303,7 +322,9 @@ fn address_of(machine: &Machine, pid: Pid) -> Word
 /// Tells the address that the next instruction of a live process loads from or stores to.
 #[inline(never)]
 pub fn xv_page_address(session: &Option<Box<Session>>, pid: u32, told: &mut Word) -> Answer
-    ensures { Reads (pid_named pid) (λ s pid told. told ≡ word_told (address_in (next_step_of s.machine.world.state pid))) (held session.now) result told.old told.new }
+    ensures { Reads (pid_named pid)
+        (λ s pid told. told ≡ word_told (address_in (next_step_of s.machine.world.state pid)))
+        (held session.now) result told.old told.new }
 {
     let Some(session) = session else {
         return Answer::NotBooted;
@@ -342,7 +363,8 @@ fn program_of(session: &Session, pid: Pid) -> Word
 /// Tells which program a live process runs, by its place in the list that the machine was booted with.
 #[inline(never)]
 pub fn xv_page_program(session: &Option<Box<Session>>, pid: u32, told: &mut Word) -> Answer
-    ensures { Reads (pid_named pid) (λ s pid told. told ≡ word_told (place_in pid s.names)) (held session.now) result told.old told.new }
+    ensures { Reads (pid_named pid) (λ s pid told. told ≡ word_told (place_in pid s.names))
+        (held session.now) result told.old told.new }
 {
     let Some(session) = session else {
         return Answer::NotBooted;
@@ -366,7 +388,9 @@ fn frame_of(machine: &Machine, pid: Pid, page: Vpn) -> Word
 /// Tells the frame of a page of a live process.
 #[inline(never)]
 pub fn xv_page_frame(session: &Option<Box<Session>>, pid: u32, page: u32, told: &mut Word) -> Answer
-    ensures { Reads (both (pid_named pid) (page_named page)) (λ s it told. told ≡ word_told (page_frame_at s.machine.frames it.0 it.1)) (held session.now) result told.old told.new }
+    ensures { Reads (both (pid_named pid) (page_named page))
+        (λ s it told. told ≡ word_told (page_frame_at s.machine.frames it.0 it.1)) (held session.now)
+        result told.old told.new }
 {
     let Some(session) = session else {
         return Answer::NotBooted;
@@ -390,7 +414,8 @@ fn use_of(machine: &Machine, frame: Frame) -> UseTold
 /// Tells what a frame of RAM is used for.
 #[inline(never)]
 pub fn xv_page_use(session: &Option<Box<Session>>, frame: u32, told: &mut UseTold) -> Answer
-    ensures { Reads (frame_named frame) (λ s frame told. IsUseTold s.machine frame told) (held session.now) result told.old told.new }
+    ensures { Reads (frame_named frame) (λ s frame told. IsUseTold s.machine frame told)
+        (held session.now) result told.old told.new }
 {
     let Some(session) = session else {
         return Answer::NotBooted;

@@ -1,6 +1,8 @@
 //! What is told of a machine, as numbers.
 ghost use Rattle.std.specs.Prelude.{◌≡◌, Some};
-ghost use Rattle.xv_page.specs.Told.{word_told, alive, with_call, gone, number_of, process_told, no_descriptor, end_kind, on_target, descriptor_told, pipe_told, rights_told, use_of, use_told};
+ghost use Rattle.xv_page.specs.Told.{word_told, alive, with_call, gone, number_of};
+ghost use Rattle.xv_page.specs.Told.{process_told, no_descriptor, end_kind, on_target, descriptor_told};
+ghost use Rattle.xv_page.specs.Told.{pipe_told, rights_told, use_of, use_told};
 
 use xk_base::{Perm, Pid};
 use xv_machine::{Call, Descriptor, End, FrameUse, PipeCounts, ProcessState, Target};

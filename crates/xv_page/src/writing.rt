@@ -14,7 +14,8 @@ use xv_session::{Condition, Session};
 
 /// Sends an event, if the host means one.
 fn send(session: &mut Session, wanted: Option<Event>, told: &mut Told, room: &mut [u8]) -> Answer
-    ensures { EventSent (option_map event_of wanted) (told.old, room.old) (told.new, room.new) result session.old session.new }
+    ensures { EventSent (option_map event_of wanted) (told.old, room.old) (told.new, room.new) result
+        session.old session.new }
 {
     let Some(event) = wanted else {
         return Answer::Unknown;
@@ -41,7 +42,9 @@ pub fn xv_page_event(
     room: &mut [u8],
 ) -> Answer
     // What came of it is what the machine promises; it is told, and its bytes are shown.
-    ensures { OnSession ((told.new ≡ told.old) × (room.new ≡ room.old)) (EventSent (event_named kind byte) (told.old, room.old) (told.new, room.new)) result (held session.old) (held session.new) }
+    ensures { OnSession ((told.new ≡ told.old) × (room.new ≡ room.old))
+        (EventSent (event_named kind byte) (told.old, room.old) (told.new, room.new)) result
+        (held session.old) (held session.new) }
 {
     match session {
         None => Answer::NotBooted,
@@ -66,7 +69,8 @@ fn run(session: &mut Session, most: u32, told: &mut RunsTold) -> Answer
 /// it.
 #[inline(never)]
 pub fn xv_page_run(session: &mut Option<Box<Session>>, most: u32, told: &mut RunsTold) -> Answer
-    ensures { OnSession (told.new ≡ told.old) (RunSent most told.old told.new) result (held session.old) (held session.new) }
+    ensures { OnSession (told.new ≡ told.old) (RunSent most told.old told.new) result (held session.old)
+        (held session.new) }
 {
     match session {
         None => Answer::NotBooted,
@@ -108,7 +112,9 @@ pub fn xv_page_until(
     number: u64,
     told: &mut RunsTold,
 ) -> Answer
-    ensures { OnSession (told.new ≡ told.old) (Searched most (condition_named kind pid number) told.old told.new) result (held session.old) (held session.new) }
+    ensures { OnSession (told.new ≡ told.old)
+        (Searched most (condition_named kind pid number) told.old told.new) result (held session.old)
+        (held session.new) }
 {
     match session {
         None => Answer::NotBooted,

@@ -39,7 +39,8 @@ impl Kernel {
         ensures blank { IfOk result IsBlank }
         ensures sound { IfOk result (λ k. (hart : Hart) → IsIdle hart → IsSound k hart) }
         ensures whole { IfOk result (λ k. (hart : Hart) → IsIdle hart → IsWhole k hart) }
-        ensures state { IfOk result (λ k. (hart : Hart) → state_of k hart ≡ empty_state frames (map named_file programs.items)) }
+        ensures state { IfOk result (λ k.
+            (hart : Hart) → state_of k hart ≡ empty_state frames (map named_file programs.items)) }
         ensures frames { IfOk result (λ k. frame_count k ≡ frames) }
         ensures made { IfOk result (λ k. refusal frames (map named_file programs.items) ≡ None) }
         ensures refused { IfErr result (λ e. e ≡ or_memory (refusal frames (map named_file programs.items))) }

@@ -1,15 +1,17 @@
 //! The console: processes read the lines that are typed, and write the bytes that the terminal is to show; the
 //! terminal interrupts when a key was typed, or a byte may be sent (xv6's `console.c` and `uart.c`; the xv6 book,
 //! "Code: Console input" and "Code: Console output").
-ghost use Rattle.std.specs.Prelude.{◌≡◌, ℤ, ◌<◌, ◌≤◌, Some, pos, true, false, length, take, Option, None, set};
+ghost use Rattle.std.specs.Prelude.{◌≡◌, ℤ, ◌<◌, ◌≤◌, Some, pos, true};
+ghost use Rattle.std.specs.Prelude.{false, length, Option, None, set};
 ghost use Rattle.xk_base.specs.declared.limits.TheConstants.{CONSOLE_BYTES, NPROC, OPEN_FILES};
 ghost use Rattle.xk_base.specs.Bytes.{image_bytes, write_image};
 ghost use Rattle.hart_core.specs.declared.hart.Hart.{Hart};
 ghost use Rattle.console_core.specs.Lists.{IsWithinLimits};
 ghost use Rattle.kernel_spec.specs.rows.Buffers.{readable, writable_now};
 ghost use Rattle.kernel_spec.specs.rows.Calls.{read, write};
-ghost use Rattle.kcall_core.specs.Holdings.{held_at, HasMemory, with_image};
-ghost use Rattle.kcall_core.specs.Memories.{each_of, free_of, AreSound, RunsIn, SlotChanges};
+ghost use Rattle.kcall_core.specs.Holdings.{HasMemory};
+ghost use Rattle.kcall_core.specs.Memories.{each_of, free_of, AreSound, RunsIn};
+ghost use Rattle.kcall_core.specs.Memories.{image_at, ImageChanges};
 ghost use Rattle.kcall_core.specs.Kernel.{IsRunning, live_now, frame_count};
 ghost use Rattle.kcall_core.specs.Whole.{IsWhole};
 ghost use Rattle.kcall_core.specs.Makes.{Makes, view_now, answer_of};
@@ -45,7 +47,10 @@ impl Kernel {
         requires free { named_by (descriptors_at self.old.table slot) fd ≡ None }
         requires room { open_count self.old.files < OPEN_FILES }
         ensures place { lowest_place self.old.files ≡ Some result }
-        ensures table { self.new.table ≡ record self.old.table { descriptors = set self.old.table.descriptors slot (with_named fd (Some result) (descriptors_at self.old.table slot)) } }
+        ensures table { self.new.table ≡ record self.old.table {
+          descriptors = set self.old.table.descriptors slot
+              (with_named fd (Some result) (descriptors_at self.old.table slot));
+        } }
         ensures files { self.new.files ≡ with_opened result (console_file read write) self.old.files }
         ensures rest { self.new ≡ record self.old { table = self.new.table; files = self.new.files } }
     {
@@ -59,16 +64,21 @@ impl Kernel {
     fn take_line(&mut self, slot: usize, address: u64, n: usize, done: usize) -> Pull
         requires sound { AreSound self.old.memories }
         requires there { HasMemory (each_of self.old.memories) slot }
-        requires writable { writable_now (held_at (each_of self.old.memories) slot).image address n ≡ true }
+        requires writable { writable_now (image_at self.old.memories slot) address n ≡ true }
         requires keys { length self.old.console.committed ≤ CONSOLE_BYTES }
         ensures count { result.taken ≡ length (next_line self.old.console done n).taken }
         ensures ended { result.ended ≡ (next_line self.old.console done n).ended }
         ensures within { result.taken ≤ n }
-        ensures written { let held = held_at (each_of self.old.memories) slot in SlotChanges self.old.memories self.new.memories slot (Some (with_image (write_image held.image address (next_line self.old.console done n).taken) held)) }
+        ensures written { ImageChanges self.old.memories self.new.memories slot
+            (write_image (image_at self.old.memories slot) address
+            (next_line self.old.console done n).taken) }
         ensures free { free_of self.new.memories ≡ free_of self.old.memories }
         ensures runs { (hart : Hart) → RunsIn self.old.memories slot hart → RunsIn self.new.memories slot hart }
         ensures limits { IsWithinLimits self.new.console }
-        ensures rest { self.new ≡ record self.old { memories = self.new.memories; console = without_line (next_line self.old.console done n) self.old.console } }
+        ensures rest { self.new ≡ record self.old {
+          memories = self.new.memories;
+          console = without_line (next_line self.old.console done n) self.old.console;
+        } }
     {
         let mut room = [0; LINE_ROOM];
         let line = &mut room[..n.min(LINE_ROOM)];
@@ -111,10 +121,14 @@ impl Kernel {
     fn send_from(&mut self, slot: usize, address: u64, n: usize) -> usize
         requires sound { AreSound self.old.memories }
         requires there { HasMemory (each_of self.old.memories) slot }
-        requires readable { readable (held_at (each_of self.old.memories) slot).image address n ≡ true }
+        requires readable { readable (image_at self.old.memories slot) address n ≡ true }
         ensures count { result ≡ room_for self.old.console n }
         ensures limits { IsWithinLimits self.new.console }
-        ensures rest { self.new ≡ record self.old { console = with_sent (image_bytes (held_at (each_of self.old.memories) slot).image address result) self.old.console } }
+        ensures rest { self.new ≡ record self.old {
+          console = with_sent
+              (image_bytes (image_at self.old.memories slot) address result)
+              self.old.console;
+        } }
     {
         let mut room = [0; SEND_BYTES];
         let bytes = &mut room[..n.min(self.console.room())];

@@ -1,5 +1,6 @@
 //! The call exec: a process goes on with another program (xv6's `exec.c`; the xv6 book, "Code: exec").
-ghost use Rattle.std.specs.Prelude.{◌≡◌, ◌%◌, ◌<◌, ◌≤◌, false, Some, IfSome, IfNone, map, option_copied, option_map};
+ghost use Rattle.std.specs.Prelude.{◌≡◌, ◌%◌, ◌<◌, ◌≤◌, false, Some};
+ghost use Rattle.std.specs.Prelude.{IfSome, IfNone, map, option_copied, option_map};
 ghost use Rattle.xk_base.specs.Image.{price};
 ghost use Rattle.xk_base.specs.Loaded.{Loaded};
 ghost use Rattle.rv64i_core.specs.Registers.{put, with_pc};
@@ -9,9 +10,9 @@ ghost use Rattle.kernel_spec.specs.views.Programs.{program_named};
 ghost use Rattle.kernel_spec.specs.views.State.{named_file};
 ghost use Rattle.kernel_spec.specs.rows.Calls.{exec};
 ghost use Rattle.kernel_spec.specs.rows.Execs.{Asks};
-ghost use Rattle.kcall_core.specs.Holdings.{held_at, HasMemory, with_image};
+ghost use Rattle.kcall_core.specs.Holdings.{HasMemory};
 ghost use Rattle.kcall_core.specs.Memories as memory;
-ghost use Rattle.kcall_core.specs.Memories.{each_of, free_of, RunsIn, SlotChanges, Same};
+ghost use Rattle.kcall_core.specs.Memories.{each_of, free_of, RunsIn, Same, image_at, ImageChanges};
 ghost use Rattle.kcall_core.specs.Kernel.{IsRunning, live_now};
 ghost use Rattle.kcall_core.specs.Whole.{IsWhole};
 ghost use Rattle.kcall_core.specs.Makes.{Makes, view_now, answer_of};
@@ -48,7 +49,9 @@ pub(crate) fn program_named<'a>(programs: &'a [Program], name: &[u8]) -> Option<
 /// Gives a hart the registers with which a program starts. All others stay.
 fn start_program(hart: &mut Hart, start: Entry)
     requires { start.pc % 4 ≡ 0 }
-    ensures { hart.new ≡ record hart.old { regs = with_pc (put (put hart.old.regs SP start.sp) A1 start.sp) start.pc } }
+    ensures { hart.new ≡ record hart.old {
+      regs = with_pc (put (put hart.old.regs SP start.sp) A1 start.sp) start.pc;
+    } }
 {
     let regs = hart.regs_mut();
     regs.write(Reg::new(STACK_POINTER), start.sp);
@@ -69,9 +72,21 @@ fn replace_as_asked(
 ) -> Option<Entry>
     requires sound { memory.AreSound memories.old }
     requires there { HasMemory (each_of memories.old) slot }
-    ensures started { IfSome result (λ start. (l : Loaded) × Asks (map named_file programs.now) (held_at (each_of memories.old) slot).image path pointers l × (start ≡ record { pc = l.pc; sp = l.sp; argc = l.argc }) × (l.pc % 4 ≡ 0) × (price l.image ≤ free_of memories.old) × SlotChanges memories.old memories.new slot (Some (with_image l.image (held_at (each_of memories.old) slot))) × RunsIn memories.new slot hart.new) }
+    ensures started { IfSome result (λ start.
+        (l : Loaded)
+        × Asks (map named_file programs.now) (image_at memories.old slot) path pointers
+        l
+        × (start ≡ record { pc = l.pc; sp = l.sp; argc = l.argc }) × (l.pc % 4 ≡ 0)
+        × (price l.image ≤ free_of memories.old)
+        × ImageChanges memories.old memories.new slot l.image
+        × RunsIn memories.new slot hart.new) }
     ensures regs { hart.new.regs ≡ hart.old.regs }
-    ensures refused { IfNone result (((l : Loaded) → Asks (map named_file programs.now) (held_at (each_of memories.old) slot).image path pointers l → free_of memories.old < price l.image) × Same memories.old memories.new × (hart.new ≡ hart.old)) }
+    ensures refused { IfNone result
+        (((l : Loaded)
+        → Asks (map named_file programs.now) (image_at memories.old slot) path pointers
+        l
+        → free_of memories.old < price l.image)
+        × Same memories.old memories.new × (hart.new ≡ hart.old)) }
 {
     let mut name = [0; MAXPATH];
     let Ok(len) = memories.fetch_text(slot, path, &mut name) else {

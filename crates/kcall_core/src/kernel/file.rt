@@ -3,7 +3,8 @@ ghost use Rattle.std.specs.Prelude.{◌≡◌, ◌<◌, IsSome, Some, None, set}
 ghost use Rattle.xk_base.specs.declared.limits.TheConstants.{NPROC, OPEN_FILES};
 ghost use Rattle.hart_core.specs.declared.hart.Hart.{Hart};
 ghost use Rattle.file_table.specs.Named.{named_by, with_named};
-ghost use Rattle.file_table.specs.OpenFiles.{entry_at, open_file_at, lowest_place, open_count, program_file, with_opened, with_sharer};
+ghost use Rattle.file_table.specs.OpenFiles.{entry_at, open_file_at, lowest_place, open_count};
+ghost use Rattle.file_table.specs.OpenFiles.{program_file, with_opened, with_sharer};
 ghost use Rattle.file_table.specs.declared.open_file.OpenFile.{OpenFile};
 ghost use Rattle.proc_table.specs.Slots.{descriptors_at};
 ghost use Rattle.kcall_core.specs.Sharings.{Joins, MayShare};
@@ -20,7 +21,10 @@ use xk_base::limits::NOFILE;
 pub(crate) fn put_descriptor(table: &mut Table, slot: usize, fd: Fd, file: FileId)
     requires within { slot < NPROC }
     requires free { named_by (descriptors_at table.old slot) fd ≡ None }
-    ensures { table.new ≡ record table.old { descriptors = set table.old.descriptors slot (with_named fd (Some file) (descriptors_at table.old slot)) } }
+    ensures { table.new ≡ record table.old {
+      descriptors = set table.old.descriptors slot
+          (with_named fd (Some file) (descriptors_at table.old slot));
+    } }
 {
     table.descriptors_mut(slot).put(fd, file);
 }
@@ -30,7 +34,10 @@ fn take_descriptor(table: &mut Table, slot: usize, fd: Fd) -> FileId
     requires within { slot < NPROC }
     requires used { IsSome (named_by (descriptors_at table.old slot) fd) }
     ensures file { named_by (descriptors_at table.old slot) fd ≡ Some result }
-    ensures table { table.new ≡ record table.old { descriptors = set table.old.descriptors slot (with_named fd None (descriptors_at table.old slot)) } }
+    ensures table { table.new ≡ record table.old {
+      descriptors = set table.old.descriptors slot
+          (with_named fd None (descriptors_at table.old slot));
+    } }
 {
     table.descriptors_mut(slot).take(fd)
 }
@@ -43,10 +50,18 @@ impl Kernel {
         requires within { slot < NPROC }
         requires free { named_by (descriptors_at self.old.table slot) fd ≡ None }
         requires open { IsSome (entry_at self.old.files file) }
-        ensures table { self.new.table ≡ record self.old.table { descriptors = set self.old.table.descriptors slot (with_named fd (Some file) (descriptors_at self.old.table slot)) } }
+        ensures table { self.new.table ≡ record self.old.table {
+          descriptors = set self.old.table.descriptors slot
+              (with_named fd (Some file) (descriptors_at self.old.table slot));
+        } }
         ensures files { self.new.files ≡ with_sharer file self.old.files }
-        ensures memories { (x : OpenFile) → open_file_at self.old.files file ≡ Some x → Joins x.target self.old.memories self.new.memories }
-        ensures rest { self.new ≡ record self.old { table = self.new.table; files = self.new.files; memories = self.new.memories } }
+        ensures memories { (x : OpenFile) → open_file_at self.old.files file ≡ Some x
+            → Joins x.target self.old.memories self.new.memories }
+        ensures rest { self.new ≡ record self.old {
+          table = self.new.table;
+          files = self.new.files;
+          memories = self.new.memories;
+        } }
     {
         let pipe = pipe_end_of(&self.files, file);
         put_descriptor(&mut self.table, slot, fd, file);
@@ -64,7 +79,10 @@ impl Kernel {
         requires free { named_by (descriptors_at self.old.table slot) fd ≡ None }
         requires room { open_count self.old.files < OPEN_FILES }
         ensures place { lowest_place self.old.files ≡ Some result }
-        ensures table { self.new.table ≡ record self.old.table { descriptors = set self.old.table.descriptors slot (with_named fd (Some result) (descriptors_at self.old.table slot)) } }
+        ensures table { self.new.table ≡ record self.old.table {
+          descriptors = set self.old.table.descriptors slot
+              (with_named fd (Some result) (descriptors_at self.old.table slot));
+        } }
         ensures files { self.new.files ≡ with_opened result (program_file program) self.old.files }
         ensures rest { self.new ≡ record self.old { table = self.new.table; files = self.new.files } }
     {

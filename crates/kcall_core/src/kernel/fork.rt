@@ -54,9 +54,11 @@ impl Kernel {
         requires from { from < NPROC }
         requires to { to < NPROC }
         requires free { named_by (descriptors_at self.old.table to) fd ≡ None }
-        requires may { (file : ℕ) → named_by (descriptors_at self.old.table from) fd ≡ Some file → MayShare self.old file }
+        requires may { (file : ℕ) → named_by (descriptors_at self.old.table from) fd ≡ Some file
+            → MayShare self.old file }
         ensures kept { named_by (descriptors_at self.old.table from) fd ≡ None → self.new ≡ self.old }
-        ensures shared { (file : ℕ) → named_by (descriptors_at self.old.table from) fd ≡ Some file → IsShared self.old to fd file self.new }
+        ensures shared { (file : ℕ) → named_by (descriptors_at self.old.table from) fd ≡ Some file
+            → IsShared self.old to fd file self.new }
     {
         let Some(file) = self.table.descriptors(from).get(fd) else {
             return;
@@ -68,7 +70,8 @@ impl Kernel {
     fn save_child(&mut self, hart: &Hart, slot: usize)
         requires sound { memory.AreSound self.old.memories }
         requires there { HasMemory (each_of self.old.memories) slot }
-        ensures saved { SlotChanges self.old.memories self.new.memories slot (Some (with_saved (with_a0 hart.now.regs 0) (held_at (each_of self.old.memories) slot))) }
+        ensures saved { SlotChanges self.old.memories self.new.memories slot
+            (Some (with_saved (with_a0 hart.now.regs 0) (held_at (each_of self.old.memories) slot))) }
         ensures runs { (other : Hart) → RunsIn self.old.memories slot other → RunsIn self.new.memories slot other }
         ensures rest { self.new ≡ record self.old { memories = self.new.memories } }
     {
@@ -82,8 +85,10 @@ impl Kernel {
     pub(crate) fn fork(&mut self, hart: &mut Hart) -> CallEnd
         requires whole { IsWhole self.old hart.old }
         requires running { IsRunning self.old }
-        ensures made { (call : Call) → Makes self.old hart.old (fork call (view_now self.old hart.old)) self.new hart.new }
-        ensures answer { (call : Call) → (fork call (view_now self.old hart.old)).answer ≡ answer_of call.number result }
+        ensures made { (call : Call)
+            → Makes self.old hart.old (fork call (view_now self.old hart.old)) self.new hart.new }
+        ensures answer { (call : Call)
+            → (fork call (view_now self.old hart.old)).answer ≡ answer_of call.number result }
     {
         let slot = self.running_slot();
         let Some(child) = self.bear(slot) else {

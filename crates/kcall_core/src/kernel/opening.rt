@@ -10,8 +10,7 @@ ghost use Rattle.kernel_spec.specs.views.Programs.{place_of};
 ghost use Rattle.kernel_spec.specs.views.View.{Shown_terminal, Shown_file};
 ghost use Rattle.kernel_spec.specs.rows.Calls.{open_file};
 ghost use Rattle.kcall_core.specs.Opens.{asked_in, name_asked, asked, file_asked};
-ghost use Rattle.kcall_core.specs.Holdings.{held_at};
-ghost use Rattle.kcall_core.specs.Memories.{each_of};
+ghost use Rattle.kcall_core.specs.Memories.{image_at};
 ghost use Rattle.kcall_core.specs.Kernel.{IsRunning};
 ghost use Rattle.kcall_core.specs.Whole.{IsWhole};
 ghost use Rattle.kcall_core.specs.Makes.{Makes, view_now, answer_of};
@@ -88,7 +87,9 @@ impl Kernel {
     fn asked(&self, slot: usize, call: &Call) -> Option<Asked>
         requires whole { (hart : Hart) × IsWhole self.now hart }
         requires slot { self.now.current ≡ Some slot }
-        ensures { result ≡ asked (map named_file self.now.programs.items) (held_at (each_of self.now.memories) slot).image call.now }
+        ensures { result
+            ≡ asked (map named_file self.now.programs.items)
+            (image_at self.now.memories slot) call.now }
     {
         let mut text = [0; MAXPATH];
         let Ok(len) = self.memories.fetch_text(slot, call.a0, &mut text) else {
@@ -107,7 +108,10 @@ impl Kernel {
         requires free { named_by (descriptors_at self.old.table slot) fd ≡ None }
         requires room { open_count self.old.files < OPEN_FILES }
         ensures place { lowest_place self.old.files ≡ Some result }
-        ensures table { self.new.table ≡ record self.old.table { descriptors = set self.old.table.descriptors slot (with_named fd (Some result) (descriptors_at self.old.table slot)) } }
+        ensures table { self.new.table ≡ record self.old.table {
+          descriptors = set self.old.table.descriptors slot
+              (with_named fd (Some result) (descriptors_at self.old.table slot));
+        } }
         ensures files { self.new.files ≡ with_opened result (file_asked asked.now) self.old.files }
         ensures rest { self.new ≡ record self.old { table = self.new.table; files = self.new.files } }
     {

@@ -39,7 +39,8 @@ impl Kernel {
         requires between_calls { laws.IsBetweenCalls (live_now self.old hart.old) }
         requires faulted { HasFaulted cause self.old hart.old }
         ensures stop { result ≡ stop_now self.old hart.old }
-        ensures done { result ≡ stops.Next → Makes self.old hart.old (own (view_now self.old hart.old)) self.new hart.new }
+        ensures done { result ≡ stops.Next
+            → Makes self.old hart.old (own (view_now self.old hart.old)) self.new hart.new }
         ensures running { result ≡ stops.Next → IsRunning self.new }
         ensures between_calls { result ≡ stops.Next → laws.IsBetweenCalls (live_now self.new hart.new) }
         ensures stays { result ≢ stops.Next → (self.new ≡ self.old) × (hart.new ≡ hart.old) }
@@ -57,10 +58,14 @@ impl Kernel {
     pub(crate) fn touch_page(&mut self, address: u64) -> bool
         requires whole { (hart : Hart) × IsWhole self.old hart }
         requires running { IsRunning self.old }
-        ensures touched { result ≡ true → (hart : Hart) → IsWhole self.old hart → IsTouched (pages_at address 1) self.old hart self.new hart }
-        ensures absent { result ≡ true → (hart : Hart) → IsWhole self.old hart → is_absent (live_now self.old hart).image (address / 4096) ≡ true }
+        ensures touched { result ≡ true → (hart : Hart) → IsWhole self.old hart
+            → IsTouched (pages_at address 1) self.old hart self.new hart }
+        ensures absent { result ≡ true → (hart : Hart) → IsWhole self.old hart
+            → is_absent (live_now self.old hart).image (address / 4096) ≡ true }
         ensures stays { result ≡ false → self.new ≡ self.old }
-        ensures refused { result ≡ false → (hart : Hart) → IsWhole self.old hart → (is_absent (live_now self.old hart).image (address / 4096) ≡ false) ⊎ (touch (pages_at address 1) (view_now self.old hart) ≡ None) }
+        ensures refused { result ≡ false → (hart : Hart) → IsWhole self.old hart
+            → (is_absent (live_now self.old hart).image (address / 4096) ≡ false)
+            ⊎ (touch (pages_at address 1) (view_now self.old hart) ≡ None) }
     {
         let slot = self.running_slot();
         let Some(vpn) = self.memories.absent_page(slot, address) else {
@@ -74,9 +79,11 @@ impl Kernel {
     pub(crate) fn ready_buffer(&mut self, slot: usize, address: u64, len: usize, spare: u32) -> bool
         requires whole { (hart : Hart) × IsWhole self.old hart }
         requires slot { self.old.current ≡ Some slot }
-        ensures ready { result ≡ true → (hart : Hart) → IsWhole self.old hart → IsReady address len spare self.old hart self.new hart }
+        ensures ready { result ≡ true → (hart : Hart) → IsWhole self.old hart
+            → IsReady address len spare self.old hart self.new hart }
         ensures stays { result ≡ false → self.new ≡ self.old }
-        ensures unready { result ≡ false → (hart : Hart) → IsWhole self.old hart → IsUnready address len spare self.old hart }
+        ensures unready { result ≡ false → (hart : Hart) → IsWhole self.old hart
+            → IsUnready address len spare self.old hart }
     {
         if self.memories.may_write(slot, address, len) {
             if self.memories.free() < spare {
@@ -92,9 +99,11 @@ impl Kernel {
     fn touch_buffer(&mut self, slot: usize, address: u64, len: usize, spare: u32) -> bool
         requires whole { (hart : Hart) × IsWhole self.old hart }
         requires slot { self.old.current ≡ Some slot }
-        ensures ready { result ≡ true → (hart : Hart) → IsWhole self.old hart → IsReady address len spare self.old hart self.new hart }
+        ensures ready { result ≡ true → (hart : Hart) → IsWhole self.old hart
+            → IsReady address len spare self.old hart self.new hart }
         ensures stays { result ≡ false → self.new ≡ self.old }
-        ensures unready { result ≡ false → (hart : Hart) → IsWhole self.old hart → IsUnready address len spare self.old hart }
+        ensures unready { result ≡ false → (hart : Hart) → IsWhole self.old hart
+            → IsUnready address len spare self.old hart }
     {
         if !self.memories.may_write_touching(slot, address, len) {
             return false;

@@ -1,5 +1,6 @@
 //! Pipes: they are made, read and written (xv6's `pipe.c`; the xv6 book, "Code: Pipes").
-ghost use Rattle.std.specs.Prelude.{◌≡◌, ◌<◌, ◌≤◌, ◌++◌, ◌&&◌, Some, pos, true, false, nat_lt, is_none, position, IsSome, IfSome, IfNone, None, cond, set};
+ghost use Rattle.std.specs.Prelude.{◌≡◌, ◌<◌, ◌≤◌, ◌++◌, ◌&&◌, Some, pos, true, false};
+ghost use Rattle.std.specs.Prelude.{nat_lt, is_none, position, IsSome, IfSome, IfNone, None, cond, set};
 ghost use Rattle.xk_base.specs.Words.{le_bytes, least_below};
 ghost use Rattle.xk_base.specs.declared.limits.TheConstants.{NOFILE, NPROC, OPEN_FILES};
 ghost use Rattle.file_table.specs.Named.{named_by, with_named};
@@ -66,8 +67,10 @@ fn pipe_end(kind: &OpenFile) -> Option<PipeEnd>
 /// The end of a pipe that the open file of this name is, if it is one.
 pub(crate) fn pipe_end_of(files: &Files, file: FileId) -> Option<PipeEnd>
     requires { IsOpen files.now file }
-    ensures found { IfSome result (λ e. (x : OpenFile) × (open_file_at files.now file ≡ Some x) × (x.target ≡ on.Pipe e.frame e.end)) }
-    ensures none { IfNone result ((x : OpenFile) × (open_file_at files.now file ≡ Some x) × (pipe_of_target x.target ≡ None)) }
+    ensures found { IfSome result (λ e.
+        (x : OpenFile) × (open_file_at files.now file ≡ Some x) × (x.target ≡ on.Pipe e.frame e.end)) }
+    ensures none { IfNone result
+        ((x : OpenFile) × (open_file_at files.now file ≡ Some x) × (pipe_of_target x.target ≡ None)) }
 {
     let kind = files.kind(file);
     pipe_end(&kind)
@@ -80,7 +83,10 @@ impl Kernel {
         requires free { named_by (descriptors_at self.old.table slot) fd ≡ None }
         requires room { open_count self.old.files < OPEN_FILES }
         ensures place { lowest_place self.old.files ≡ Some result }
-        ensures table { self.new.table ≡ record self.old.table { descriptors = set self.old.table.descriptors slot (with_named fd (Some result) (descriptors_at self.old.table slot)) } }
+        ensures table { self.new.table ≡ record self.old.table {
+          descriptors = set self.old.table.descriptors slot
+              (with_named fd (Some result) (descriptors_at self.old.table slot));
+        } }
         ensures files { self.new.files ≡ with_opened result (pipe_file frame end) self.old.files }
         ensures rest { self.new ≡ record self.old { table = self.new.table; files = self.new.files } }
     {
@@ -102,7 +108,9 @@ impl Kernel {
         requires running { IsRunning self.old }
         requires slot { self.old.current ≡ Some slot }
         requires read { position is_none (descriptors_at self.old.table slot) ≡ Some read }
-        requires write { least_below (λ d. nat_lt read d && is_none (named_by (descriptors_at self.old.table slot) d)) NOFILE ≡ Some write }
+        requires write { least_below
+            (λ d. nat_lt read d && is_none (named_by (descriptors_at self.old.table slot) d)) NOFILE
+            ≡ Some write }
         requires there { writable_now (live_now self.old hart.old).image call.now.a0 8 ≡ true }
         requires frame { 1 ≤ free_of self.old.memories }
         ensures made { Makes self.old hart.old (make_pipe call.now (view_now self.old hart.old)) self.new hart.new }
@@ -211,8 +219,13 @@ impl Kernel {
         requires sound { memory.AreSound self.old.memories }
         requires there { IsSome (get (pipes_of self.old.memories) frame) }
         requires some { 1 ≤ count_on end (pipe_named (pipes_of self.old.memories) frame) }
-        ensures pipe { let left = parted (pipe_named (pipes_of self.old.memories) frame) end 1 in PipeChanges self.old.memories self.new.memories frame (cond (is_given_up left) None (Some left)) }
-        ensures table { self.new.table ≡ each_changed (woken_by (closes_wake (pipes_of self.old.memories) (pipes_of self.new.memories))) self.old.table }
+        ensures pipe { let left = parted (pipe_named (pipes_of self.old.memories) frame) end 1 in
+            PipeChanges self.old.memories self.new.memories frame
+            (cond (is_given_up left) None (Some left)) }
+        ensures table { self.new.table
+            ≡ each_changed
+            (woken_by (closes_wake (pipes_of self.old.memories) (pipes_of self.new.memories)))
+            self.old.table }
         ensures rest { self.new ≡ record self.old { memories = self.new.memories; table = self.new.table } }
     {
         if !self.memories.leave(frame, end) {

@@ -1,7 +1,8 @@
 //! Which programs a kernel may be made with.
 ghost use Rattle.std.specs.Prelude.{◌≡◌, ◌<◌, length, map};
 ghost use Rattle.kernel_spec.specs.views.State.{named_file};
-ghost use Rattle.kernel_spec.specs.views.Programs.{has_slash_or_zero, is_bad_name, same_name, is_earlier_name, is_bad_program, first_bad};
+ghost use Rattle.kernel_spec.specs.views.Programs.{has_slash_or_zero, is_bad_name, same_name};
+ghost use Rattle.kernel_spec.specs.views.Programs.{is_earlier_name, is_bad_program, first_bad};
 
 use xk_base::Program;
 use xk_base::limits::{NAME_MAX, PROGRAM_BYTES, PROGRAMS_MAX};

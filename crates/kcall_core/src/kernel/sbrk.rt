@@ -50,8 +50,13 @@ impl Kernel {
         requires sound { IsSound self.old hart.old }
         requires running { IsRunning self.old }
         requires limit { size ≤ SIZE_LIMIT }
-        ensures resized { result ≡ true → HasImage self.old hart.old (at_size (live_now self.old hart.old).image size) self.new hart.new }
-        ensures refused { result ≡ false → let image = (live_now self.old hart.old).image in (image.size ≤ size) × IsTooDear self.old image (grown image size) × HasImage self.old hart.old image self.new hart.new }
+        ensures resized { result ≡ true
+            → HasImage self.old hart.old (at_size (live_now self.old hart.old).image size) self.new
+            hart.new }
+        ensures refused { result ≡ false
+            → let image = (live_now self.old hart.old).image in
+            (image.size ≤ size) × IsTooDear self.old image (grown image size)
+            × HasImage self.old hart.old image self.new hart.new }
     {
         let slot = self.running_slot();
         if size < self.memories.size(slot) {

@@ -1,6 +1,7 @@
 //! The first process (xv6's `userinit` of `proc.c`, and what its first program does; the xv6 book, "Code: starting
 //! xv6, the first process and system call").
-ghost use Rattle.std.specs.Prelude.{◌≡◌, ℕ, ◌+◌, ◌%◌, ◌≤◌, [], ◌∷◌, Some, None, Ok, Err, IsSome, IfOk, IfErr, map};
+ghost use Rattle.std.specs.Prelude.{◌≡◌, ℕ, ◌+◌, ◌%◌, ◌≤◌, [], ◌∷◌, Some};
+ghost use Rattle.std.specs.Prelude.{None, Ok, Err, IsSome, IfOk, IfErr, map};
 ghost use Rattle.xk_base.specs.Image.{price};
 ghost use Rattle.xk_base.specs.Loaded.{Loaded, loaded};
 ghost use Rattle.rv64i_core.specs.Registers.{fresh, put};
@@ -55,8 +56,17 @@ fn load_first(memories: &mut Memories, programs: &[Program]) -> Result<Entry, Ex
     requires sound { memory.AreSound memories.old }
     requires vacant { IsVacant (each_of memories.old) 0 }
     requires program { IsSome (init_of (map named_file programs.now)) }
-    ensures loaded { IfOk result (λ start. (l : Loaded) × (loaded (program_bytes (init_of (map named_file programs.now))) (init_name ∷ []) ≡ Ok l) × (start ≡ record { pc = l.pc; sp = l.sp; argc = l.argc }) × (l.pc % 4 ≡ 0) × (price l.image + 1 ≤ free_of memories.old) × SlotChanges memories.old memories.new 0 (Some (record { image = l.image; saved = fresh 0 }))) }
-    ensures refused { IfErr result (λ e. (within_frames (free_of memories.old) (loaded (program_bytes (init_of (map named_file programs.now))) (init_name ∷ [])) ≡ Err e) × (memories.new ≡ memories.old)) }
+    ensures loaded { IfOk result (λ start.
+        (l : Loaded)
+        × (loaded (program_bytes (init_of (map named_file programs.now))) (init_name ∷ []) ≡ Ok l)
+        × (start ≡ record { pc = l.pc; sp = l.sp; argc = l.argc }) × (l.pc % 4 ≡ 0)
+        × (price l.image + 1 ≤ free_of memories.old)
+        × SlotChanges memories.old memories.new 0 (Some (record { image = l.image; saved = fresh 0 }))) }
+    ensures refused { IfErr result (λ e.
+        (within_frames (free_of memories.old)
+        (loaded (program_bytes (init_of (map named_file programs.now))) (init_name ∷ []))
+        ≡ Err e)
+        × (memories.new ≡ memories.old)) }
 {
     let Some(program) = program_named(programs, b"init".as_slice()) else {
         unreachable!();
@@ -85,8 +95,14 @@ impl Kernel {
         requires program { IsSome (init_of (state_of self.old hart.old).programs) }
         ensures whole { IsWhole self.new hart.new }
         ensures stopped { IsStopped self.new }
-        ensures started { let s = state_of self.old hart.old in IfOk result (λ _. (l : Loaded) × (init_loaded s ≡ Ok l) × (price l.image + 1 ≤ s.free) × (world_of self.new hart.new None ≡ started_world l s)) }
-        ensures refused { let s = state_of self.old hart.old in IfErr result (λ e. (within_frames s.free (init_loaded s) ≡ Err e) × (self.new ≡ self.old) × (hart.new ≡ hart.old)) }
+        ensures started { let s = state_of self.old hart.old in
+            IfOk result (λ _.
+            (l : Loaded) × (init_loaded s ≡ Ok l) × (price l.image + 1 ≤ s.free)
+            × (world_of self.new hart.new None ≡ started_world l s)) }
+        ensures refused { let s = state_of self.old hart.old in
+            IfErr result (λ e.
+            (within_frames s.free (init_loaded s) ≡ Err e) × (self.new ≡ self.old)
+            × (hart.new ≡ hart.old)) }
         ensures frames { frame_count self.new ≡ frame_count self.old }
     {
         let start = load_first(&mut self.memories, &self.programs)?;

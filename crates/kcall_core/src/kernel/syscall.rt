@@ -2,7 +2,8 @@
 //!
 //! A call begins at its ECALL and is in progress from then on, until it is done. If it has to wait it
 //! stays in progress, and goes on by the same row of the call table when its process runs again.
-ghost use Rattle.std.specs.Prelude.{◌≡◌, ◌+◌, ◌-◌, ◌%◌, ◌^◌, pos, false, None, Some, IsSome, option_map};
+ghost use Rattle.std.specs.Prelude.{◌≡◌, ◌+◌, ◌-◌, ◌%◌, ◌^◌, pos};
+ghost use Rattle.std.specs.Prelude.{false, None, Some, IsSome, option_map};
 ghost use Rattle.rv64i_core.specs.Registers.{reg, with_pc, after};
 ghost use Rattle.rv64i_core.specs.Step.{Ecall};
 ghost use Rattle.hart_core.specs.declared.hart.Hart.{Hart};
@@ -16,7 +17,8 @@ ghost use Rattle.kernel_spec.specs.steps.Step.{own, call_in, call_begun};
 ghost use Rattle.kernel_spec.specs.steps.Cases as laws;
 ghost use Rattle.kernel_spec.specs.steps.Cases.{begun_live, begun_state};
 ghost use Rattle.kernel_spec.specs.steps.Updates.{own_state, with_answer, in_call};
-ghost use Rattle.kcall_core.specs.Kernel.{frame_count, state_of, IsSound, IsRunning, IsStopped, slot_now, pid_now, live_now};
+ghost use Rattle.kcall_core.specs.Kernel.{frame_count, state_of, IsSound, IsRunning};
+ghost use Rattle.kcall_core.specs.Kernel.{IsStopped, slot_now, pid_now, live_now};
 ghost use Rattle.kcall_core.specs.Whole.{IsWhole};
 ghost use Rattle.kcall_core.specs.Makes.{Makes, view_now, answer_of};
 ghost use Rattle.kcall_core.specs.declared.call_end.CallEnd.TheVariants.{Done, Wait};
@@ -93,7 +95,14 @@ pub fn call_number(hart: &Hart) -> i32
 
 /// The call that a process asks for: its number is in a7, its arguments in a0 to a2.
 fn asked_call(hart: &Hart, clock: u32) -> Call
-    ensures { result ≡ record { number = c_int (reg hart.now.regs A7); a0 = reg hart.now.regs A0; a1 = reg hart.now.regs A1; a2 = reg hart.now.regs A2; moved = 0; clock = clock } }
+    ensures { result ≡ record {
+      number = c_int (reg hart.now.regs A7);
+      a0 = reg hart.now.regs A0;
+      a1 = reg hart.now.regs A1;
+      a2 = reg hart.now.regs A2;
+      moved = 0;
+      clock = clock;
+    } }
 {
     let regs = hart.regs();
     Call {
@@ -134,9 +143,13 @@ impl Kernel {
         requires running { IsRunning self.old }
         ensures whole { IsWhole self.new hart.new }
         ensures call { result ≡ call_begun (view_now self.old hart.old) }
-        ensures kernel { self.new ≡ record self.old { table = changed_at (slot_now self.old) (process.in_call (Some result)) self.old.table } }
-        ensures live { live_now self.new hart.new ≡ begun_live (state_of self.old hart.old) (pid_now self.old) (live_now self.old hart.old) }
-        ensures state { state_of self.new hart.new ≡ begun_state (pid_now self.old) (live_now self.old hart.old) (state_of self.old hart.old) }
+        ensures kernel { self.new ≡ record self.old {
+          table = changed_at (slot_now self.old) (process.in_call (Some result)) self.old.table;
+        } }
+        ensures live { live_now self.new hart.new
+            ≡ begun_live (state_of self.old hart.old) (pid_now self.old) (live_now self.old hart.old) }
+        ensures state { state_of self.new hart.new
+            ≡ begun_state (pid_now self.old) (live_now self.old hart.old) (state_of self.old hart.old) }
     {
         let slot = self.running_slot();
         let call = asked_call(hart, self.clock);
@@ -151,9 +164,13 @@ impl Kernel {
         requires running { IsRunning self.old }
         ensures sound { IsSound self.new hart.new }
         ensures end { result ≡ Done value }
-        ensures kernel { self.new ≡ record self.old { table = changed_at (slot_now self.old) (process.in_call None) self.old.table } }
+        ensures kernel { self.new ≡ record self.old {
+          table = changed_at (slot_now self.old) (process.in_call None) self.old.table;
+        } }
         ensures hart { hart.new ≡ record hart.old { regs = with_a0 hart.old.regs (word value) } }
-        ensures state { state_of self.new hart.new ≡ own_state (pid_now self.old) (with_answer value (live_now self.old hart.old)) (state_of self.old hart.old) }
+        ensures state { state_of self.new hart.new
+            ≡ own_state (pid_now self.old) (with_answer value (live_now self.old hart.old))
+            (state_of self.old hart.old) }
     {
         let slot = self.running_slot();
         self.table.set_progress(slot, None);
@@ -168,10 +185,14 @@ impl Kernel {
         ensures sound { IsSound self.new hart.new }
         ensures end { result ≡ Wait }
         ensures stopped { IsStopped self.new }
-        ensures table { self.new.table ≡ changed_at (slot_now self.old) (process.asleep channel) (changed_at (slot_now self.old) (process.in_call (Some call)) self.old.table) }
+        ensures table { self.new.table
+            ≡ changed_at (slot_now self.old) (process.asleep channel)
+            (changed_at (slot_now self.old) (process.in_call (Some call)) self.old.table) }
         ensures files { self.new.files ≡ self.old.files }
         ensures frames { frame_count self.new ≡ frame_count self.old }
-        ensures state { state_of self.new hart.new ≡ own_state (pid_now self.old) (in_call call (live_now self.old hart.old)) (state_of self.old hart.old) }
+        ensures state { state_of self.new hart.new
+            ≡ own_state (pid_now self.old) (in_call call (live_now self.old hart.old))
+            (state_of self.old hart.old) }
     {
         let slot = self.running_slot();
         self.table.set_progress(slot, Some(call));
@@ -184,7 +205,8 @@ impl Kernel {
     pub(crate) fn refuse(&mut self, hart: &mut Hart) -> CallEnd
         requires whole { IsWhole self.old hart.old }
         requires running { IsRunning self.old }
-        ensures made { (call : Call) → Makes self.old hart.old (refused call (view_now self.old hart.old)) self.new hart.new }
+        ensures made { (call : Call)
+            → Makes self.old hart.old (refused call (view_now self.old hart.old)) self.new hart.new }
         ensures end { result ≡ Done minus_one }
     {
         self.done(hart, -1)
@@ -194,7 +216,8 @@ impl Kernel {
     fn getpid(&mut self, hart: &mut Hart) -> CallEnd
         requires whole { IsWhole self.old hart.old }
         requires running { IsRunning self.old }
-        ensures made { (call : Call) → Makes self.old hart.old (getpid call (view_now self.old hart.old)) self.new hart.new }
+        ensures made { (call : Call)
+            → Makes self.old hart.old (getpid call (view_now self.old hart.old)) self.new hart.new }
         ensures end { result ≡ Done (pos (pid_now self.old)) }
     {
         let slot = self.running_slot();
@@ -266,7 +289,8 @@ impl Kernel {
     pub fn in_call(&self) -> Option<i32>
         requires sound { (hart : Hart) × IsSound self.now hart }
         requires running { IsRunning self.now }
-        ensures { (hart : Hart) → result ≡ option_map (λ (call : Call). call.number) (live_now self.now hart).call }
+        ensures { (hart : Hart)
+            → result ≡ option_map (λ (call : Call). call.number) (live_now self.now hart).call }
     {
         let slot = self.running_slot();
         let call = self.table.progress(slot)?;

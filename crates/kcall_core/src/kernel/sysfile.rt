@@ -1,6 +1,8 @@
 //! The calls read, write, dup and close (xv6's `sysfile.c`; the xv6 book, "I/O and File descriptors"). Open stands
 //! in `opening.rt`, pipe in `pipe.rt`.
-ghost use Rattle.std.specs.Prelude.{◌≡◌, ℕ, ◌<◌, ◌&&◌, IsSome, IfSome, IfNone, None, is_none, nat_lt, pos, ◌≢◌, Some, true, false, take, drop, map, slice_get, length, ◌+◌};
+ghost use Rattle.std.specs.Prelude.{◌≡◌, ℕ, ◌<◌, ◌&&◌, IsSome, IfSome, IfNone};
+ghost use Rattle.std.specs.Prelude.{None, is_none, nat_lt, pos, ◌≢◌, Some, true};
+ghost use Rattle.std.specs.Prelude.{false, take, drop, map, slice_get, length, ◌+◌};
 ghost use Rattle.xk_base.specs.declared.limits.TheConstants.{NPROC, NOFILE};
 ghost use Rattle.xk_base.specs.Words.{least_below};
 ghost use Rattle.file_table.specs.Named.{named_by};
@@ -9,8 +11,7 @@ ghost use Rattle.kernel_spec.specs.rows.Calls.{close, dup, read, write, refused}
 ghost use Rattle.hart_core.specs.declared.hart.Hart.{Hart};
 ghost use Rattle.kernel_spec.specs.views.Words.{c_int};
 ghost use Rattle.proc_table.specs.Processes.{call_of};
-ghost use Rattle.kcall_core.specs.Holdings.{held_at};
-ghost use Rattle.kcall_core.specs.Memories.{each_of};
+ghost use Rattle.kcall_core.specs.Memories.{image_at};
 ghost use Rattle.kcall_core.specs.Kernel.{IsRunning, place_now, live_now};
 ghost use Rattle.kcall_core.specs.Touched.{IsReady, IsUnready};
 ghost use Rattle.kcall_core.specs.Whole.{IsWhole};
@@ -33,8 +34,10 @@ use xk_base::{Fd, Program};
 /// The descriptor of this number, if it is in use in a slot.
 pub(crate) fn used_descriptor(table: &Table, slot: usize, number: i32) -> Option<Fd>
     requires { slot < NPROC }
-    ensures used { IfSome result (λ fd. (number ≡ pos fd) × (fd < NOFILE) × IsSome (named_by (descriptors_at table.now slot) fd)) }
-    ensures unused { IfNone result ((d : ℕ) → d < NOFILE → number ≡ pos d → named_by (descriptors_at table.now slot) d ≡ None) }
+    ensures used { IfSome result (λ fd.
+        (number ≡ pos fd) × (fd < NOFILE) × IsSome (named_by (descriptors_at table.now slot) fd)) }
+    ensures unused { IfNone result
+        ((d : ℕ) → d < NOFILE → number ≡ pos d → named_by (descriptors_at table.now slot) d ≡ None) }
 {
     if number < 0 {
         return None;
@@ -61,7 +64,8 @@ fn is_free_above(table: &Table, slot: usize, low: Fd, number: usize) -> bool
 /// The lowest free descriptor of a slot above another one.
 pub(crate) fn lowest_above(table: &Table, slot: usize, low: Fd) -> Option<Fd>
     requires { slot < NPROC }
-    ensures { result ≡ least_below (λ d. nat_lt low d && is_none (named_by (descriptors_at table.now slot) d)) NOFILE }
+    ensures { result
+        ≡ least_below (λ d. nat_lt low d && is_none (named_by (descriptors_at table.now slot) d)) NOFILE }
 {
     for number in 0..NOFILE {
         if is_free_above(table, slot, low, number) {
@@ -143,7 +147,8 @@ fn allows(kind: &OpenFile, end: End) -> bool
 /// What is left of a program's file from an offset on, but at most so many bytes; no bytes if there is no
 /// such program.
 fn file_rest(programs: &[Program], program: usize, offset: u64, n: usize) -> &[u8]
-    ensures bytes { result.now ≡ take n (drop offset (program_bytes (slice_get (map named_file programs.now) program))) }
+    ensures bytes { result.now
+        ≡ take n (drop offset (program_bytes (slice_get (map named_file programs.now) program))) }
     ensures range { offset + length result.now < 18446744073709551616 }
 {
     let Some(program) = programs.get(program) else {
@@ -163,8 +168,12 @@ impl Kernel {
         requires slot { self.now.current ≡ Some slot }
         ensures size { IfSome result (λ asked. asked.count < 2147483648) }
         ensures allowed { IfSome result (λ asked. allows end asked.kind ≡ true) }
-        ensures asked { IfSome result (λ asked. (hart : Hart) → IsWhole self.now hart → IsAsked self.now hart call.now asked.file asked.kind asked.count) }
-        ensures refused { IfNone result ((hart : Hart) → IsWhole self.now hart → row_on end call.now (view_now self.now hart) ≡ refused call.now (view_now self.now hart)) }
+        ensures asked { IfSome result (λ asked.
+            (hart : Hart) → IsWhole self.now hart
+            → IsAsked self.now hart call.now asked.file asked.kind asked.count) }
+        ensures refused { IfNone result
+            ((hart : Hart) → IsWhole self.now hart
+            → row_on end call.now (view_now self.now hart) ≡ refused call.now (view_now self.now hart)) }
     {
         let Some(fd) = used_descriptor(&self.table, slot, c_int(call.a0)) else {
             return None;
@@ -192,7 +201,8 @@ impl Kernel {
         requires row { call.now.number ≡ pos 16 }
         requires size { asked.now.count < 2147483648 }
         requires writes { asked.now.kind.write ≡ true }
-        requires file { OnFile self.old hart.old call.now asked.now.file asked.now.kind (readable (live_now self.old hart.old).image call.now.a1) asked.now.count }
+        requires file { OnFile self.old hart.old call.now asked.now.file asked.now.kind
+            (readable (live_now self.old hart.old).image call.now.a1) asked.now.count }
         ensures made { Makes self.old hart.old (write call.now (view_now self.old hart.old)) self.new hart.new }
         ensures answer { (write call.now (view_now self.old hart.old)).answer ≡ answer_of call.now.number result }
     {
@@ -211,7 +221,7 @@ impl Kernel {
         requires in_call { call_of (place_now self.now) ≡ Some call.now }
         requires row { call.now.number ≡ pos 16 }
         requires asked { c_int call.now.a2 ≡ pos n }
-        ensures { result ≡ readable (held_at (each_of self.now.memories) slot).image call.now.a1 n }
+        ensures { result ≡ readable (image_at self.now.memories slot) call.now.a1 n }
     {
         if call.moved > 0 {
             return true;
@@ -259,7 +269,8 @@ impl Kernel {
         requires target { asked.now.kind.target ≡ on.Program program offset }
         requires size { asked.now.count < 2147483648 }
         requires reads { asked.now.kind.read ≡ true }
-        requires file { OnFile self.old hart.old call.now asked.now.file asked.now.kind (writable_now (live_now self.old hart.old).image call.now.a1) asked.now.count }
+        requires file { OnFile self.old hart.old call.now asked.now.file asked.now.kind
+            (writable_now (live_now self.old hart.old).image call.now.a1) asked.now.count }
         ensures made { Makes self.old hart.old (read call.now (view_now self.old hart.old)) self.new hart.new }
         ensures answer { (read call.now (view_now self.old hart.old)).answer ≡ answer_of call.now.number result }
     {
@@ -280,7 +291,8 @@ impl Kernel {
         requires row { call.now.number ≡ pos 5 }
         requires size { asked.now.count < 2147483648 }
         requires reads { asked.now.kind.read ≡ true }
-        requires file { OnFile self.old hart.old call.now asked.now.file asked.now.kind (writable_now (live_now self.old hart.old).image call.now.a1) asked.now.count }
+        requires file { OnFile self.old hart.old call.now asked.now.file asked.now.kind
+            (writable_now (live_now self.old hart.old).image call.now.a1) asked.now.count }
         ensures made { Makes self.old hart.old (read call.now (view_now self.old hart.old)) self.new hart.new }
         ensures answer { (read call.now (view_now self.old hart.old)).answer ≡ answer_of call.now.number result }
     {
@@ -293,17 +305,19 @@ impl Kernel {
         }
     }
 
-    /// Whether user code may write all `n` bytes of the buffer of a read, whose absent pages come. If the read has moved
-    /// bytes, it is so: an earlier step has tested it, and a process that waits keeps its pages.
+    /// Whether user code may write all `n` bytes of the buffer of a read, whose absent pages come. If the read has
+    /// moved bytes, it is so: an earlier step has tested it, and a process that waits keeps its pages.
     fn room_is_there(&mut self, slot: usize, call: &Call, n: usize) -> bool
         requires whole { (hart : Hart) × IsWhole self.old hart }
         requires slot { self.old.current ≡ Some slot }
         requires in_call { call_of (place_now self.old) ≡ Some call.now }
         requires row { call.now.number ≡ pos 5 }
         requires asked { c_int call.now.a2 ≡ pos n }
-        ensures ready { result ≡ true → (hart : Hart) → IsWhole self.old hart → IsReady call.now.a1 n 0 self.old hart self.new hart }
+        ensures ready { result ≡ true → (hart : Hart) → IsWhole self.old hart
+            → IsReady call.now.a1 n 0 self.old hart self.new hart }
         ensures stays { result ≡ false → self.new ≡ self.old }
-        ensures unready { result ≡ false → (hart : Hart) → IsWhole self.old hart → IsUnready call.now.a1 n 0 self.old hart }
+        ensures unready { result ≡ false → (hart : Hart) → IsWhole self.old hart
+            → IsUnready call.now.a1 n 0 self.old hart }
     {
         if call.moved > 0 {
             return true;

@@ -4,8 +4,7 @@ ghost use Rattle.hart_core.specs.declared.hart.Hart.{Hart};
 ghost use Rattle.kernel_spec.specs.rows.Buffers.{writable_now};
 ghost use Rattle.kernel_spec.specs.rows.Calls.{wait};
 ghost use Rattle.kernel_spec.specs.steps.Updates.{told_image};
-ghost use Rattle.kcall_core.specs.Holdings.{held_at};
-ghost use Rattle.kcall_core.specs.Memories.{each_of};
+ghost use Rattle.kcall_core.specs.Memories.{image_at};
 ghost use Rattle.kcall_core.specs.Kernel.{IsSound, IsRunning, HasImage, live_now};
 ghost use Rattle.kcall_core.specs.Whole.{IsWhole};
 ghost use Rattle.kcall_core.specs.Makes.{Makes, view_now, answer_of};
@@ -31,8 +30,12 @@ impl Kernel {
     fn tell(&mut self, slot: usize, address: u64, status: i32)
         requires sound { (hart : Hart) × IsSound self.old hart }
         requires current { self.old.current ≡ Some slot }
-        requires fits { (nat_eq address 0 || writable_now (held_at (each_of self.old.memories) slot).image address 4) ≡ true }
-        ensures { (hart : Hart) → IsSound self.old hart → HasImage self.old hart (told_image address status (live_now self.old hart).image) self.new hart }
+        requires fits { (nat_eq address 0
+            || writable_now (image_at self.old.memories slot) address 4)
+            ≡ true }
+        ensures { (hart : Hart) → IsSound self.old hart
+            → HasImage self.old hart (told_image address status (live_now self.old hart).image) self.new
+            hart }
     {
         if address == 0 {
             return;
@@ -51,7 +54,9 @@ impl Kernel {
         requires unmarked { (live_now self.old hart.old).killed ≡ false }
         requires in_call { (live_now self.old hart.old).call ≡ Some call.now }
         requires row { call.now.number ≡ pos 3 }
-        requires fits { (nat_eq call.now.a0 0 || writable_now (held_at (each_of self.old.memories) slot).image call.now.a0 4) ≡ true }
+        requires fits { (nat_eq call.now.a0 0
+            || writable_now (image_at self.old.memories slot) call.now.a0 4)
+            ≡ true }
         ensures made { Makes self.old hart.old (wait call.now (view_now self.old hart.old)) self.new hart.new }
         ensures answer { (wait call.now (view_now self.old hart.old)).answer ≡ answer_of call.now.number result }
     {

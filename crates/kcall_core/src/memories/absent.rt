@@ -5,8 +5,9 @@ ghost use Rattle.xk_base.specs.declared.limits.TheConstants.{SIZE_LIMIT};
 ghost use Rattle.addr_space.specs.Absent.{is_absent, bring, grown_lazily, pages_at, brought};
 ghost use Rattle.hart_core.specs.declared.hart.Hart.{Hart};
 ghost use Rattle.kernel_spec.specs.rows.Buffers.{writable};
-ghost use Rattle.kcall_core.specs.Holdings.{held_at, HasMemory, with_image};
-ghost use Rattle.kcall_core.specs.Memories.{each_of, free_of, AreSound, RunsIn, SlotChanges};
+ghost use Rattle.kcall_core.specs.Holdings.{HasMemory};
+ghost use Rattle.kcall_core.specs.Memories.{each_of, free_of, AreSound, RunsIn};
+ghost use Rattle.kcall_core.specs.Memories.{image_at, ImageChanges};
 
 use crate::memories::Memories;
 use xk_base::limits::ADDRESS_END;
@@ -17,7 +18,7 @@ impl Memories {
     pub fn may_write_touching(&self, slot: usize, address: u64, len: usize) -> bool
         requires sound { AreSound self.now }
         requires there { HasMemory (each_of self.now) slot }
-        ensures { result ≡ writable (held_at (each_of self.now) slot).image address len }
+        ensures { result ≡ writable (image_at self.now slot) address len }
     {
         let memory = self.memory(slot);
         user_copy::check_range_lazily(&memory.space, &self.ram, address, len, Access::Store).is_ok()
@@ -27,8 +28,10 @@ impl Memories {
     pub fn absent_page(&self, slot: usize, address: u64) -> Option<Vpn>
         requires sound { AreSound self.now }
         requires there { HasMemory (each_of self.now) slot }
-        ensures absent { IfSome result (λ vpn. (vpn ≡ address / 4096) × (is_absent (held_at (each_of self.now) slot).image (address / 4096) ≡ true)) }
-        ensures present { IfNone result (is_absent (held_at (each_of self.now) slot).image (address / 4096) ≡ false) }
+        ensures absent { IfSome result (λ vpn.
+            (vpn ≡ address / 4096)
+            × (is_absent (image_at self.now slot) (address / 4096) ≡ true)) }
+        ensures present { IfNone result (is_absent (image_at self.now slot) (address / 4096) ≡ false) }
     {
         let memory = self.memory(slot);
         if address >= ADDRESS_END {
@@ -48,10 +51,13 @@ impl Memories {
     pub fn bring_page(&mut self, slot: usize, vpn: Vpn) -> bool
         requires sound { AreSound self.old }
         requires there { HasMemory (each_of self.old) slot }
-        requires absent { is_absent (held_at (each_of self.old) slot).image vpn ≡ true }
-        ensures brought { result ≡ true → let held = held_at (each_of self.old) slot in SlotChanges self.old self.new slot (Some (with_image (bring vpn held.image) held)) }
+        requires absent { is_absent (image_at self.old slot) vpn ≡ true }
+        ensures brought { result ≡ true
+            → ImageChanges self.old self.new slot (bring vpn (image_at self.old slot)) }
         ensures runs { (hart : Hart) → RunsIn self.old slot hart → RunsIn self.new slot hart }
-        ensures refused { result ≡ false → let image = (held_at (each_of self.old) slot).image in (price image + free_of self.old < price (bring vpn image)) × (self.new ≡ self.old) }
+        ensures refused { result ≡ false
+            → let image = image_at self.old slot in
+            (price image + free_of self.old < price (bring vpn image)) × (self.new ≡ self.old) }
     {
         let Some(mut memory) = self.each[slot].take() else {
             unreachable!();
@@ -70,10 +76,16 @@ impl Memories {
     pub fn touch(&mut self, slot: usize, address: u64, len: usize, spare: u32) -> bool
         requires sound { AreSound self.old }
         requires there { HasMemory (each_of self.old) slot }
-        ensures touched { result ≡ true → let held = held_at (each_of self.old) slot in SlotChanges self.old self.new slot (Some (with_image (brought (pages_at address len) held.image) held)) }
+        ensures touched { result ≡ true
+            → ImageChanges self.old self.new slot (brought (pages_at address len) (image_at self.old slot)) }
         ensures runs { (hart : Hart) → RunsIn self.old slot hart → RunsIn self.new slot hart }
-        ensures fits { result ≡ true → let image = (held_at (each_of self.old) slot).image in price (brought (pages_at address len) image) + spare ≤ price image + free_of self.old }
-        ensures refused { result ≡ false → let image = (held_at (each_of self.old) slot).image in (price image + free_of self.old < price (brought (pages_at address len) image) + spare) × (self.new ≡ self.old) }
+        ensures fits { result ≡ true
+            → let image = image_at self.old slot in
+            price (brought (pages_at address len) image) + spare ≤ price image + free_of self.old }
+        ensures refused { result ≡ false
+            → let image = image_at self.old slot in
+            (price image + free_of self.old < price (brought (pages_at address len) image) + spare)
+            × (self.new ≡ self.old) }
     {
         let price = self.memory(slot).space.touch_price(&self.ram, address, len);
         if u64::from(self.pool.free()) < u64::from(price) + u64::from(spare) {
@@ -87,8 +99,10 @@ impl Memories {
     fn bring(&mut self, slot: usize, address: u64, len: usize)
         requires sound { AreSound self.old }
         requires there { HasMemory (each_of self.old) slot }
-        requires fits { let image = (held_at (each_of self.old) slot).image in price (brought (pages_at address len) image) ≤ price image + free_of self.old }
-        ensures touched { let held = held_at (each_of self.old) slot in SlotChanges self.old self.new slot (Some (with_image (brought (pages_at address len) held.image) held)) }
+        requires fits { let image = image_at self.old slot in
+            price (brought (pages_at address len) image) ≤ price image + free_of self.old }
+        ensures touched { ImageChanges self.old self.new slot
+            (brought (pages_at address len) (image_at self.old slot)) }
         ensures runs { (hart : Hart) → RunsIn self.old slot hart → RunsIn self.new slot hart }
     {
         let Some(mut memory) = self.each[slot].take() else {
@@ -108,9 +122,9 @@ impl Memories {
     pub fn grow_lazily(&mut self, slot: usize, size: u64)
         requires sound { AreSound self.old }
         requires there { HasMemory (each_of self.old) slot }
-        requires more { (held_at (each_of self.old) slot).image.size ≤ size }
+        requires more { (image_at self.old slot).size ≤ size }
         requires limit { size ≤ SIZE_LIMIT }
-        ensures grown { let held = held_at (each_of self.old) slot in SlotChanges self.old self.new slot (Some (with_image (grown_lazily held.image size) held)) }
+        ensures grown { ImageChanges self.old self.new slot (grown_lazily (image_at self.old slot) size) }
         ensures runs { (hart : Hart) → RunsIn self.old slot hart → RunsIn self.new slot hart }
     {
         let Some(mut memory) = self.each[slot].take() else {

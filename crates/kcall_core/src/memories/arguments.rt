@@ -1,11 +1,12 @@
 //! The argument texts of an exec, which the caller's memory holds.
-ghost use Rattle.std.specs.Prelude.{◌≡◌, ℕ, ◌<◌, List, [], ◌∷◌, ◌++◌, true, false, Some, Err, length};
+ghost use Rattle.std.specs.Prelude.{◌≡◌, ℕ, ◌<◌, List, [], ◌∷◌};
+ghost use Rattle.std.specs.Prelude.{◌++◌, true, false, Some, Err, length};
 ghost use Rattle.xk_base.specs.declared.limits.TheConstants.{MAXARG, ARG_BYTES};
 ghost use Rattle.xk_base.specs.declared.errors.ExecError.{ExecError};
 ghost use Rattle.exec_core.specs.ArgTexts.{terminated, push_refusal};
 ghost use Rattle.kernel_spec.specs.rows.Buffers.{text_at, texts_at};
-ghost use Rattle.kcall_core.specs.Holdings.{held_at, HasMemory};
-ghost use Rattle.kcall_core.specs.Memories.{each_of, AreSound};
+ghost use Rattle.kcall_core.specs.Holdings.{HasMemory};
+ghost use Rattle.kcall_core.specs.Memories.{each_of, AreSound, image_at};
 
 use crate::memories::Memories;
 use exec_core::ArgList;
@@ -21,8 +22,13 @@ impl Memories {
     fn fetch_arg(&self, slot: usize, address: u64, args: &mut ArgList) -> bool
         requires sound { AreSound self.now }
         requires there { HasMemory (each_of self.now) slot }
-        ensures added { result ≡ true → (text : List ℕ) × (text_at ARG_BYTES (held_at (each_of self.now) slot).image address ≡ Some text) × (args.new ≡ args.old ++ text ∷ []) }
-        ensures refused { result ≡ false → (text : List ℕ) → text_at ARG_BYTES (held_at (each_of self.now) slot).image address ≡ Some text → (refusal : ExecError) × (push_refusal args.old text ≡ Err refusal) }
+        ensures added { result ≡ true
+            → (text : List ℕ)
+            × (text_at ARG_BYTES (image_at self.now slot) address ≡ Some text)
+            × (args.new ≡ args.old ++ text ∷ []) }
+        ensures refused { result ≡ false → (text : List ℕ)
+            → text_at ARG_BYTES (image_at self.now slot) address ≡ Some text
+            → (refusal : ExecError) × (push_refusal args.old text ≡ Err refusal) }
     {
         let mut text = [0; SHORT_TEXT];
         match self.fetch_text(slot, address, &mut text) {
@@ -37,8 +43,13 @@ impl Memories {
     fn fetch_long_arg(&self, slot: usize, address: u64, args: &mut ArgList) -> bool
         requires sound { AreSound self.now }
         requires there { HasMemory (each_of self.now) slot }
-        ensures added { result ≡ true → (text : List ℕ) × (text_at ARG_BYTES (held_at (each_of self.now) slot).image address ≡ Some text) × (args.new ≡ args.old ++ text ∷ []) }
-        ensures refused { result ≡ false → (text : List ℕ) → text_at ARG_BYTES (held_at (each_of self.now) slot).image address ≡ Some text → (refusal : ExecError) × (push_refusal args.old text ≡ Err refusal) }
+        ensures added { result ≡ true
+            → (text : List ℕ)
+            × (text_at ARG_BYTES (image_at self.now slot) address ≡ Some text)
+            × (args.new ≡ args.old ++ text ∷ []) }
+        ensures refused { result ≡ false → (text : List ℕ)
+            → text_at ARG_BYTES (image_at self.now slot) address ≡ Some text
+            → (refusal : ExecError) × (push_refusal args.old text ≡ Err refusal) }
     {
         let mut text = [0; ARG_BYTES];
         match self.fetch_text(slot, address, &mut text) {
@@ -59,8 +70,12 @@ impl Memories {
         requires sound { AreSound self.now }
         requires there { HasMemory (each_of self.now) slot }
         requires empty { args.old ≡ [] }
-        ensures found { result ≡ true → texts_at MAXARG ARG_BYTES (held_at (each_of self.now) slot).image pointers ≡ Some args.new }
-        ensures refused { result ≡ false → ((texts : List (List ℕ)) → texts_at MAXARG ARG_BYTES (held_at (each_of self.now) slot).image pointers ≡ Some texts → ARG_BYTES < length (terminated texts)) }
+        ensures found { result ≡ true
+            → texts_at MAXARG ARG_BYTES (image_at self.now slot) pointers ≡ Some args.new }
+        ensures refused { result ≡ false
+            → ((texts : List (List ℕ))
+            → texts_at MAXARG ARG_BYTES (image_at self.now slot) pointers ≡ Some texts
+            → ARG_BYTES < length (terminated texts)) }
     {
         let mut at = pointers;
         let mut more = MAXARG;

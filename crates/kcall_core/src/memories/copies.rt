@@ -3,11 +3,13 @@
 //! It reads where user code may read, or may do so once the page is touched: an absent page reads as zeros, and none
 //! comes. It writes where user code may write: `readable`, `writable_now`, `text_at` and `pointer_at` of
 //! `specs/Buffers.antt`.
-ghost use Rattle.std.specs.Prelude.{◌≡◌, ◌+◌, ◌^◌, ◌<◌, ◌≤◌, true, false, length, take, drop, Some, None, IfOk, IfErr};
+ghost use Rattle.std.specs.Prelude.{◌≡◌, ◌+◌, ◌^◌, ◌<◌, ◌≤◌, true, false};
+ghost use Rattle.std.specs.Prelude.{length, take, drop, Some, None, IfOk, IfErr};
 ghost use Rattle.xk_base.specs.Bytes.{image_bytes, write_image};
 ghost use Rattle.kernel_spec.specs.rows.Buffers.{readable, writable_now, text_at, pointer_at};
-ghost use Rattle.kcall_core.specs.Holdings.{held_at, HasMemory, with_image};
-ghost use Rattle.kcall_core.specs.Memories.{each_of, free_of, AreSound, RunsIn, SlotChanges, Same};
+ghost use Rattle.kcall_core.specs.Holdings.{HasMemory};
+ghost use Rattle.kcall_core.specs.Memories.{each_of, free_of, AreSound, RunsIn, Same};
+ghost use Rattle.kcall_core.specs.Memories.{image_at, ImageChanges};
 ghost use Rattle.hart_core.specs.declared.hart.Hart.{Hart};
 
 use crate::memories::{Memories, memory_in};
@@ -18,7 +20,7 @@ impl Memories {
     pub fn may_read(&self, slot: usize, address: u64, len: usize) -> bool
         requires sound { AreSound self.now }
         requires there { HasMemory (each_of self.now) slot }
-        ensures { result ≡ readable (held_at (each_of self.now) slot).image address len }
+        ensures { result ≡ readable (image_at self.now slot) address len }
     {
         let memory = self.memory(slot);
         user_copy::check_range_lazily(&memory.space, &self.ram, address, len, Access::Load).is_ok()
@@ -28,7 +30,7 @@ impl Memories {
     pub fn may_write(&self, slot: usize, address: u64, len: usize) -> bool
         requires sound { AreSound self.now }
         requires there { HasMemory (each_of self.now) slot }
-        ensures { result ≡ writable_now (held_at (each_of self.now) slot).image address len }
+        ensures { result ≡ writable_now (image_at self.now slot) address len }
     {
         let memory = self.memory(slot);
         user_copy::check_range(&memory.space, &self.ram, address, len, Access::Store).is_ok()
@@ -39,8 +41,8 @@ impl Memories {
     pub fn read_tested(&self, slot: usize, address: u64, out: &mut [u8])
         requires sound { AreSound self.now }
         requires there { HasMemory (each_of self.now) slot }
-        requires readable { readable (held_at (each_of self.now) slot).image address (length out.old) ≡ true }
-        ensures { out.new ≡ image_bytes (held_at (each_of self.now) slot).image address (length out.old) }
+        requires readable { readable (image_at self.now slot) address (length out.old) ≡ true }
+        ensures { out.new ≡ image_bytes (image_at self.now slot) address (length out.old) }
     {
         self.memory(slot).space.read_across(&self.ram, address, out);
     }
@@ -51,8 +53,8 @@ impl Memories {
     pub fn write_tested(&mut self, slot: usize, address: u64, bytes: &[u8])
         requires sound { AreSound self.old }
         requires there { HasMemory (each_of self.old) slot }
-        requires writable { writable_now (held_at (each_of self.old) slot).image address (length bytes.now) ≡ true }
-        ensures written { let held = held_at (each_of self.old) slot in SlotChanges self.old self.new slot (Some (with_image (write_image held.image address bytes.now) held)) }
+        requires writable { writable_now (image_at self.old slot) address (length bytes.now) ≡ true }
+        ensures written { ImageChanges self.old self.new slot (write_image (image_at self.old slot) address bytes.now) }
         ensures free { free_of self.new ≡ free_of self.old }
         ensures runs { (hart : Hart) → RunsIn self.old slot hart → RunsIn self.new slot hart }
     {
@@ -67,11 +69,15 @@ impl Memories {
     pub fn copy_out(&mut self, slot: usize, address: u64, bytes: &[u8]) -> Result<(), BadAddress>
         requires sound { AreSound self.old }
         requires there { HasMemory (each_of self.old) slot }
-        ensures fine { IfOk result (λ _. writable_now (held_at (each_of self.old) slot).image address (length bytes.now) ≡ true) }
-        ensures written { IfOk result (λ _. let held = held_at (each_of self.old) slot in SlotChanges self.old self.new slot (Some (with_image (write_image held.image address bytes.now) held))) }
+        ensures fine { IfOk result (λ _.
+            writable_now (image_at self.old slot) address (length bytes.now) ≡ true) }
+        ensures written { IfOk result (λ _.
+            ImageChanges self.old self.new slot (write_image (image_at self.old slot) address bytes.now)) }
         ensures free { free_of self.new ≡ free_of self.old }
         ensures runs { (hart : Hart) → RunsIn self.old slot hart → RunsIn self.new slot hart }
-        ensures refused { IfErr result (λ _. (writable_now (held_at (each_of self.old) slot).image address (length bytes.now) ≡ false) × Same self.old self.new) }
+        ensures refused { IfErr result (λ _.
+            (writable_now (image_at self.old slot) address (length bytes.now) ≡ false)
+            × Same self.old self.new) }
     {
         let memory = memory_in(&self.each, slot);
         user_copy::copy_out(&memory.space, &mut self.ram, address, bytes)
@@ -85,8 +91,8 @@ impl Memories {
         requires sound { AreSound self.now }
         requires there { HasMemory (each_of self.now) slot }
         ensures low { IfOk result (λ _. address + 8 ≤ 2 ^ 38) }
-        ensures number { IfOk result (λ n. pointer_at (held_at (each_of self.now) slot).image address ≡ Some n) }
-        ensures refused { IfErr result (λ _. pointer_at (held_at (each_of self.now) slot).image address ≡ None) }
+        ensures number { IfOk result (λ n. pointer_at (image_at self.now slot) address ≡ Some n) }
+        ensures refused { IfErr result (λ _. pointer_at (image_at self.now slot) address ≡ None) }
     {
         user_copy::fetch_u64_lazily(&self.memory(slot).space, &self.ram, address)
     }
@@ -105,9 +111,13 @@ impl Memories {
         requires sound { AreSound self.now }
         requires there { HasMemory (each_of self.now) slot }
         ensures short { IfOk result (λ n. n < length text.old) }
-        ensures found { IfOk result (λ n. text_at (length text.old) (held_at (each_of self.now) slot).image address ≡ Some (take n text.new)) }
+        ensures found { IfOk result (λ n.
+            text_at (length text.old) (image_at self.now slot) address
+            ≡ Some (take n text.new)) }
         ensures rest { IfOk result (λ n. drop n text.new ≡ drop n text.old) }
-        ensures refused { IfErr result (λ _. (text_at (length text.old) (held_at (each_of self.now) slot).image address ≡ None) × (text.new ≡ text.old)) }
+        ensures refused { IfErr result (λ _.
+            (text_at (length text.old) (image_at self.now slot) address ≡ None)
+            × (text.new ≡ text.old)) }
     {
         user_copy::fetch_text_lazily(&self.memory(slot).space, &self.ram, address, text)
     }

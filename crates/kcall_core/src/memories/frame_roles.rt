@@ -1,5 +1,6 @@
 //! Whose each frame of RAM is, and what for, as observers are told it.
-ghost use Rattle.std.specs.Prelude.{◌≡◌, ◌≢◌, ℕ, ◌/◌, ◌^◌, ◌<◌, ◌≤◌, true, false, length, Some, IfSome, IfNone};
+ghost use Rattle.std.specs.Prelude.{◌≡◌, ◌≢◌, ℕ, ◌/◌, ◌^◌, ◌<◌, ◌≤◌};
+ghost use Rattle.std.specs.Prelude.{true, false, length, Some, IfSome, IfNone};
 ghost use Rattle.xk_base.specs.declared.limits.TheConstants.{NPROC};
 ghost use Rattle.sv39_core.specs.Sv39.{entry_at, table_at};
 ghost use Rattle.sv39_core.specs.Tree.{frame_of};

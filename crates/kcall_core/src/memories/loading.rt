@@ -1,9 +1,9 @@
 //! A planned program becomes the memory of a slot.
-ghost use Rattle.std.specs.Prelude.{◌≡◌, ℕ, ◌+◌, ◌<◌, ◌≤◌, Some, IfOk, IfErr};
+ghost use Rattle.std.specs.Prelude.{◌≡◌, ◌+◌, ◌<◌, ◌≤◌, Some, IfOk, IfErr};
 ghost use Rattle.xk_base.specs.Image.{price};
 ghost use Rattle.rv64i_core.specs.Registers.{fresh};
-ghost use Rattle.kcall_core.specs.Holdings.{held_at, HasMemory, IsVacant, with_image};
-ghost use Rattle.kcall_core.specs.Memories.{each_of, free_of, AreSound, RunsIn, SlotChanges, Same};
+ghost use Rattle.kcall_core.specs.Holdings.{HasMemory, IsVacant};
+ghost use Rattle.kcall_core.specs.Memories.{each_of, free_of, AreSound, RunsIn, SlotChanges, Same, ImageChanges};
 
 use crate::memories::{Memories, Memory};
 use exec_core::{Entry, ExecPlan, build};
@@ -19,10 +19,14 @@ impl Memories {
     pub fn load_into(&mut self, slot: usize, plan: ExecPlan<'_>) -> Result<Entry, NoFrames>
         requires sound { AreSound self.old }
         requires vacant { IsVacant (each_of self.old) slot }
-        ensures start { IfOk result (λ start. start ≡ record { pc = plan.entry.pc; sp = plan.entry.sp; argc = plan.entry.argc }) }
-        ensures loaded { IfOk result (λ _. SlotChanges self.old self.new slot (Some (record { image = plan.entry.image; saved = fresh 0 }))) }
+        ensures start { IfOk result (λ start.
+            start ≡ record { pc = plan.entry.pc; sp = plan.entry.sp; argc = plan.entry.argc }) }
+        ensures loaded { IfOk result (λ _.
+            SlotChanges self.old self.new slot
+            (Some (record { image = plan.entry.image; saved = fresh 0 }))) }
         ensures fits { IfOk result (λ _. price plan.entry.image + 1 ≤ free_of self.old) }
-        ensures refused { IfErr result (λ _. (free_of self.old < price plan.entry.image + 1) × (self.new ≡ self.old)) }
+        ensures refused { IfErr result (λ _.
+            (free_of self.old < price plan.entry.image + 1) × (self.new ≡ self.old)) }
     {
         if u64::from(self.pool.free()) <= plan.price() {
             return Err(NoFrames);
@@ -53,12 +57,15 @@ impl Memories {
     ) -> Result<Entry, NoFrames>
         requires sound { AreSound self.old }
         requires there { HasMemory (each_of self.old) slot }
-        ensures start { IfOk result (λ start. start ≡ record { pc = plan.entry.pc; sp = plan.entry.sp; argc = plan.entry.argc }) }
-        ensures replaced { IfOk result (λ _. SlotChanges self.old self.new slot (Some (with_image plan.entry.image (held_at (each_of self.old) slot)))) }
+        ensures start { IfOk result (λ start.
+            start ≡ record { pc = plan.entry.pc; sp = plan.entry.sp; argc = plan.entry.argc }) }
+        ensures replaced { IfOk result (λ _.
+            ImageChanges self.old self.new slot plan.entry.image) }
         ensures fits { IfOk result (λ _. price plan.entry.image ≤ free_of self.old) }
         ensures runs { IfOk result (λ _. RunsIn self.new slot hart.new) }
         ensures regs { hart.new.regs ≡ hart.old.regs }
-        ensures refused { IfErr result (λ _. (free_of self.old < price plan.entry.image) × Same self.old self.new × (hart.new ≡ hart.old)) }
+        ensures refused { IfErr result (λ _.
+            (free_of self.old < price plan.entry.image) × Same self.old self.new × (hart.new ≡ hart.old)) }
     {
         let Ok((new, start)) = build(plan, &mut self.pool, &mut self.ram) else {
             return Err(NoFrames);

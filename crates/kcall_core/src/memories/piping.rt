@@ -1,10 +1,12 @@
 //! The pipes: their frames, how many descriptors are on each end, and the bytes between them and processes.
-ghost use Rattle.std.specs.Prelude.{◌≡◌, ◌<◌, ◌≤◌, IsSome, None, Some, cond, is_some, nat_eq, option_map, ◌+◌, take, length, true, not, IfSome, IfNone};
+ghost use Rattle.std.specs.Prelude.{◌≡◌, ◌<◌, ◌≤◌, IsSome, None, Some, cond, is_some, nat_eq};
+ghost use Rattle.std.specs.Prelude.{option_map, ◌+◌, take, length, true, not, IfSome, IfNone};
 ghost use Rattle.std.specs.FinMap.{get};
 ghost use Rattle.pipe_core.specs.declared.TheConstants.{END_COUNT_MAX};
 ghost use Rattle.kernel_spec.specs.views.PipeEnds.{count_on, joined, parted, is_given_up, there, fit, has_bytes};
 ghost use Rattle.kcall_core.specs.Holdings.{pipe_named, held_at, HasMemory, with_image};
-ghost use Rattle.kcall_core.specs.Memories.{pipes_of, AreSound, PipeChanges, each_of, free_of, RunsIn, SlotChanges, Same};
+ghost use Rattle.kcall_core.specs.Memories.{pipes_of, AreSound, PipeChanges, each_of};
+ghost use Rattle.kcall_core.specs.Memories.{free_of, RunsIn, SlotChanges, Same, image_at};
 ghost use Rattle.kcall_core.specs.ObservedPipes.{counts_of, byte_of_pipe};
 ghost use Rattle.xk_base.specs.declared.limits.TheConstants.{PIPE_BYTES};
 ghost use Rattle.xk_base.specs.Bytes.{image_bytes, write_image};
@@ -161,7 +163,8 @@ impl Memories {
         requires there { IsSome (get (pipes_of self.old) frame) }
         requires some { 1 ≤ count_on end (pipe_named (pipes_of self.old) frame) }
         ensures last { result ≡ nat_eq (count_on end (parted (pipe_named (pipes_of self.old) frame) end 1)) 0 }
-        ensures pipe { let left = parted (pipe_named (pipes_of self.old) frame) end 1 in PipeChanges self.old self.new frame (cond (is_given_up left) None (Some left)) }
+        ensures pipe { let left = parted (pipe_named (pipes_of self.old) frame) end 1 in
+            PipeChanges self.old self.new frame (cond (is_given_up left) None (Some left)) }
     {
         self.part(frame, end);
         let last = self.is_closed(frame, end);
@@ -198,8 +201,11 @@ impl Memories {
         requires pipe { IsSome (get (pipes_of self.old) frame) }
         requires there { HasMemory (each_of self.old) slot }
         requires room { length (pipe_named (pipes_of self.old) frame).bytes + count ≤ PIPE_BYTES }
-        requires readable { readable (held_at (each_of self.old) slot).image address count ≡ true }
-        ensures { PipeChanges self.old self.new frame (Some (with_more (image_bytes (held_at (each_of self.old) slot).image address count) (pipe_named (pipes_of self.old) frame))) }
+        requires readable { readable (image_at self.old slot) address count ≡ true }
+        ensures { PipeChanges self.old self.new frame
+            (Some
+            (with_more (image_bytes (image_at self.old slot) address count)
+            (pipe_named (pipes_of self.old) frame))) }
     {
         let memory = memory_in(&self.each, slot);
         user_copy::push_to_pipe(&memory.space, &mut self.ram, frame, address, count);
@@ -210,10 +216,13 @@ impl Memories {
         requires sound { AreSound self.old }
         requires pipe { IsSome (get (pipes_of self.old) frame) }
         requires there { HasMemory (each_of self.old) slot }
-        requires readable { readable (held_at (each_of self.old) slot).image address n ≡ true }
+        requires readable { readable (image_at self.old slot) address n ≡ true }
         ensures count { result ≡ fit (pipe_named (pipes_of self.old) frame) n }
         ensures range { result ≤ PIPE_BYTES }
-        ensures moved { PipeChanges self.old self.new frame (Some (with_more (image_bytes (held_at (each_of self.old) slot).image address result) (pipe_named (pipes_of self.old) frame))) }
+        ensures moved { PipeChanges self.old self.new frame
+            (Some
+            (with_more (image_bytes (image_at self.old slot) address result)
+            (pipe_named (pipes_of self.old) frame))) }
     {
         let count = n.min(PIPE_BYTES - self.count(frame));
         self.push_tested(frame, slot, address, count);
@@ -227,8 +236,13 @@ impl Memories {
         requires pipe { IsSome (get (pipes_of self.old) frame) }
         requires there { HasMemory (each_of self.old) slot }
         requires bytes { count ≤ length (pipe_named (pipes_of self.old) frame).bytes }
-        requires writable { writable_now (held_at (each_of self.old) slot).image address count ≡ true }
-        ensures written { let held = held_at (each_of self.old) slot in SlotChanges self.old self.new slot (Some (with_image (write_image held.image address (take count (pipe_named (pipes_of self.old) frame).bytes)) held)) }
+        requires writable { writable_now (image_at self.old slot) address count ≡ true }
+        ensures written { let held = held_at (each_of self.old) slot in
+            SlotChanges self.old self.new slot
+            (Some
+            (with_image
+            (write_image held.image address (take count (pipe_named (pipes_of self.old) frame).bytes))
+            held)) }
         ensures free { free_of self.new ≡ free_of self.old }
         ensures runs { (hart : Hart) → RunsIn self.old slot hart → RunsIn self.new slot hart }
     {
@@ -241,7 +255,8 @@ impl Memories {
         requires sound { AreSound self.old }
         requires pipe { IsSome (get (pipes_of self.old) frame) }
         requires bytes { count ≤ length (pipe_named (pipes_of self.old) frame).bytes }
-        ensures { PipeChanges self.old self.new frame (Some (without_first count (pipe_named (pipes_of self.old) frame))) }
+        ensures { PipeChanges self.old self.new frame
+            (Some (without_first count (pipe_named (pipes_of self.old) frame))) }
     {
         pipe_core::drop_first(&mut self.ram, frame, count);
     }
@@ -252,10 +267,13 @@ impl Memories {
         requires sound { AreSound self.old }
         requires pipe { IsSome (get (pipes_of self.old) frame) }
         requires there { HasMemory (each_of self.old) slot }
-        requires writable { writable_now (held_at (each_of self.old) slot).image address n ≡ true }
+        requires writable { writable_now (image_at self.old slot) address n ≡ true }
         ensures count { result ≡ there (pipe_named (pipes_of self.old) frame) n }
         ensures range { result ≤ PIPE_BYTES }
-        ensures moved { let pipe = pipe_named (pipes_of self.old) frame in let image = (held_at (each_of self.old) slot).image in Moves self.old self.new slot (write_image image address (take result pipe.bytes)) frame (without_first result pipe) }
+        ensures moved { let pipe = pipe_named (pipes_of self.old) frame in
+            let image = image_at self.old slot in
+            Moves self.old self.new slot (write_image image address (take result pipe.bytes)) frame
+            (without_first result pipe) }
     {
         let count = n.min(self.count(frame));
         self.copy_oldest(frame, slot, address, count);
