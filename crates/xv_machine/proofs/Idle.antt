@@ -1,10 +1,10 @@
 -- Sends at which no byte waits: nothing comes of them, and of the next ones neither.
-use Rattle.std.proofs.Common.{◌≡◌, ◌∙◌, ℕ, zero, suc, ◌+◌, ◌<◌, ◌⊎◌, true, false, arith, List, [], ◌∷◌, ◌++◌, drop, replicate, Option, None, Some, inl, inr, refl, sym, ap, subst}
+use Rattle.std.proofs.Common.{◌≡◌, ◌∙◌, ℕ, zero, suc, ◌<◌, ◌⊎◌, true, false, arith, List, [], ◌∷◌, ◌++◌, drop, replicate, Option, None, Some, inl, inr, refl, sym, ap, subst}
 use Rattle.std.specs.Prelude.{is_some}
 use Rattle.circular_buffer.specs.Buffer.{keep_last}
 use Rattle.kernel_spec.specs.views.View.{View}
 use Rattle.kernel_spec.specs.waking.Ready.{ready}
-use Rattle.kernel_spec.specs.runs.Run.{World, Event, Send, Sent, Step_of, Ticked, first_sent, out}
+use Rattle.kernel_spec.specs.runs.Run.{World, Send, Sent, Step_of, Ticked, first_sent, out}
 use Rattle.kernel_spec.specs.waking.Wakes.{IsInCall, IsEnd, NoReadySleeper, Promised}
 use Rattle.xv_machine.specs.declared.trace.Note.{Note}
 use Rattle.xv_machine.specs.Drives.{Goes}
@@ -12,7 +12,7 @@ use Rattle.xv_machine.specs.Machine.{SameTrace}
 use Rattle.xv_machine.specs.Meaning.{Meaning}
 use Rattle.xv_machine.specs.Sound.{IsSoundMachine}
 use Rattle.xv_machine.specs.Stretches.{sends}
-use Rattle.xv_machine.proofs.Sent.{again, notes-again, events-again, goes-kept}
+use Rattle.xv_machine.proofs.Sent.{again, notes-again, goes-kept}
 
 -- no sleeper wakes: it isn't ready, there was no tick, and no process went
 never : (p : ℕ) (v : View) → ready v ≡ false → ((ready v ≡ true) ⊎ (IsInCall 13 v × (Sent None ≡ Ticked)) ⊎ ((p ≡ 1) × IsInCall 3 v × IsEnd (Sent None))) → ⊥

@@ -14,6 +14,7 @@ use Rattle.xv_machine.specs.Devices.{Given, Sink, Calls, failed}
 use Rattle.xv_machine.specs.Drives.{Goes, Wrote, call_of, calls_of}
 use Rattle.xv_machine.specs.Meaning.{Meaning}
 use Rattle.xv_machine.specs.Notes.{note, notes_of}
+use Rattle.xv_machine.specs.Reached.{TakesEvent}
 use Rattle.xv_machine.specs.Sound.{IsSoundMachine}
 use Rattle.xv_machine.specs.Stretches.{Silent, Played, BrokeOff, Plays}
 use Rattle.xv_machine.proofs.Kept.{keep-all, keep-more}
@@ -101,6 +102,10 @@ one-silent e o old new goes none = record { list = (e, o) ∷ []; goes = goes; t
 pub tick-silent : (o : Outcome) (old new : Meaning) → Promised old.world Tick o new.world → Goes old ((Tick, o) ∷ []) new → Silent (Tick ∷ []) old new
 tick-silent o old new promised goes = one-silent Tick o old new goes (tick-shows old.world new.world o promised.0)
 
+-- nothing was sent yet
+pub none-silent : (m : Meaning) → IsSoundMachine m → Silent [] m m
+none-silent m sound = record { list = []; goes = goes-none m sound; those = refl; silent = refl }
+
 -- an event whose bytes were written, or couldn't be
 pub event-plays : {E : Type 0} (r : Result (Unit {0}) E) (e : Event) (o : Outcome) (old new : Meaning) (h k : Sink) (bytes : List ℕ)
     → Goes old ((e, o) ∷ []) new → bytes ≡ bytes_out o → OnOk r (Appends h.held k.held bytes) → OnOk r (Calls h.calls k.calls (call_of bytes))
@@ -136,6 +141,13 @@ silent-join xs ys s t u p q = record {
   those = events-join p.list q.list ∙ ap₂ (λ a b. a ++ b) p.those q.those;
   silent = shows-join p.list q.list ∙ ap₂ (λ a b. a ++ b) p.silent q.silent;
 }
+
+-- one Tick more
+pub ticks-more : (n : ℕ) (old mid new : Meaning) → Silent (replicate n Tick) old mid → TakesEvent mid Tick new → Silent (replicate (n + 1) Tick) old new
+ticks-more n old mid new before event =
+    let is = event.1 in
+    let one : Silent (Tick ∷ []) mid new = tick-silent event.0 mid new is.promised (goes-one Tick event.0 mid new is.promised is.notes is.room is.frames is.sound) in
+    subst (λ (es : List Event). Silent es old new) (replicate_more n Tick) (silent-join (replicate n Tick) (Tick ∷ []) old mid new before one)
 
 -- nothing has to be written of a silent stretch
 pub silent-played : (xs : List Event) (s t : Meaning) (h : Sink) → Silent xs s t → Played xs s t h h

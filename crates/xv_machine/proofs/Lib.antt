@@ -1,5 +1,6 @@
 pub mod Owned
 pub mod PlayedParts
+pub mod Refused
 pub mod Counts
 pub mod Fitting
 pub mod Joins

@@ -16,10 +16,10 @@ use Rattle.xv_machine.specs.declared.driving.RunPlan.{RunPlan}
 use Rattle.xv_machine.specs.declared.driving.DriveEnd.{DriveEnd}
 use Rattle.xv_machine.specs.declared.driving.DriveError.{DriveError}
 use Rattle.xv_machine.specs.declared.driving.DriveError.TheVariants.{Read, Write}
-use Rattle.xv_machine.specs.Drives.{Goes, Wrote, calls_of, AskedFor, is_halted, key_in, keys_in, Done, StoppedByRead, StoppedByWrite, OnRead, OnWrite}
+use Rattle.xv_machine.specs.Drives.{Goes, Wrote, calls_of, AskedFor, is_halted, key_in, keys_in, Done, StoppedByRead, StoppedByWrite, StoppedByPlayer, AreTyped, OnRead, OnWrite}
 use Rattle.xv_machine.specs.Meaning.{Meaning}
 use Rattle.xv_machine.specs.Sound.{IsSoundMachine}
-use Rattle.xv_machine.specs.Stretches.{Played, BrokeOff, TakesKey}
+use Rattle.xv_machine.specs.Stretches.{Played, PlayedFirst, BrokeOff, TakesKey}
 use Rattle.xv_machine.proofs.Joins.{events-join, calls-join, calls-trans, wrote-nil, wrote-join, goes-none, goes-join}
 use Rattle.xv_machine.proofs.Shown.{ends-in}
 
@@ -67,6 +67,17 @@ part-keys : (quantum : ℕ) (key : Option ℕ) (es rest : List Event) (e : Event
 part-keys quantum None es rest e is = front-nil (keys_in (es ++ e ∷ [])) (keys_in rest) (sym (keys-join (es ++ e ∷ []) rest) ∙ ap keys_in is ∙ keys-of-round quantum None)
 part-keys quantum (Some b) [] rest e is = part-some b e [] rest (behind_key quantum) is (ap keys_in is ∙ keys-of-round quantum (Some b))
 part-keys quantum (Some b) (x ∷ es) rest e is = part-some b x (es ++ e ∷ []) rest (behind_key quantum) is (ap keys_in is ∙ keys-of-round quantum (Some b))
+
+-- of a round's first events: its key, unless there are none
+part-typed : (quantum : ℕ) (key : Option ℕ) (part rest : List Event) → part ++ rest ≡ round quantum (option_to_list key) → AreTyped (option_to_list key) (keys_in part)
+part-typed quantum None part rest is = inl (front-nil (keys_in part) (keys_in rest) (sym (keys-join part rest) ∙ ap keys_in is ∙ keys-of-round quantum None))
+part-typed quantum (Some b) [] rest is = inr (b, refl)
+part-typed quantum (Some b) (z ∷ zs) rest is = inl (part-some b z zs rest (behind_key quantum) is (ap keys_in is ∙ keys-of-round quantum (Some b)))
+
+-- the same of more keys
+typed-behind : (front read typed : List ℕ) → AreTyped read typed → AreTyped (front ++ read) (front ++ typed)
+typed-behind front read typed (inl same) = inl (ap (λ ks. front ++ ks) same)
+typed-behind front read typed (inr (b, is)) = inr (b, append_assoc front typed (b ∷ []) ∙ ap (λ ks. front ++ ks) is)
 
 -- ---- how many are behind
 
@@ -394,6 +405,48 @@ write-stops plan count at_end source source_now source_after key old mid new sin
       asked = asked-for (is_none key) source.asked source_after.asked (keys_in (events (g.list ++ part))) t.more (count + 1)
           (subst (λ n. Pace (is_none key) (keys_in (events (g.list ++ part))) t.more n) next (subst (λ ks. Pace (is_none key) ks t.more (suc count)) (sym read_is) t.pace))
           (asked-typed key source.asked source_after.asked (length read) (length (keys_in (events (g.list ++ part)))) (ap length read_is ∙ length-append read (option_to_list key))
+          (one_asked plan.quantum count at_end source.left source_now.left source_after.left key old mid sink sink_now source.asked source_now.asked source_after.asked g takes call));
+    }
+
+pub player-stops : (plan : RunPlan) (count : ℕ) (at_end : Bool) (source source_now source_after : Source) (key : Option ℕ) (old mid new : Meaning)
+    (sink sink_now sink_after : Sink) → count < plan.rounds
+    → (g : Going plan.quantum count at_end source.left source_now.left old mid sink sink_now source.asked source_now.asked)
+    → mid.world.turns.halted ≡ None → TakesKey at_end source_now.left key source_after.left
+    → Asked source_now.asked source_after.asked (cond at_end 0 1) → PlayedFirst (round plan.quantum (option_to_list key)) mid new sink_now sink_after
+    → StoppedByPlayer plan source source_after old new sink sink_after
+player-stops plan count at_end source source_now source_after key old mid new sink sink_now sink_after within g on takes call q =
+    let t = took plan.quantum count at_end source.left source_now.left source_after.left key old mid sink sink_now source.asked source_now.asked source_after.asked g takes call in
+    let before : List ℕ = keys_in (events g.list) in
+    let read : List ℕ = before ++ option_to_list key in
+    let part : Steps = q.played.list in
+    let part_is : events part ++ q.rest ≡ round plan.quantum (option_to_list key) = ap (λ es. es ++ q.rest) q.played.those ∙ q.those in
+    let typed_is : keys_in (events (g.list ++ part)) ≡ before ++ keys_in (events part) = ap keys_in (events-join g.list part) ∙ keys-join (events g.list) (events part) in
+    let next : suc count ≡ count + 1 = omega arith in
+    record {
+      list = g.list ++ part;
+      goes = goes-join g.list part old mid new g.goes q.played.goes;
+      keys = read ++ t.more;
+      known = leaves-known source.left source_after.left read t.more t.leaves;
+      cut = (
+        count,
+        g.list,
+        part,
+        q.rest,
+        refl,
+        within,
+        t.same (is_halted old) g.list g.rounds,
+        goes-on old g.list mid g.goes on,
+        part_is
+            ∙ begun plan.quantum count at_end source.left source_now.left source_after.left key old mid sink sink_now source.asked source_now.asked
+            source_after.asked g takes call,
+      );
+      written = wrote-join sink sink_now sink_after g.list part g.written q.played.written;
+      read = read;
+      consumed = leaves-typed source.left source_after.left read t.more t.leaves;
+      typed = subst (AreTyped read) (sym typed_is)
+          (typed-behind before (option_to_list key) (keys_in (events part)) (part-typed plan.quantum key (events part) q.rest part_is));
+      asked = asked-for (is_none key) source.asked source_after.asked read t.more (count + 1) (subst (λ n. Pace (is_none key) read t.more n) next t.pace)
+          (asked-typed key source.asked source_after.asked (length before) (length read) (length-append before (option_to_list key))
           (one_asked plan.quantum count at_end source.left source_now.left source_after.left key old mid sink sink_now source.asked source_now.asked source_after.asked g takes call));
     }
 

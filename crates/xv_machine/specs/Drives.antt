@@ -1,11 +1,11 @@
 -- What a machine that is driven in rounds goes through.
-use Rattle.std.specs.Prelude.{◌≡◌, ◌≢◌, ◌⊎◌, ℕ, ◌+◌, ◌<◌, Bool, List, [], ◌∷◌, ◌++◌, flat_map, length, replicate, nat_lt, if◌then◌else◌, Option, None, Some, IfSome, is_some, ⊤}
+use Rattle.std.specs.Prelude.{◌≡◌, ◌≢◌, ◌⊎◌, ℕ, ◌+◌, ◌<◌, Bool, false, ◌||◌, List, [], ◌∷◌, ◌++◌, flat_map, length, replicate, drop, nat_lt, if◌then◌else◌, Option, None, Some, IfSome, is_some, ⊤}
 use Rattle.std.specs.Io.KnownBytes.{Appends, Consumes}
 use Rattle.circular_buffer.specs.Buffer.{keep_last}
 use Rattle.kernel_spec.specs.runs.Run as runs
 use Rattle.kernel_spec.specs.steps.Own.{Stepped}
 use Rattle.kernel_spec.specs.runs.Run.{Event, Run, Tick, Key, Send, Outcome, Step_of, Sent, bytes_out, out}
-use Rattle.kernel_spec.specs.runs.Rounds.{events, Planned, StopsBeforeRound, EndsInRound}
+use Rattle.kernel_spec.specs.runs.Rounds.{events, halts, round, AreRounds, Planned, StopsBeforeRound, EndsInRound}
 use Rattle.kernel_spec.specs.waking.Wakes.{IsPromised}
 use Rattle.kernel_spec.specs.views.Words.{or_zero}
 use Rattle.xv_machine.specs.Devices.{Source, Asked, Sink, Given, Calls, took, failed}
@@ -132,6 +132,32 @@ pub record StoppedByWrite (plan : RunPlan) (source source_after : Source) (old n
   pub typed : Consumes source.left source_after.left (keys_in (events list))
   -- the round that was cut off had begun too
   pub asked : AskedFor source.asked source_after.asked (length (keys_in (events list))) (cut.0 + 1)
+
+-- such rounds as may begin, and of one more the first events
+abbrev pub StopsInRound : (rounds quantum : ℕ) (keys : List ℕ) (halted : Bool) → List (Event × Outcome) → Type 0
+StopsInRound rounds quantum keys halted list =
+    (count : ℕ) × (before : List (Event × Outcome)) × (part : List (Event × Outcome)) × (rest : List Event)
+    × (list ≡ before ++ part)
+    × (count < rounds) × AreRounds count quantum keys halted before × ((halted || halts before) ≡ false)
+    × (events part ++ rest ≡ round quantum (drop count keys))
+
+-- of the keys that were read all were typed, or all but the last
+abbrev pub AreTyped : (read typed : List ℕ) → Type 0
+AreTyped read typed = (typed ≡ read) ⊎ ((b : ℕ) × (typed ++ b ∷ [] ≡ read))
+
+-- Rounds that the player's refusal ended: the plan up to the event that it refused; what the events before it show was written
+pub record StoppedByPlayer (plan : RunPlan) (source source_after : Source) (old new : Meaning) (sink sink_after : Sink) : Type 0 where
+  pub list : List (Event × Outcome)
+  pub goes : Goes old list new
+  pub keys : List ℕ
+  pub known : AreKeysOf source keys
+  pub cut : StopsInRound plan.rounds plan.quantum keys (is_halted old) list
+  pub written : Wrote sink sink_after list
+  -- the key of the round that was broken off was read, whether or not it was typed
+  pub read : List ℕ
+  pub consumed : Consumes source.left source_after.left read
+  pub typed : AreTyped read (keys_in (events list))
+  pub asked : AskedFor source.asked source_after.asked (length read) (cut.0 + 1)
 
 -- the end tells whether the machine is halted
 abbrev pub IsEndOf : DriveEnd → Meaning → Type 0

@@ -26,6 +26,10 @@ pub record IsEvent (old : Meaning) (e : Event) (o : Outcome) (new : Meaning) : T
   pub frames : new.frames.count ≡ old.frames.count
   pub sound : IsSoundMachine new
 
+-- by this event, whatever comes of it
+abbrev pub TakesEvent : (old : Meaning) (e : Event) (new : Meaning) → Type 0
+TakesEvent old e new = (o : Outcome) × IsEvent old e o new
+
 -- by these, one behind another
 abbrev pub AreEvents : Meaning → List (Event × Outcome) → Meaning → Type 0
 AreEvents old list new = Leads (λ (m : Meaning) (e : Event × Outcome) (n : Meaning). IsEvent m e.0 e.1 n) old list new

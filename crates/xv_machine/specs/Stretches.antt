@@ -30,6 +30,20 @@ pub record BrokeOff (wanted : List Event) (old new : Meaning) (sink sink_after :
   pub shows : bytes_out last.1 ≢ []
   pub calls : Calls sink.calls sink_after.calls (calls_of before ++ failed (bytes_out last.1) ∷ [])
 
+-- of these events the first were sent, and show no byte
+pub record SilentFirst (wanted : List Event) (old new : Meaning) : Type 0 where
+  pub part : List Event
+  pub rest : List Event
+  pub those : part ++ rest ≡ wanted
+  pub silent : Silent part old new
+
+-- of these events the first were sent, and what they show was written
+pub record PlayedFirst (wanted : List Event) (old new : Meaning) (sink sink_after : Sink) : Type 0 where
+  pub part : List Event
+  pub rest : List Event
+  pub those : part ++ rest ≡ wanted
+  pub played : Played part old new sink sink_after
+
 -- these events were sent, or those up to one whose bytes could not be written
 abbrev pub Plays : {E : Type 0} → Result (Unit {0}) E → List Event → Meaning → Meaning → Sink → Sink → Type 0
 Plays result wanted old new sink sink_after = MatchResult result (λ _. Played wanted old new sink sink_after) (λ _. BrokeOff wanted old new sink sink_after)

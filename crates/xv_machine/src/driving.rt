@@ -6,11 +6,11 @@ ghost use Rattle.kernel_spec.specs.runs.Run as runs;
 ghost use Rattle.kernel_spec.specs.runs.Run.{bytes_out};
 ghost use Rattle.kernel_spec.specs.runs.Rounds.{round};
 ghost use Rattle.xv_machine.specs.Devices.{one_more, failed, Asked, Calls, OneFailed};
-ghost use Rattle.xv_machine.specs.Drives.{Done, StoppedByRead, StoppedByWrite, IsEndOf, OnRead, OnWrite, call_of};
+ghost use Rattle.xv_machine.specs.Drives.{Done, StoppedByRead, StoppedByWrite, StoppedByPlayer, IsEndOf, OnRead, OnWrite, call_of};
 ghost use Rattle.xv_machine.specs.Events.{event_of};
 ghost use Rattle.xv_machine.specs.RoundParts.{events_of_parts};
 ghost use Rattle.xv_machine.specs.Sound.{IsSoundMachine};
-ghost use Rattle.xv_machine.specs.Stretches.{Plays, FailsSo, Silent, TakesKey};
+ghost use Rattle.xv_machine.specs.Stretches.{Plays, PlayedFirst, FailsSo, Silent, SilentFirst, TakesKey};
 
 use crate::devices::{ByteSink, DeviceFault, KeySource};
 use crate::event::Event;
@@ -67,32 +67,38 @@ fn write_some<W: ByteSink>(sink: &mut W, bytes: &[u8]) -> Written
     sink.write_out(bytes)
 }
 
-// Plays an event, and writes what it shows.
-fn perform<P: RoundPlayer, W: ByteSink>(
+// Types a key, and writes what the console shows for it.
+fn type_key<P: RoundPlayer, W: ByteSink>(
     player: &mut P,
-    event: Event,
+    byte: u8,
     sink: &mut W,
 ) -> Result<Written, P::Refusal>
-    ensures plays { IfOk result (λ w. Plays w (event_of event ∷ []) (P.machine player.old) (P.machine player.new) (W.sink sink.old) (W.sink sink.new)) }
+    requires { IsSoundMachine (P.machine player.old) }
+    ensures plays { IfOk result (λ w. Plays w (runs.Key byte ∷ []) (P.machine player.old) (P.machine player.new) (W.sink sink.old) (W.sink sink.new)) }
     ensures failures { IfOk result (λ w. FailsSo w (W.failures sink.old) (W.failures sink.new)) }
+    ensures refused { IfErr result (λ _. PlayedFirst (runs.Key byte ∷ []) (P.machine player.old) (P.machine player.new) (W.sink sink.old) (W.sink sink.new)) }
+    ensures none_failed { IfErr result (λ _. W.failures sink.new ≡ W.failures sink.old) }
 {
-    let outcome = player.play(event)?;
+    let outcome = player.play_key(byte)?;
     Ok(write_some(sink, outcome.shown()))
 }
 
-// Plays an event so many times.
-fn play_often<P: RoundPlayer, W: ByteSink>(
+// Types a key so many times.
+#[inline(never)]
+fn type_often<P: RoundPlayer, W: ByteSink>(
     player: &mut P,
-    event: Event,
+    byte: u8,
     count: u32,
     sink: &mut W,
 ) -> Result<Written, P::Refusal>
     requires { IsSoundMachine (P.machine player.old) }
-    ensures plays { IfOk result (λ w. Plays w (replicate count (event_of event)) (P.machine player.old) (P.machine player.new) (W.sink sink.old) (W.sink sink.new)) }
+    ensures plays { IfOk result (λ w. Plays w (replicate count (runs.Key byte)) (P.machine player.old) (P.machine player.new) (W.sink sink.old) (W.sink sink.new)) }
     ensures failures { IfOk result (λ w. FailsSo w (W.failures sink.old) (W.failures sink.new)) }
+    ensures refused { IfErr result (λ _. PlayedFirst (replicate count (runs.Key byte)) (P.machine player.old) (P.machine player.new) (W.sink sink.old) (W.sink sink.new)) }
+    ensures none_failed { IfErr result (λ _. W.failures sink.new ≡ W.failures sink.old) }
 {
-    for sent in 0..count {
-        let written = perform(player, event, sink)?;
+    for typed in 0..count {
+        let written = type_key(player, byte, sink)?;
         let Ok(()) = written else {
             return Ok(Err(DeviceFault));
         };
@@ -100,10 +106,25 @@ fn play_often<P: RoundPlayer, W: ByteSink>(
     Ok(Ok(()))
 }
 
+// Sends Tick so many times, which shows no byte.
+#[inline(never)]
+fn tick_often<P: RoundPlayer>(player: &mut P, count: u32) -> Result<(), P::Refusal>
+    requires { IsSoundMachine (P.machine player.old) }
+    ensures sent { IfOk result (λ _. Silent (replicate count runs.Tick) (P.machine player.old) (P.machine player.new)) }
+    ensures refused { IfErr result (λ _. SilentFirst (replicate count runs.Tick) (P.machine player.old) (P.machine player.new)) }
+{
+    for ticked in 0..count {
+        player.play_tick()?;
+    }
+    Ok(())
+}
+
 // Sends Run so many times, which shows no byte.
+#[inline(never)]
 fn run_often<P: RoundPlayer>(player: &mut P, count: u32) -> Result<(), P::Refusal>
     requires { IsSoundMachine (P.machine player.old) }
-    ensures { IfOk result (λ _. Silent (replicate count runs.Run) (P.machine player.old) (P.machine player.new)) }
+    ensures sent { IfOk result (λ _. Silent (replicate count runs.Run) (P.machine player.old) (P.machine player.new)) }
+    ensures refused { IfErr result (λ _. SilentFirst (replicate count runs.Run) (P.machine player.old) (P.machine player.new)) }
 {
     let mut left = count;
     'runs: while left > 0 {
@@ -124,6 +145,7 @@ fn sent_bytes(byte: &Option<u8>) -> &[u8]
 }
 
 // Lets the terminal take so many bytes, and writes each at once.
+#[inline(never)]
 fn send_often<P: RoundPlayer, W: ByteSink>(
     player: &mut P,
     count: u32,
@@ -132,6 +154,8 @@ fn send_often<P: RoundPlayer, W: ByteSink>(
     requires { IsSoundMachine (P.machine player.old) }
     ensures plays { IfOk result (λ w. Plays w (replicate count runs.Send) (P.machine player.old) (P.machine player.new) (W.sink sink.old) (W.sink sink.new)) }
     ensures failures { IfOk result (λ w. FailsSo w (W.failures sink.old) (W.failures sink.new)) }
+    ensures refused { IfErr result (λ _. PlayedFirst (replicate count runs.Send) (P.machine player.old) (P.machine player.new) (W.sink sink.old) (W.sink sink.new)) }
+    ensures none_failed { IfErr result (λ _. W.failures sink.new ≡ W.failures sink.old) }
 {
     let mut left = count;
     'sends: while left > 0 {
@@ -145,7 +169,8 @@ fn send_often<P: RoundPlayer, W: ByteSink>(
     Ok(Ok(()))
 }
 
-// Plays an event so many times: Runs and Sends as many at once as the player makes.
+// Plays an event so many times: Runs and Sends as many at once as the player makes. What it calls is never inlined: the
+// loop over parts, with a whole machine in it, would look for each of the machine's fields anew in each round.
 fn play_part<P: RoundPlayer, W: ByteSink>(
     player: &mut P,
     event: Event,
@@ -155,14 +180,20 @@ fn play_part<P: RoundPlayer, W: ByteSink>(
     requires { IsSoundMachine (P.machine player.old) }
     ensures plays { IfOk result (λ w. Plays w (replicate count (event_of event)) (P.machine player.old) (P.machine player.new) (W.sink sink.old) (W.sink sink.new)) }
     ensures failures { IfOk result (λ w. FailsSo w (W.failures sink.old) (W.failures sink.new)) }
+    ensures refused { IfErr result (λ _. PlayedFirst (replicate count (event_of event)) (P.machine player.old) (P.machine player.new) (W.sink sink.old) (W.sink sink.new)) }
+    ensures none_failed { IfErr result (λ _. W.failures sink.new ≡ W.failures sink.old) }
 {
     match event {
         Event::Run => {
             run_often(player, count)?;
             Ok(Ok(()))
         }
+        Event::Tick => {
+            tick_often(player, count)?;
+            Ok(Ok(()))
+        }
         Event::Send => send_often(player, count, sink),
-        Event::Tick | Event::Key(_) => play_often(player, event, count, sink),
+        Event::Key(byte) => type_often(player, byte, count, sink),
     }
 }
 
@@ -175,6 +206,8 @@ fn play_parts<P: RoundPlayer, W: ByteSink>(
     requires { IsSoundMachine (P.machine player.old) }
     ensures plays { IfOk result (λ w. Plays w (events_of_parts parts.now) (P.machine player.old) (P.machine player.new) (W.sink sink.old) (W.sink sink.new)) }
     ensures failures { IfOk result (λ w. FailsSo w (W.failures sink.old) (W.failures sink.new)) }
+    ensures refused { IfErr result (λ _. PlayedFirst (events_of_parts parts.now) (P.machine player.old) (P.machine player.new) (W.sink sink.old) (W.sink sink.new)) }
+    ensures none_failed { IfErr result (λ _. W.failures sink.new ≡ W.failures sink.old) }
 {
     for part in parts {
         let written = play_part(player, part.event, part.count, sink)?;
@@ -195,6 +228,8 @@ fn play_round<P: RoundPlayer, W: ByteSink>(
     requires { IsSoundMachine (P.machine player.old) }
     ensures plays { IfOk result (λ w. Plays w (round quantum (option_to_list key)) (P.machine player.old) (P.machine player.new) (W.sink sink.old) (W.sink sink.new)) }
     ensures failures { IfOk result (λ w. FailsSo w (W.failures sink.old) (W.failures sink.new)) }
+    ensures refused { IfErr result (λ _. PlayedFirst (round quantum (option_to_list key)) (P.machine player.old) (P.machine player.new) (W.sink sink.old) (W.sink sink.new)) }
+    ensures none_failed { IfErr result (λ _. W.failures sink.new ≡ W.failures sink.old) }
 {
     let parts = round_parts(key, quantum);
     play_parts(player, &parts, sink)
@@ -221,7 +256,8 @@ fn take_key<R: KeySource>(at_end: bool, keys: &mut R) -> Result<Option<u8>, Devi
 ///
 /// # Errors
 ///
-/// The player's refusal: the events before it are sent.
+/// The player's refusal: the events before the one that it refused are sent, and what they show is written. The key of
+/// the round that is broken off is read.
 pub fn play_rounds<P: RoundPlayer, R: KeySource, W: ByteSink>(
     player: &mut P,
     plan: RunPlan,
@@ -235,6 +271,8 @@ pub fn play_rounds<P: RoundPlayer, R: KeySource, W: ByteSink>(
     ensures read_failed { IfOk result (λ end. IfErr end (λ e. OnRead e (OneFailed (R.failures keys.old) (R.failures keys.new) (W.failures sink.old) (W.failures sink.new)))) }
     ensures write { IfOk result (λ end. IfErr end (λ e. OnWrite e (StoppedByWrite plan (R.source keys.old) (R.source keys.new) (P.machine player.old) (P.machine player.new) (W.sink sink.old) (W.sink sink.new)))) }
     ensures write_failed { IfOk result (λ end. IfErr end (λ e. OnWrite e (OneFailed (W.failures sink.old) (W.failures sink.new) (R.failures keys.old) (R.failures keys.new)))) }
+    ensures refused { IfErr result (λ _. StoppedByPlayer plan (R.source keys.old) (R.source keys.new) (P.machine player.old) (P.machine player.new) (W.sink sink.old) (W.sink sink.new)) }
+    ensures refused_failures { IfErr result (λ _. (R.failures keys.new ≡ R.failures keys.old) × (W.failures sink.new ≡ W.failures sink.old)) }
 {
     let mut at_end = false;
     let mut halted = player.status();

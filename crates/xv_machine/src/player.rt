@@ -1,9 +1,10 @@
 //! Who plays rounds: a machine, or whoever has one and looks on.
-ghost use Rattle.std.specs.Prelude.{◌≡◌, ◌<◌, ◌≤◌, IfOk};
+ghost use Rattle.std.specs.Prelude.{◌≡◌, ◌<◌, ◌≤◌, IfOk, IfErr};
+ghost use Rattle.kernel_spec.specs.runs.Run as runs;
 ghost use Rattle.xv_machine.specs.Drives.{Ran, SendsMade};
-ghost use Rattle.xv_machine.specs.Events.{event_of, outcome_of};
+ghost use Rattle.xv_machine.specs.Events.{outcome_of};
 ghost use Rattle.xv_machine.specs.Meaning.{Meaning};
-ghost use Rattle.xv_machine.specs.Reached.{IsEvent};
+ghost use Rattle.xv_machine.specs.Reached.{IsEvent, TakesEvent};
 ghost use Rattle.xv_machine.specs.Sound.{IsSoundMachine};
 
 use crate::event::{Event, Outcome};
@@ -21,7 +22,7 @@ pub struct Sends {
 
 /// Who plays rounds. It has a machine, and sends it events.
 pub trait RoundPlayer {
-    /// Why it doesn't send an event.
+    /// Why it doesn't send an event. Its machine then stays as it was.
     type Refusal: Drop;
 
     // The machine that it has.
@@ -31,29 +32,41 @@ pub trait RoundPlayer {
     ///
     /// # Errors
     ///
-    /// Its refusal.
+    /// Its refusal: then nothing is sent.
     fn play_runs(&mut self, most: u32) -> Result<u32, Self::Refusal>
         ensures ran { IfOk result (λ sent. Ran most sent (machine self.old) (machine self.new)) }
         ensures within { IfOk result (λ sent. sent ≤ most) }
-        ensures some { IfOk result (λ sent. 0 < most → 0 < sent) };
+        ensures some { IfOk result (λ sent. 0 < most → 0 < sent) }
+        ensures refused { IfErr result (λ _. machine self.new ≡ machine self.old) };
 
     /// Sends Send, `most` times at most, up to the first that sends a byte.
     ///
     /// # Errors
     ///
-    /// Its refusal.
+    /// Its refusal: then nothing is sent.
     fn play_sends(&mut self, most: u32) -> Result<Sends, Self::Refusal>
         requires { 0 < most }
         ensures made { IfOk result (λ sends. SendsMade sends.sent sends.byte (machine self.old) (machine self.new)) }
-        ensures within { IfOk result (λ sends. sends.sent ≤ most) };
+        ensures within { IfOk result (λ sends. sends.sent ≤ most) }
+        ensures refused { IfErr result (λ _. machine self.new ≡ machine self.old) };
 
-    /// Sends an event, and gives what came of it.
+    /// Sends Tick. It shows no byte.
     ///
     /// # Errors
     ///
-    /// Its refusal.
-    fn play(&mut self, event: Event) -> Result<Outcome, Self::Refusal>
-        ensures { IfOk result (λ outcome. IsEvent (machine self.old) (event_of event) (outcome_of outcome) (machine self.new)) };
+    /// Its refusal: then nothing is sent.
+    fn play_tick(&mut self) -> Result<(), Self::Refusal>
+        ensures ticked { IfOk result (λ _. TakesEvent (machine self.old) runs.Tick (machine self.new)) }
+        ensures refused { IfErr result (λ _. machine self.new ≡ machine self.old) };
+
+    /// Types a key, and gives what came of it.
+    ///
+    /// # Errors
+    ///
+    /// Its refusal: then nothing is sent.
+    fn play_key(&mut self, byte: u8) -> Result<Outcome, Self::Refusal>
+        ensures typed { IfOk result (λ outcome. IsEvent (machine self.old) (runs.Key byte) (outcome_of outcome) (machine self.new)) }
+        ensures refused { IfErr result (λ _. machine self.new ≡ machine self.old) };
 
     /// The status with which process 1 went; `None` while it is there.
     fn status(&self) -> Option<i32>
@@ -86,8 +99,14 @@ impl RoundPlayer for Machine {
     }
 
     #[inline(always)]
-    fn play(&mut self, event: Event) -> Result<Outcome, Infallible> {
-        Ok(self.event(event))
+    fn play_tick(&mut self) -> Result<(), Infallible> {
+        self.event(Event::Tick);
+        Ok(())
+    }
+
+    #[inline(always)]
+    fn play_key(&mut self, byte: u8) -> Result<Outcome, Infallible> {
+        Ok(self.event(Event::Key(byte)))
     }
 
     #[inline(always)]

@@ -3,7 +3,8 @@ use Rattle.std.specs.Prelude.{is_some}
 use Rattle.std.specs.Option.{option_to_list}
 use Rattle.kernel_spec.specs.runs.Rounds.{round}
 use Rattle.xv_machine.proofs.PlayedParts.{played-of, broke-of}
-use Rattle.xv_machine.proofs.Rounds.{none-going, one-more, none-from-some, all-done, read-stops, write-stops}
+use Rattle.xv_machine.proofs.Rounds.{none-going, one-more, none-from-some, all-done, read-stops, write-stops, player-stops}
+use Rattle.xv_machine.proofs.Refused.{if-err}
 use Rattle.xv_machine.proofs.driving.play_rounds.Goals as goal
 
 pub loop-count-init : goal.loop-count-init
@@ -29,6 +30,13 @@ returns-in_default-written-clause-write g c =
     _ (g.P.RoundPlayer.machine c.loop-count.player) (g.P.RoundPlayer.machine c.play_round.new.player) _ (g.W.ByteSink.sink c.loop-count.sink) (g.W.ByteSink.sink c.play_round.new.sink)
     (omega arith) c.loop-count.invariant.going (sym c.loop-count.invariant.halted ∙ c.in_default.is) c.in-Ok.ensures.key c.in-Ok.ensures.call
     (broke-of (round c.args.plan.quantum (option_to_list c.in-Ok.key)) _ _ _ _ c.in_ok-written.written _ c.in_default-written.is c.in_ok-written.ensures.plays)
+
+pub returns-in_err-written-clause-refused : goal.returns-in_err-written-clause-refused
+returns-in_err-written-clause-refused g c =
+    if-err c.from_residual.result
+    (player-stops c.args.plan c.loop-count.count c.loop-count.at_end _ (g.R.KeySource.source c.loop-count.keys) (g.R.KeySource.source c.take_key.new.keys) c.in-Ok.key
+    _ (g.P.RoundPlayer.machine c.loop-count.player) (g.P.RoundPlayer.machine c.play_round.new.player) _ (g.W.ByteSink.sink c.loop-count.sink) (g.W.ByteSink.sink c.play_round.new.sink)
+    (omega arith) c.loop-count.invariant.going (sym c.loop-count.invariant.halted ∙ c.in_default.is) c.in-Ok.ensures.key c.in-Ok.ensures.call c.in_err-written.ensures.refused)
 
 pub loop-count-preserved : goal.loop-count-preserved
 loop-count-preserved g c = record {

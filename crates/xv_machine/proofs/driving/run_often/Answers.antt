@@ -1,4 +1,6 @@
-use Rattle.std.proofs.Common.{arith}
+use Rattle.std.proofs.Common.{◌-◌, arith}
+use Rattle.kernel_spec.specs.runs.Run.{Run}
+use Rattle.xv_machine.proofs.Refused.{if-err, often-silent}
 use Rattle.xv_machine.proofs.Sent.{quantum-more}
 use Rattle.xv_machine.proofs.driving.run_often.Goals as goal
 
@@ -8,3 +10,9 @@ runs-preserved g c = record {
   silent = quantum-more c.args.count c.runs.left c.in_ok-sent.sent (g.P.RoundPlayer.machine c.args.player.now) (g.P.RoundPlayer.machine c.runs.player)
       (g.P.RoundPlayer.machine c.play_runs.new.self) c.runs.invariant.within c.in_ok-sent.ensures.within c.runs.invariant.silent c.in_ok-sent.ensures.ran;
 }
+
+pub returns-in_err-sent-clause-refused : goal.returns-in_err-sent-clause-refused
+returns-in_err-sent-clause-refused g c =
+    if-err c.from_residual.result
+    (often-silent Run (c.args.count - c.runs.left) c.args.count (g.P.RoundPlayer.machine c.args.player.now) (g.P.RoundPlayer.machine c.runs.player) (g.P.RoundPlayer.machine c.play_runs.new.self)
+    (omega arith) c.in_err-sent.ensures.refused c.runs.invariant.silent)

@@ -1,7 +1,7 @@
 use Rattle.std.proofs.Common.{◌≡◌, ◌-◌, ap, arith, replicate, rules}
 use Rattle.kernel_spec.specs.runs.Run.{Send}
-use Rattle.xv_machine.specs.Stretches.{Plays}
 use Rattle.xv_machine.proofs.PlayedParts.{often-none, often-more, often-broke, played-of, broke-of, played-those, sends-play}
+use Rattle.xv_machine.proofs.Refused.{if-err, often-first}
 use Rattle.xv_machine.proofs.driving.send_often.Goals as goal
 
 pub sends-init : goal.sends-init
@@ -38,3 +38,9 @@ pub returns-clause-plays : goal.returns-clause-plays
 returns-clause-plays g c =
     let all : c.args.count - c.sends.left ≡ c.args.count = omega (arith, c.sends-test.false) in
     played-those (replicate (c.args.count - c.sends.left) Send) (replicate c.args.count Send) _ _ _ _ (ap (λ n. replicate n Send) all) c.sends.invariant.played
+
+pub returns-in_err-sends-clause-refused : goal.returns-in_err-sends-clause-refused
+returns-in_err-sends-clause-refused g c =
+    if-err c.from_residual.result
+    (often-first Send (c.args.count - c.sends.left) c.args.count (g.P.RoundPlayer.machine c.args.player.now) (g.P.RoundPlayer.machine c.sends.player) (g.P.RoundPlayer.machine c.play_sends.new.self)
+    (omega arith) c.in_err-sends.ensures.refused (g.W.ByteSink.sink c.args.sink.now) (g.W.ByteSink.sink c.sends.sink) c.sends.invariant.played)
