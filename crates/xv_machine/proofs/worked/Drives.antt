@@ -1,11 +1,11 @@
 -- Worked cases of how a drive ends: what was written, what was read, and how often the devices were called.
-use Rattle.std.proofs.Common.{◌≡◌, ◌∙◌, ℕ, ◌+◌, ◌≤◌, zero, suc, List, [], ◌∷◌, ◌++◌, length, length-append, Option, None, Some, IfSome, refl, sym, ap, subst, arith}
+use Rattle.std.proofs.Common.{◌≡◌, ◌∙◌, ℕ, ◌+◌, ◌<◌, ◌≤◌, zero, suc, inl, inr, Bool, false, List, [], ◌∷◌, ◌++◌, drop, length, length-append, Option, None, Some, IfSome, refl, sym, ap, subst, arith}
 use Rattle.std.specs.Io.KnownBytes.{Appends}
-use Rattle.kernel_spec.specs.runs.Run.{Event, Key, Send, Outcome, Sent, Typed, out, bytes_out}
-use Rattle.kernel_spec.specs.runs.Rounds.{events, AreRounds}
+use Rattle.kernel_spec.specs.runs.Run.{Event, Tick, Key, Send, Outcome, Ticked, Sent, Typed, out, bytes_out}
+use Rattle.kernel_spec.specs.runs.Rounds.{events, round, AreRounds}
 use Rattle.xv_machine.specs.Devices.{Source, Asked, Sink, Given, Calls, took, failed}
 use Rattle.xv_machine.specs.declared.driving.RunPlan.{RunPlan}
-use Rattle.xv_machine.specs.Drives.{AskedFor, calls_of, is_halted, keys_in, Done, StoppedByRead, StoppedByWrite}
+use Rattle.xv_machine.specs.Drives.{AskedFor, calls_of, is_halted, keys_in, Done, StoppedByRead, StoppedByWrite, StopsInRound, AreTyped, StoppedByPlayer}
 use Rattle.xv_machine.specs.Meaning.{Meaning}
 
 -- ---- how often a source is asked
@@ -62,6 +62,44 @@ more_calls before calls g after is made =
     inside : (xs ys : List Given) → ◌≡◌ {A = Option (List Given)} (Some xs) (Some ys) → xs ≡ ys
     inside xs ys e = cc
 
+-- ---- what a player's refusal leaves
+
+-- the last key that was read may be untyped
+last_untyped : AreTyped (97 ∷ 98 ∷ []) (97 ∷ [])
+last_untyped = inr (98, refl)
+
+all_typed : AreTyped (97 ∷ []) (97 ∷ [])
+all_typed = inl refl
+
+-- but no other
+two_untyped : AreTyped (97 ∷ 98 ∷ []) [] → ⊥
+two_untyped (inl h) = let bad : ⊥ = cc in bad
+two_untyped (inr (b, h)) = let bad : ⊥ = cc in bad
+
+-- and none was typed that wasn't read
+typed_unread : AreTyped [] (97 ∷ []) → ⊥
+typed_unread (inl h) = let bad : ⊥ = cc in bad
+typed_unread (inr (b, h)) = let bad : ⊥ = cc in bad
+
+-- it may refuse the first event
+refused_at_once : StopsInRound 1 2 [] false []
+refused_at_once = (0, [], [], round 2 [], refl, omega arith, refl, refl, refl)
+
+-- but in no round more than the plan has
+no_round_to_stop_in : (quantum : ℕ) (keys : List ℕ) (halted : Bool) (list : List (Event × Outcome)) → StopsInRound 0 quantum keys halted list → ⊥
+no_round_to_stop_in quantum keys halted list h = absurd (omega (arith, h.5))
+
+-- and a round doesn't begin with a tick
+tick_first : StopsInRound 1 2 [] false ((Tick, Ticked) ∷ []) → ⊥
+tick_first h = by h.0 h.5 h.6 h.8
+  where
+    by : (count : ℕ) → count < 1 → AreRounds count 2 [] false h.1 → events h.2 ++ h.3 ≡ round 2 (drop count []) → ⊥
+    by zero less are is =
+        let part : (Tick, Ticked) ∷ [] ≡ h.2 = h.4 ∙ ap (λ (es : List (Event × Outcome)). es ++ h.2) are in
+        let begins : Tick ∷ h.3 ≡ round 2 (drop 0 []) = ap (λ (es : List (Event × Outcome)). events es ++ h.3) part ∙ is in
+        let bad : ⊥ = cc in bad
+    by (suc count) less are is = absurd (omega (arith, less))
+
 module _ (plan : RunPlan) (source source_after : Source) (old new : Meaning) (sink sink_after : Sink) where
   -- the drive came to its end
   module _ (d : Done plan source source_after old new sink sink_after) where
@@ -114,6 +152,16 @@ module _ (plan : RunPlan) (source source_after : Source) (old new : Meaning) (si
         (subst (λ (o : Option ℕ). Asked (Some 0) o (d.rounds.0 + 1)) after
         (subst (λ (o : Option ℕ). Asked o source_after.asked (d.rounds.0 + 1)) before d.asked)) in
         let bad : ⊥ = cc in bad
+
+  -- a player's refusal ended the rounds
+  module _ (d : StoppedByPlayer plan source source_after old new sink sink_after) where
+    byte_too_many_before_refusal : (held : List ℕ) (b : ℕ) → sink.held ≡ Some held → sink_after.held ≡ Some (held ++ (out d.list ++ b ∷ [])) → ⊥
+    byte_too_many_before_refusal held b before after = more_bytes held (out d.list) b sink_after.held after
+        (subst (λ (o : Option (List ℕ)). Appends o sink_after.held (out d.list)) before d.written.bytes)
+
+    call_too_many_before_refusal : (calls : List Given) (g : Given) → sink.calls ≡ Some calls → sink_after.calls ≡ Some (calls ++ (calls_of d.list ++ g ∷ [])) → ⊥
+    call_too_many_before_refusal calls g before after = more_calls calls (calls_of d.list) g sink_after.calls after
+        (subst (λ (o : Option (List Given)). Calls o sink_after.calls (calls_of d.list)) before d.written.calls)
 
   -- a failed write ended it
   module _ (d : StoppedByWrite plan source source_after old new sink sink_after) where
