@@ -1,5 +1,5 @@
 -- What is told of a run: the notes of its events, what it showed, and how it ended.
-use Rattle.std.specs.Prelude.{◌≡◌, ℕ, zero, suc, ℤ, ◌+◌, ◌≤◌, Bool, true, false, if◌then◌else◌, nat_lt, List, [], ◌∷◌, ◌++◌, length, flat_map, Option, None, Some, Result, Ok, Err}
+use Rattle.std.specs.Prelude.{◌≡◌, ℕ, zero, suc, ℤ, ◌+◌, ◌≤◌, Bool, true, false, if◌then◌else◌, nat_lt, List, [], ◌∷◌, ◌++◌, length, flat_map, sum_by, Option, None, Some, Result, Ok, Err}
 use Rattle.grade_rules.specs.declared.note.Note.{Note}
 use Rattle.grade_rules.specs.declared.note.Note.TheVariants as note
 use Rattle.grade_rules.specs.declared.ending.End.{End}
@@ -85,6 +85,10 @@ runs_in Run = 1
 runs_in Tick = 0
 runs_in (Key byte) = 0
 runs_in Send = 0
+
+-- how many of these events are Runs
+abbrev pub runs_among : List Event → ℕ
+runs_among list = sum_by runs_in list
 
 -- what an outcome adds, behind so many Runs
 abbrev pub told_with : Told → ℕ → Outcome → Told

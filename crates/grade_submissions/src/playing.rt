@@ -2,13 +2,14 @@
 ghost use Rattle.std.specs.Prelude.{◌≡◌, ◌+◌, ◌*◌, ◌<◌, ◌≤◌, ◌^◌, ◌++◌, map, option_map, IfOk};
 ghost use Rattle.kernel_spec.specs.views.State.{named_file};
 ghost use Rattle.xv_machine.specs.Events.{event_of, outcome_of};
+ghost use Rattle.xv_machine.specs.RoundParts.{events_of_parts};
 ghost use Rattle.xv_session.specs.Recorded.{IsRecorded};
-ghost use Rattle.grade_submissions.specs.Plays.{note_of, all_of, nothing, runs_in, told_of, told_with, told_runs, last_after, idle_after, PlaysOn, IsPlayed, end_of};
+ghost use Rattle.grade_submissions.specs.Plays.{note_of, all_of, nothing, runs_in, runs_among, told_of, told_with, told_runs, last_after, idle_after, PlaysOn, IsPlayed, end_of};
 
 use grade_rules::{End, Note};
 use std::alloc::Global;
 use xk_base::{BootError, Pid, Program};
-use xv_machine::{Config, Event, Outcome};
+use xv_machine::{Config, Event, Outcome, RoundPart, round_parts};
 use xv_session::{Session, SessionError};
 
 /// The most notes that are kept of a run.
@@ -16,9 +17,6 @@ pub const NOTES_MAX: usize = 1_000_000;
 
 /// The most bytes that are kept of what a run shows.
 pub const SHOWN_MAX: usize = 1_048_576;
-
-/// The most Sends in a round.
-const SENDS: u32 = 32;
 
 /// How a run is driven.
 #[derive(Clone, Copy)]
@@ -225,13 +223,13 @@ impl Played {
         Ok(!outcome.shown().is_empty())
     }
 
-    // Sends as long as bytes wait, so often at most as a round has Sends.
-    fn send_bytes(&mut self) -> Result<(), SessionError>
+    // Sends as long as bytes wait, so often at most.
+    fn send_bytes(&mut self, most: u32) -> Result<(), SessionError>
         requires { self.old.kept.runs < 2 ^ 64 }
         ensures plays { IfOk result (λ _. PlaysOn self.old self.new) }
         ensures runs { IfOk result (λ _. self.new.kept.runs ≡ self.old.kept.runs) }
     {
-        'sends: for _ in 0..SENDS {
+        'sends: for _ in 0..most {
             if !self.show(Event::Send)? {
                 return Ok(());
             }
@@ -239,30 +237,52 @@ impl Played {
         Ok(())
     }
 
-    // Types a key, if there is one left.
-    fn type_key(&mut self, key: Option<u8>) -> Result<(), SessionError>
-        requires { self.old.kept.runs < 2 ^ 64 }
+    // Sends an event that isn't Run, so often.
+    fn show_often(&mut self, event: Event, count: u32) -> Result<(), SessionError>
+        requires other { runs_in (event_of event) ≡ 0 }
+        requires room { self.old.kept.runs < 2 ^ 64 }
         ensures plays { IfOk result (λ _. PlaysOn self.old self.new) }
         ensures runs { IfOk result (λ _. self.new.kept.runs ≡ self.old.kept.runs) }
     {
-        let Some(key) = key else {
-            return Ok(());
-        };
-        self.show(Event::Key(key))?;
+        'events: for _ in 0..count {
+            self.show(event)?;
+        }
         Ok(())
     }
 
-    // A round: a key, if there is one left, Runs, a tick, and Sends as long as a byte waits.
+    // Plays a part of a round: its Runs as `send_runs`, its Sends as long as a byte waits.
+    fn play_part(&mut self, event: Event, count: u32) -> Result<(), SessionError>
+        requires { self.old.kept.runs + count * runs_in (event_of event) < 2 ^ 64 }
+        ensures plays { IfOk result (λ _. PlaysOn self.old self.new) }
+        ensures runs { IfOk result (λ _. self.new.kept.runs ≤ self.old.kept.runs + count * runs_in (event_of event)) }
+    {
+        match event {
+            Event::Run => self.send_runs(count),
+            Event::Send => self.send_bytes(count),
+            Event::Tick | Event::Key(_) => self.show_often(event, count),
+        }
+    }
+
+    // Plays parts, one after another.
+    fn play_parts(&mut self, parts: &[RoundPart]) -> Result<(), SessionError>
+        requires { self.old.kept.runs + runs_among (events_of_parts parts.now) < 2 ^ 64 }
+        ensures plays { IfOk result (λ _. PlaysOn self.old self.new) }
+        ensures runs { IfOk result (λ _. self.new.kept.runs ≤ self.old.kept.runs + runs_among (events_of_parts parts.now)) }
+    {
+        for part in parts {
+            self.play_part(part.event, part.count)?;
+        }
+        Ok(())
+    }
+
+    // A round, but for Sends at which no byte waits.
     fn play_round(&mut self, quantum: u32, key: Option<u8>) -> Result<(), SessionError>
         requires { self.old.kept.runs + quantum < 2 ^ 64 }
         ensures plays { IfOk result (λ _. PlaysOn self.old self.new) }
         ensures runs { IfOk result (λ _. self.new.kept.runs ≤ self.old.kept.runs + quantum) }
     {
-        self.type_key(key)?;
-        self.send_runs(quantum)?;
-        self.show(Event::Tick)?;
-        self.send_bytes()?;
-        Ok(())
+        let parts = round_parts(key, quantum);
+        self.play_parts(&parts)
     }
 
     /// How the run ended.

@@ -1,11 +1,15 @@
--- Runs that a session sends are Runs that its machine is sent.
-use Rattle.std.proofs.Common.{◌≡◌, ℕ, ◌<◌, ◌≤◌, inl, inr, arith, List, length, Option, None, Some}
-use Rattle.kernel_spec.specs.runs.Run.{Event, Outcome}
+-- Runs and Sends that a session sends are those that its machine is sent.
+use Rattle.std.proofs.Common.{◌≡◌, ◌∙◌, ℕ, ◌<◌, ◌≤◌, inl, inr, sym, ap, subst, arith, List, [], ◌∷◌, length, Option, None, Some}
+use Rattle.kernel_spec.specs.runs.Run.{Event, Send, Outcome, Sent, first_sent}
 use Rattle.kernel_spec.specs.views.Words.{or_zero}
-use Rattle.xv_machine.specs.Drives.{Ran, AreRuns}
+use Rattle.xv_machine.specs.Drives.{Goes, Ran, AreRuns, SendsMade}
+use Rattle.xv_machine.specs.Meaning.{Meaning}
+use Rattle.xv_machine.specs.Reached.{IsEvent}
+use Rattle.xv_machine.proofs.Joins.{goes-one}
 use Rattle.xv_session.specs.Steps.{RunsMade, AreRunsTo}
 use Rattle.xv_session.specs.declared.running.Running.{Running}
 use Rattle.xv_session.proofs.RunsCounted.{count-sent, runs-count}
+use Rattle.reported_run.specs.Runs.{byte_sent}
 
 abbrev Steps : Type 0
 Steps = List (Event × Outcome)
@@ -34,3 +38,16 @@ module _ (most sent : ℕ) (last : Option Outcome) (old new : Running) (made : R
 
   pub some : 0 < most → 0 < sent
   some more = let all = (runs-count most (or_zero old.machine.world.turns.current) last made.list made.runs_are).1 more in omega (arith, all, count)
+
+-- ---- Sends
+
+pub send-made : (o : Outcome) (byte : Option ℕ) (old new : Meaning) → IsEvent old Send o new → byte ≡ byte_sent o → SendsMade 1 byte old new
+send-made o byte old new event is =
+    let b = first_sent old.world.state.console.to_send in
+    let sent : o ≡ Sent b = event.promised.0.0 in
+    let same : o ≡ Sent byte = sent ∙ ap Sent (sym (is ∙ ap byte_sent sent)) in
+    record {
+      idle = 0;
+      goes = subst (λ (x : Outcome). Goes old ((Send, x) ∷ []) new) same (goes-one Send o old new event.promised event.notes event.room event.frames event.sound);
+      count = omega arith;
+    }

@@ -1,16 +1,22 @@
 -- What a run of the program comes to, by its exit status. It is what a run of `xv_run` comes to, but for the host's memory, which may run out.
-use Rattle.std.specs.Prelude.{◌≡◌, ◌≢◌, ℕ, List, Result, Ok, MatchResult}
+use Rattle.std.specs.Prelude.{◌≡◌, ◌≢◌, ℕ, List, Option, None, Ok}
 use Rattle.kernel_spec.specs.runs.First.{first}
+use Rattle.kernel_spec.specs.runs.Run.{Outcome, Step_of, Turn, Idle, Ticked, Typed, Sent, Halted}
 use Rattle.kernel_spec.specs.views.State.{ProgramFile}
 use Rattle.program_files.specs.Statuses.{Devices, Tells}
 use Rattle.xv_machine.specs.declared.driving.RunPlan.{RunPlan}
 use Rattle.xv_machine.specs.declared.machine.Config.{Config}
-use Rattle.xv_machine.specs.Devices.{one_more}
 use Rattle.xv_machine.specs.Meaning.{Meaning}
 
--- one more call failed, or none did
-abbrev pub FailsSo : {E : Type 0} → Result (Unit {0}) E → (before after : ℕ) → Type 0
-FailsSo written before after = MatchResult written (λ _. after ≡ before) (λ _. after ≡ one_more before)
+-- the byte that was sent, if this came of Send
+abbrev pub byte_sent : Outcome → Option ℕ
+byte_sent (Step_of p answer) = None
+byte_sent (Turn p) = None
+byte_sent Idle = None
+byte_sent Ticked = None
+byte_sent (Typed echo) = None
+byte_sent (Sent byte) = byte
+byte_sent Halted = None
 
 -- What the exit status says of these programs: any but 2 that a machine in their first world was driven, and what Tells says. 2 stands for a boot that is refused, and for a host that is out of memory
 abbrev pub Says : (status : ℕ) (config : Config) (plan : RunPlan) (programs : List ProgramFile) (before after : Devices) → Type 0

@@ -60,7 +60,7 @@ fn run(rt: &HostRuntime, settings: &Settings, known: KnownPrograms) -> u8 {
     };
     let mut keys = Counted::new(rt.stdin());
     let mut sink = Counted::new(rt.stdout());
-    let mut teller = Teller::new(rt.alloc(), rt.stderr(), known.sources, settings.telling);
+    let teller = Teller::new(rt.alloc(), rt.stderr(), known.sources, settings.telling);
     run_with(
         rt.alloc(),
         config,
@@ -68,7 +68,7 @@ fn run(rt: &HostRuntime, settings: &Settings, known: KnownPrograms) -> u8 {
         known.programs,
         &mut keys,
         &mut sink,
-        &mut teller,
+        teller,
     )
 }
 

@@ -1,205 +1,75 @@
-//! A machine, driven in rounds as `drive` of `xv_machine` does, by the calls of a session: so each outcome that is no
-//! done instruction is told.
-ghost use Rattle.std.specs.Prelude.{◌≡◌, ◌≢◌, ◌∷◌, [], false, if◌then◌else◌, OnOk, OnErr, IfOk, IfErr, replicate};
-ghost use Rattle.std.specs.Option.{option_to_list};
-ghost use Rattle.std.specs.Io.KnownBytes.{Appends};
-ghost use Rattle.kernel_spec.specs.runs.Run as runs;
-ghost use Rattle.kernel_spec.specs.runs.Rounds.{key_events, round};
-ghost use Rattle.xk_base.specs.declared.limits.TheConstants.{SEND_BYTES};
-ghost use Rattle.xv_machine.specs.Devices.{one_more, failed, Asked, Calls, OneFailed};
-ghost use Rattle.xv_machine.specs.Drives.{Done, StoppedByRead, StoppedByWrite, IsEndOf, OnRead, OnWrite, call_of};
-ghost use Rattle.xv_machine.specs.Events.{event_of};
-ghost use Rattle.xv_machine.specs.Sound.{IsSoundMachine};
-ghost use Rattle.xv_machine.specs.Stretches.{Plays, Silent, TakesKey};
-ghost use Rattle.reported_run.specs.Runs.{FailsSo};
+//! A session that plays rounds, and tells what comes of its events as they come.
+ghost use Rattle.std.specs.Prelude.{◌≡◌, IfOk, IfErr};
+ghost use Rattle.xv_machine.specs.Events.{event_of, outcome_of};
+ghost use Rattle.xv_machine.specs.Reached.{IsEvent};
+ghost use Rattle.reported_run.specs.Runs.{byte_sent};
 
 use crate::teller::{Teller, running_now};
 use std::io::Write;
-use xk_base::limits::SEND_BYTES;
-use xv_machine::{ByteSink, DeviceFault, DriveEnd, DriveError, Event, KeySource, RunPlan};
+use xv_machine::{Event, Outcome, RoundPlayer, Sends};
 use xv_session::{Session, SessionError};
 
-/// Whether all bytes were written.
-type Written = Result<(), DeviceFault>;
-
-// Writes the bytes at once, if there are any.
-fn write_some<W: ByteSink>(sink: &mut W, bytes: &[u8]) -> Written
-    ensures bytes { OnOk result (Appends (W.sink sink.old).held (W.sink sink.new).held bytes.now) }
-    ensures call { OnOk result (Calls (W.sink sink.old).calls (W.sink sink.new).calls (call_of bytes.now)) }
-    ensures failed_call { OnErr result (Calls (W.sink sink.old).calls (W.sink sink.new).calls (failed bytes.now ∷ [])) }
-    ensures some { OnErr result (bytes.now ≢ []) }
-    ensures ok { OnOk result (W.failures sink.new ≡ W.failures sink.old) }
-    ensures err { OnErr result (W.failures sink.new ≡ one_more (W.failures sink.old)) }
-{
-    if bytes.is_empty() {
-        return Ok(());
-    }
-    sink.write_out(bytes)
+/// A session, and who tells of its events.
+#[derive(Drop)]
+pub(crate) struct Watched<E> {
+    pub session: Session,
+    pub teller: Teller<E>,
 }
 
-// Sends an event other than Run, tells it, and writes what it shows.
-fn perform<W: ByteSink, E: Write>(
-    session: &mut Session,
-    event: Event,
-    sink: &mut W,
-    teller: &mut Teller<E>,
-) -> Result<Written, SessionError>
-    ensures plays { IfOk result (λ w. Plays w (event_of event ∷ []) session.old.machine session.new.machine (W.sink sink.old) (W.sink sink.new)) }
-    ensures failures { IfOk result (λ w. FailsSo w (W.failures sink.old) (W.failures sink.new)) }
+// The byte that was sent, if this came of Send.
+fn byte_of(outcome: &Outcome) -> Option<u8>
+    ensures { result ≡ byte_sent (outcome_of outcome.now) }
 {
-    let outcome = session.send(event)?;
-    teller.tell_event(session, event, &outcome);
-    Ok(write_some(sink, outcome.shown()))
-}
-
-// Types the key, if there is one.
-fn type_key<W: ByteSink, E: Write>(
-    session: &mut Session,
-    key: Option<u8>,
-    sink: &mut W,
-    teller: &mut Teller<E>,
-) -> Result<Written, SessionError>
-    requires { IsSoundMachine session.old.machine }
-    ensures plays { IfOk result (λ w. Plays w (key_events (option_to_list key)) session.old.machine session.new.machine (W.sink sink.old) (W.sink sink.new)) }
-    ensures failures { IfOk result (λ w. FailsSo w (W.failures sink.old) (W.failures sink.new)) }
-{
-    match key {
-        Some(byte) => perform(session, Event::Key(byte), sink, teller),
-        None => Ok(Ok(())),
+    match outcome {
+        Outcome::Sent(byte) => *byte,
+        _ => None,
     }
 }
 
-// Sends Run `quantum` times, which shows no byte, and tells what comes of it.
-fn run_quantum<E: Write>(
-    session: &mut Session,
-    quantum: u32,
-    teller: &mut Teller<E>,
-) -> Result<(), SessionError>
-    requires { IsSoundMachine session.old.machine }
-    ensures { IfOk result (λ _. Silent (replicate quantum runs.Run) session.old.machine session.new.machine) }
-{
-    let mut left = quantum;
-    'runs: while left > 0 {
-        let runner = running_now(session);
-        let made = session.run(left)?;
-        teller.tell_runs(session, &runner, &made);
-        left -= made.sent;
+impl<E: Write> Watched<E> {
+    // Sends an event other than Run, and tells what comes of it.
+    fn send(&mut self, event: Event) -> Result<Outcome, SessionError>
+        ensures sent { IfOk result (λ outcome. IsEvent self.old.session.machine (event_of event) (outcome_of outcome) self.new.session.machine) }
+        ensures refused { IfErr result (λ _. self.new.session.machine ≡ self.old.session.machine) }
+    {
+        let outcome = self.session.send(event)?;
+        self.teller.tell_event(&self.session, event, &outcome);
+        Ok(outcome)
     }
-    Ok(())
 }
 
-// Sends Tick, and tells it. It shows no byte.
-fn tick<E: Write>(session: &mut Session, teller: &mut Teller<E>) -> Result<(), SessionError>
-    ensures { IfOk result (λ _. Silent (runs.Tick ∷ []) session.old.machine session.new.machine) }
-{
-    let outcome = session.send(Event::Tick)?;
-    teller.tell_event(session, Event::Tick, &outcome);
-    Ok(())
-}
+/// A [`SessionError`] if the session has no room for an event: then the event isn't sent.
+impl<E: Write> RoundPlayer for Watched<E> {
+    type Refusal = SessionError;
 
-// Lets the terminal take as many bytes as may wait for it, and writes each at once.
-fn send_all<W: ByteSink, E: Write>(
-    session: &mut Session,
-    sink: &mut W,
-    teller: &mut Teller<E>,
-) -> Result<Written, SessionError>
-    requires { IsSoundMachine session.old.machine }
-    ensures plays { IfOk result (λ w. Plays w (replicate SEND_BYTES runs.Send) session.old.machine session.new.machine (W.sink sink.old) (W.sink sink.new)) }
-    ensures failures { IfOk result (λ w. FailsSo w (W.failures sink.old) (W.failures sink.new)) }
-{
-    for sent in 0..SEND_BYTES {
-        let written = perform(session, Event::Send, sink, teller)?;
-        let Ok(()) = written else {
-            return Ok(Err(DeviceFault));
-        };
+    ghost machine = { λ w. w.session.machine };
+
+    fn play_runs(&mut self, most: u32) -> Result<u32, SessionError> {
+        let runner = running_now(&self.session);
+        let made = self.session.run(most)?;
+        self.teller.tell_runs(&self.session, &runner, &made);
+        Ok(made.sent)
     }
-    Ok(Ok(()))
-}
 
-// One round.
-fn round<W: ByteSink, E: Write>(
-    session: &mut Session,
-    key: Option<u8>,
-    quantum: u32,
-    sink: &mut W,
-    teller: &mut Teller<E>,
-) -> Result<Written, SessionError>
-    requires { IsSoundMachine session.old.machine }
-    ensures plays { IfOk result (λ w. Plays w (round quantum (option_to_list key)) session.old.machine session.new.machine (W.sink sink.old) (W.sink sink.new)) }
-    ensures failures { IfOk result (λ w. FailsSo w (W.failures sink.old) (W.failures sink.new)) }
-{
-    let typed = type_key(session, key, sink, teller)?;
-    let Ok(()) = typed else {
-        return Ok(Err(DeviceFault));
-    };
-    run_quantum(session, quantum, teller)?;
-    tick(session, teller)?;
-    send_all(session, sink, teller)
-}
-
-// The next key; none if the source was at its end before.
-fn take_key<R: KeySource>(at_end: bool, keys: &mut R) -> Result<Option<u8>, DeviceFault>
-    ensures key { IfOk result (λ key. TakesKey at_end (R.source keys.old).left key (R.source keys.new).left) }
-    ensures call { Asked (R.source keys.old).asked (R.source keys.new).asked (if at_end then 0 else 1) }
-    ensures reads { OnErr result (at_end ≡ false) }
-    ensures ok { OnOk result (R.failures keys.new ≡ R.failures keys.old) }
-    ensures err { OnErr result (R.failures keys.new ≡ one_more (R.failures keys.old)) }
-{
-    if at_end {
-        return Ok(None);
+    // One at a time: each is told.
+    fn play_sends(&mut self, _most: u32) -> Result<Sends, SessionError> {
+        let outcome = self.send(Event::Send)?;
+        Ok(Sends {
+            sent: 1,
+            byte: byte_of(&outcome),
+        })
     }
-    keys.next_key()
-}
 
-// The status with which process 1 went, if it did.
-fn halted_now(session: &Session) -> Option<i32>
-    ensures status { result ≡ session.now.machine.world.turns.halted }
-    ensures sound { IsSoundMachine session.now.machine }
-{
-    session.machine().halted()
-}
-
-/// Drives a session's machine in rounds, as `drive` of `xv_machine` drives a machine: the same events are sent, the same
-/// bytes are written and the same keys are read. What comes of the events is told as it comes.
-///
-/// The inner result is that of `drive`.
-///
-/// # Errors
-///
-/// A [`SessionError`] if the session has no room for an event: the events before it are sent.
-pub(crate) fn watch<R: KeySource, W: ByteSink, E: Write>(
-    session: &mut Session,
-    plan: RunPlan,
-    keys: &mut R,
-    sink: &mut W,
-    teller: &mut Teller<E>,
-) -> Result<Result<DriveEnd, DriveError>, SessionError>
-    ensures done { IfOk result (λ end. OnOk end (Done plan (R.source keys.old) (R.source keys.new) session.old.machine session.new.machine (W.sink sink.old) (W.sink sink.new))) }
-    ensures end { IfOk result (λ end. IfOk end (λ e. IsEndOf e session.new.machine)) }
-    ensures none_failed { IfOk result (λ end. OnOk end ((R.failures keys.new ≡ R.failures keys.old) × (W.failures sink.new ≡ W.failures sink.old))) }
-    ensures read { IfOk result (λ end. IfErr end (λ e. OnRead e (StoppedByRead plan (R.source keys.old) (R.source keys.new) session.old.machine session.new.machine (W.sink sink.old) (W.sink sink.new)))) }
-    ensures read_failed { IfOk result (λ end. IfErr end (λ e. OnRead e (OneFailed (R.failures keys.old) (R.failures keys.new) (W.failures sink.old) (W.failures sink.new)))) }
-    ensures write { IfOk result (λ end. IfErr end (λ e. OnWrite e (StoppedByWrite plan (R.source keys.old) (R.source keys.new) session.old.machine session.new.machine (W.sink sink.old) (W.sink sink.new)))) }
-    ensures write_failed { IfOk result (λ end. IfErr end (λ e. OnWrite e (OneFailed (W.failures sink.old) (W.failures sink.new) (R.failures keys.old) (R.failures keys.new)))) }
-{
-    let mut at_end = false;
-    let mut halted = halted_now(session);
-    for count in 0..plan.rounds {
-        if let Some(status) = halted {
-            return Ok(Ok(DriveEnd::Halted(status)));
-        }
-        let Ok(key) = take_key(at_end, keys) else {
-            return Ok(Err(DriveError::Read));
-        };
-        at_end = key.is_none();
-        let written = round(session, key, plan.quantum, sink, teller)?;
-        let Ok(()) = written else {
-            return Ok(Err(DriveError::Write));
-        };
-        halted = halted_now(session);
+    fn play_tick(&mut self) -> Result<(), SessionError> {
+        self.send(Event::Tick)?;
+        Ok(())
     }
-    match halted {
-        Some(status) => Ok(Ok(DriveEnd::Halted(status))),
-        None => Ok(Ok(DriveEnd::RoundsOver)),
+
+    fn play_key(&mut self, byte: u8) -> Result<Outcome, SessionError> {
+        self.send(Event::Key(byte))
+    }
+
+    fn status(&self) -> Option<i32> {
+        self.session.machine().halted()
     }
 }

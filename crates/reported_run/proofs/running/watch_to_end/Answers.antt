@@ -5,7 +5,7 @@ use Rattle.program_files.proofs.Statuses.{tells}
 use Rattle.reported_run.proofs.running.watch_to_end.Goals as goal
 
 pub returns-in-Ok : goal.returns-in-Ok
-returns-in-Ok g c = λ other. rw c.say_end.ensures (tells c.args.plan c.args.session.now.machine c.watch-watched.new.session.machine
+returns-in-Ok g c = λ other. rw c.say_end.ensures (tells c.args.plan c.args.watched.now.session.machine c.play_rounds-played.new.player.session.machine
     (record {
       source = g.R.KeySource.source c.args.keys.now;
       failed_reads = g.R.KeySource.failures c.args.keys.now;
@@ -13,10 +13,10 @@ returns-in-Ok g c = λ other. rw c.say_end.ensures (tells c.args.plan c.args.ses
       failed_writes = g.W.ByteSink.failures c.args.sink.now;
     })
     (record {
-      source = g.R.KeySource.source c.watch-watched.new.keys;
-      failed_reads = g.R.KeySource.failures c.watch-watched.new.keys;
-      sink = g.W.ByteSink.sink c.watch-watched.new.sink;
-      failed_writes = g.W.ByteSink.failures c.watch-watched.new.sink;
+      source = g.R.KeySource.source c.play_rounds-played.new.keys;
+      failed_reads = g.R.KeySource.failures c.play_rounds-played.new.keys;
+      sink = g.W.ByteSink.sink c.play_rounds-played.new.sink;
+      failed_writes = g.W.ByteSink.failures c.play_rounds-played.new.sink;
     })
     c.in-Ok.end c.in-Ok.ensures.done c.in-Ok.ensures.end c.in-Ok.ensures.read_failed c.in-Ok.ensures.write_failed)
 
