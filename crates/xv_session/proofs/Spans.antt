@@ -1,5 +1,5 @@
 -- The events of spans, from the first on.
-use Rattle.std.proofs.Common.{◌≡◌, ℕ, zero, suc, ◌+◌, ◌-◌, ◌<◌, ◌≤◌, List, [], ◌∷◌, ◌++◌, length, map, take}
+use Rattle.std.proofs.Common.{◌≡◌, ℕ, zero, suc, ◌+◌, ◌-◌, ◌<◌, ◌≤◌, List, [], ◌∷◌, ◌++◌, length, take}
 use Rattle.std.proofs.Common.{drop, get_or, replicate, min, None, Some, inl, inr, refl, sym, ap, ◌∙◌, subst, arith}
 use Rattle.std.specs.Prelude.{slice_get}
 use Rattle.std.proofs.lemmas.Bool.{cases_lt}
@@ -10,7 +10,6 @@ use Rattle.kernel_spec.specs.runs.Run.{Event}
 use Rattle.xv_machine.specs.Events.{event_of}
 use Rattle.xv_machine.proofs.Kept.{drop-none}
 use Rattle.xv_session.specs.declared.history.Span.{Span}
-use Rattle.xv_session.specs.Answers.{events_in}
 use Rattle.xv_session.specs.Spans.{span_events, all_events, Kept, kept}
 
 -- ---- the first elements of two lists
@@ -140,33 +139,6 @@ from-last over last at before place count all is counted inside =
           (ap (λ (es : List Event). take (last.count - before) (drop (before + length xs) (xs ++ es))) (sym (append-nil (span_events last)))
           ∙ from-middle xs [] last.count before (event_of last.event) (omega (arith, few))),
     )
-
--- ---- spans, one by one
-
-abbrev pub pair : Span → Event × ℕ
-pair s = (event_of s.event, s.count)
-
-pub same-events : (spans : List Span) → events_in (map pair spans) ≡ all_events spans
-same-events [] = refl
-same-events (s ∷ spans) = ap (λ (es : List Event). span_events s ++ es) (same-events spans)
-
-pub kept-spans : (over : List Span) (last : Span) → events_in (map pair (over ++ last ∷ [])) ≡ (kept over last).events
-kept-spans over last = same-events (over ++ last ∷ []) ∙ sym (append-nil (all_events (over ++ last ∷ []))) ∙ over-now over last
-
-pub span-past : (over : List Span) (last : Span) (place : ℕ) → length over < place → None ≡ slice_get (map pair (over ++ last ∷ [])) place
-span-past [] last zero lt = absurd (omega (arith, lt))
-span-past [] last (suc place) lt = refl
-span-past (s ∷ over) last zero lt = absurd (omega (arith, lt))
-span-past (s ∷ over) last (suc place) lt = span-past over last place (omega (arith, lt))
-
-pub span-last : (over : List Span) (last : Span) → Some (pair last) ≡ slice_get (map pair (over ++ last ∷ [])) (length over)
-span-last [] last = refl
-span-last (s ∷ over) last = span-last over last
-
-pub span-at : (over : List Span) (last : Span) (place : ℕ) (d : Span) → place < length over → Some (pair (get_or over place d)) ≡ slice_get (map pair (over ++ last ∷ [])) place
-span-at [] last place d lt = absurd (omega (arith, lt))
-span-at (s ∷ over) last zero d lt = refl
-span-at (s ∷ over) last (suc place) d lt = span-at over last place d (omega (arith, lt))
 
 -- ---- the event at a place
 

@@ -1,5 +1,5 @@
 -- What the calls of a session answer, and what they leave.
-use Rattle.std.specs.Prelude.{◌≡◌, ℕ, ◌<◌, ◌≤◌, Bool, List, [], ◌∷◌, ◌++◌, take, drop, length, replicate, flat_map, slice_get, Option, None, Some, Result, Ok, Err}
+use Rattle.std.specs.Prelude.{◌≡◌, ℕ, ◌<◌, ◌≤◌, Bool, List, [], ◌∷◌, ◌++◌, take, drop, length, replicate, Option, None, Some, Result, Ok, Err}
 use Rattle.xk_base.specs.declared.errors.BootError.{BootError}
 use Rattle.kernel_spec.specs.views.State.{ProgramFile}
 use Rattle.kernel_spec.specs.runs.Run.{Event, Run, Outcome}
@@ -10,6 +10,9 @@ use Rattle.xv_session.specs.Steps.{Advances, RunsMade}
 use Rattle.xv_session.specs.Until.{Searched}
 use Rattle.xv_session.specs.declared.names.Named.{Named}
 use Rattle.xv_session.specs.declared.until.Condition.{Condition}
+use Rattle.xv_session.specs.declared.history.TheConstants.{EVENTS_MAX}
+use Rattle.xv_session.specs.declared.session.SessionError.{SessionError}
+use Rattle.xv_session.specs.declared.session.SessionError.TheVariants.{Memory, Full}
 
 -- the machine of a session, where there is one
 abbrev pub machine_of : Result Recorded BootError → Result Meaning BootError
@@ -49,10 +52,7 @@ abbrev pub AreEqualFrom : List Event → (place : ℕ) → Option (Event × ℕ)
 AreEqualFrom list place None = length list ≤ place
 AreEqualFrom list place (Some (e, count)) = (0 < count) × (take count (drop place list) ≡ replicate count e)
 
--- a span of events: one event, and how many of it, one behind another
-abbrev pub events_in : List (Event × ℕ) → List Event
-events_in spans = flat_map (λ (s : Event × ℕ). replicate s.1 s.0) spans
-
--- the events are spans, one behind another, and this is the one at a place among them; none where there are fewer spans
-abbrev pub IsSpanOf : List Event → (place : ℕ) → Option (Event × ℕ) → Type 0
-IsSpanOf list place answer = (spans : List (Event × ℕ)) × (events_in spans ≡ list) × (answer ≡ slice_get spans place)
+-- Why no event is taken: the host has too little memory, of which nothing is said here; or the session keeps all that it may
+abbrev pub IsReason : SessionError → (kept : ℕ) → Type 0
+IsReason Memory kept = Unit {0}
+IsReason Full kept = EVENTS_MAX ≤ kept

@@ -1,7 +1,8 @@
 //! The events of a run, kept as spans: equal events, one behind another, take the room of one.
-ghost use Rattle.std.specs.Prelude.{◌≡◌, ◌+◌, ◌<◌, ◌≤◌, ◌^◌, [], ◌++◌, replicate, length, take, OnOk, OnErr, IfOk};
+ghost use Rattle.std.specs.Prelude.{◌≡◌, ◌+◌, ◌<◌, ◌≤◌, ◌^◌, [], ◌++◌, replicate, length, take, OnOk, OnErr, IfOk, IfErr};
 ghost use Rattle.kernel_spec.specs.runs.Run as runs;
 ghost use Rattle.xv_machine.specs.Events.{event_of};
+ghost use Rattle.xv_session.specs.Answers.{IsReason};
 ghost use Rattle.xv_session.specs.Spans.{all_events, span_events};
 ghost use Rattle.xv_session.specs.declared.history.TheConstants.{EVENTS_MAX};
 
@@ -74,6 +75,7 @@ impl History {
         ensures events { self.new.events ≡ self.old.events }
         ensures next { OnOk result (self.new.next ≡ event_of event) }
         ensures few { OnOk result (length self.new.events < EVENTS_MAX) }
+        ensures reason { IfErr result (λ e. IsReason e (length self.old.events)) }
     {
         if self.count >= EVENTS_MAX {
             return Err(SessionError::Full);
@@ -100,7 +102,7 @@ impl History {
 
 impl History {
     ghost use Rattle.std.specs.Prelude.{◌≡◌, option_map};
-    ghost use Rattle.xv_session.specs.Answers.{AreEqualFrom, IsSpanOf};
+    ghost use Rattle.xv_session.specs.Answers.{AreEqualFrom};
     ghost use Rattle.xv_session.specs.Spans.{pair_of};
 
     /// The event at a place, and how many events from there on are equal to it; `None` where there are fewer.
@@ -119,21 +121,6 @@ impl History {
             before -= span.count;
         }
         Some((self.last.event, self.last.count - before))
-    }
-
-    /// The event of the span at a place, and how many there are; `None` where there are fewer spans.
-    pub fn span(&self, place: usize) -> Option<(Event, u64)>
-        ensures { IsSpanOf self.now.events place (option_map pair_of result) }
-    {
-        let over = self.over.len();
-        if place > over {
-            return None;
-        }
-        if place == over {
-            return Some((self.last.event, self.last.count));
-        }
-        let span = self.over[place];
-        Some((span.event, span.count))
     }
 }
 

@@ -87,7 +87,7 @@ impl Session {
     ghost use Rattle.xv_machine.specs.Events.{event_of, outcome_of};
     ghost use Rattle.xv_machine.specs.Sound.{IsSoundMachine};
     ghost use Rattle.xv_session.specs.Recorded.{IsPlayed, IsLed, IsRecorded};
-    ghost use Rattle.xv_session.specs.Answers.{machine_of, IsNew, Sent, RunsSent, Found, WentBack, AreEqualFrom, IsSpanOf};
+    ghost use Rattle.xv_session.specs.Answers.{machine_of, IsNew, Sent, RunsSent, Found, WentBack, AreEqualFrom, IsReason};
     ghost use Rattle.xv_session.specs.Names.{place_in, AreLive};
     ghost use Rattle.xv_session.specs.Spans.{pair_of};
 
@@ -120,6 +120,7 @@ impl Session {
     pub fn send(&mut self, event: Event) -> Result<Outcome, SessionError>
         ensures sent { IfOk result (λ o. Sent self.old (event_of event) (outcome_of o) self.new) }
         ensures refused { IfErr result (λ _. self.new ≡ self.old) }
+        ensures reason { IfErr result (λ e. IsReason e (length self.old.events)) }
     {
         self.history.make_room(event)?;
         let outcome = self.running.event(event);
@@ -135,6 +136,7 @@ impl Session {
     pub fn run(&mut self, most: u32) -> Result<Runs, SessionError>
         ensures sent { IfOk result (λ r. RunsSent most r.sent (option_map outcome_of r.last) self.old self.new) }
         ensures refused { IfErr result (λ _. self.new ≡ self.old) }
+        ensures reason { IfErr result (λ e. IsReason e (length self.old.events)) }
     {
         self.history.make_room(Event::Run)?;
         let runs = self.running.run(most);
@@ -151,6 +153,7 @@ impl Session {
     pub fn until(&mut self, most: u32, condition: Condition) -> Result<Search, SessionError>
         ensures found { IfOk result (λ s. Found condition most s.sent s.met (option_map outcome_of s.last) self.old self.new) }
         ensures refused { IfErr result (λ _. self.new ≡ self.old) }
+        ensures reason { IfErr result (λ e. IsReason e (length self.old.events)) }
     {
         self.history.make_room(Event::Run)?;
         let found = run_until(&mut self.running, most, &condition);
@@ -184,17 +187,10 @@ impl Session {
         self.history.from_on(place)
     }
 
-    /// The spans of the run, one by one: the event of the span at this place, and how many of it came one behind
-    /// another. `None` where there are fewer spans. The next span may be of an equal event, and a span may have none.
-    pub fn span(&self, place: usize) -> Option<(Event, u64)>
-        ensures { IsSpanOf self.now.events place (option_map pair_of result) }
-    {
-        self.history.span(place)
-    }
-
     /// The machine as it was after the first events, so many, booted anew, with its names.
     fn running_at(&self, alloc: Global, place: u64) -> Result<Running, SessionError>
-        ensures { IfOk result (IsLed self.now.frames self.now.trace self.now.programs (take place self.now.events)) }
+        ensures led { IfOk result (IsLed self.now.frames self.now.trace self.now.programs (take place self.now.events)) }
+        ensures memory { IfErr result (λ e. e ≡ SessionError.Memory) }
     {
         let Ok(programs) = copied(alloc, self.running.machine.programs()) else {
             return Err(SessionError::Memory);
@@ -214,7 +210,8 @@ impl Session {
     ///
     /// [`SessionError::Memory`] where the host has too little memory for a second machine.
     pub fn machine_at(&self, alloc: Global, place: u64) -> Result<Machine, SessionError>
-        ensures { IfOk result (IsPlayed self.now.frames self.now.trace self.now.programs (take place self.now.events)) }
+        ensures played { IfOk result (IsPlayed self.now.frames self.now.trace self.now.programs (take place self.now.events)) }
+        ensures memory { IfErr result (λ e. e ≡ SessionError.Memory) }
     {
         let Running { machine, names: _ } = self.running_at(alloc, place)?;
         Ok(machine)
@@ -229,6 +226,7 @@ impl Session {
     pub fn back_to(&mut self, alloc: Global, place: u64) -> Result<(), SessionError>
         ensures back { IfOk result (λ _. WentBack place self.old self.new) }
         ensures refused { IfErr result (λ _. self.new ≡ self.old) }
+        ensures memory { IfErr result (λ e. e ≡ SessionError.Memory) }
         ensures recorded { IsRecorded self.new }
     {
         let running = self.running_at(alloc, place)?;

@@ -12,7 +12,7 @@ pub invariant_of-self : goal.invariant_of-self
 invariant_of-self c =
     let n = c.in_ok-running.running in
     recorded-back (recorded c.self.inside) c.args.place c.cut.new.self.events n
-    (subst (λ (r : Recorded). IsLed r.frames r.trace r.programs (take c.args.place r.events) n) (sym c.self.view_is) c.in_ok-running.ensures) c.cut.ensures
+    (subst (λ (r : Recorded). IsLed r.frames r.trace r.programs (take c.args.place r.events) n) (sym c.self.view_is) c.in_ok-running.ensures.led) c.cut.ensures
 
 pub returns-clause-back : goal.returns-clause-back
 returns-clause-back c =
@@ -27,10 +27,10 @@ returns-clause-back c =
       names = n.names;
     } ≡ stands r (take c.args.place r.events) n.machine n.names) c.self.view_is
     (stands-back s c.args.place c.cut.new.self.events n
-    (subst (λ (r : Recorded). IsLed r.frames r.trace r.programs (take c.args.place r.events) n) (sym c.self.view_is) c.in_ok-running.ensures) c.cut.ensures)
+    (subst (λ (r : Recorded). IsLed r.frames r.trace r.programs (take c.args.place r.events) n) (sym c.self.view_is) c.in_ok-running.ensures.led) c.cut.ensures)
 
 pub returns-clause-recorded : goal.returns-clause-recorded
 returns-clause-recorded c =
     let n = c.in_ok-running.running in
     recorded-back (recorded c.self.inside) c.args.place c.cut.new.self.events n
-    (subst (λ (r : Recorded). IsLed r.frames r.trace r.programs (take c.args.place r.events) n) (sym c.self.view_is) c.in_ok-running.ensures) c.cut.ensures
+    (subst (λ (r : Recorded). IsLed r.frames r.trace r.programs (take c.args.place r.events) n) (sym c.self.view_is) c.in_ok-running.ensures.led) c.cut.ensures

@@ -20,8 +20,8 @@ play-requires c =
     anew-sound f t ps r (subst (λ (m : Meaning). Boots f (Ok m) (first f t ps)) same c.in-Ok-boot.ensures.boots) (subst (λ (m : Meaning). IsSoundMachine m) same c.in-Ok-boot.ensures.sound)
     (subst (λ (m : Meaning). HasEmptyTrace t m) same c.in-Ok-boot.ensures.trace) (c.new-running.ensures.names ∙ ap (λ (m : Meaning). first_names m.world.state.programs) same)
 
-pub returns : goal.returns
-returns c =
+pub returns-clause-led : goal.returns-clause-led
+returns-clause-led c =
     let s = c.self.inside in
     let n = c.play.new.running in
     let f = s.config.frames in
