@@ -1,7 +1,13 @@
 pub mod Conversed
+pub mod HeldEnds
+pub mod Looking
 pub mod PipeBytes
-pub mod Results
-pub mod Searching
 pub mod Played
 pub mod Reached
+pub mod Results
+pub mod Searching
 pub mod Stretched
+pub mod ToldOutput
+pub mod ToldPipes
+pub mod ToldProcesses
+mod WorkedAnswers

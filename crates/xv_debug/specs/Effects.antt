@@ -17,7 +17,7 @@ use Rattle.debug_words.specs.Ranges.{IsInRange}
 use Rattle.xv_debug.specs.motion.Aims.{aim_in}
 use Rattle.xv_debug.specs.motion.Effects.{AddsRuns}
 use Rattle.xv_debug.specs.motion.Ran.{Ran}
-use Rattle.xv_debug.specs.motion.Reaching.{Reaches, IsRefusal, meets_aim}
+use Rattle.xv_debug.specs.motion.Reaching.{Reaches, IsRefusal, IsRefusedBy, meets_aim}
 use Rattle.xv_debug.specs.motion.Resting.{RestsIf}
 use Rattle.xv_debug.specs.motion.Rounds.{RoundsLeave}
 use Rattle.xv_debug.specs.motion.Sent.{Sends}
@@ -53,6 +53,7 @@ pub record Steps (count : ℕ) (old new : Recorded) : Type 0 where
   pub all : stop ≡ Done → sent ≡ count
   pub unmet : stop ≢ Met
   pub rests : RestsIf stop new.machine.world
+  pub reason : IsRefusedBy stop new
 
 -- Runs were sent up to the first that is what is waited for; or fewer than that, where nobody may run, the session keeps no more events, or all that a word may send were sent
 pub record Searches (test : Meaning → Outcome → Meaning → Bool) (old new : Recorded) : Type 0 where
@@ -64,6 +65,7 @@ pub record Searches (test : Meaning → Outcome → Meaning → Bool) (old new :
   pub all : stop ≡ Done → sent ≡ EVENTS_MOST
   pub reaches : Reaches test stop sent last (running_of old) (running_of new)
   pub rests : RestsIf stop new.machine.world
+  pub reason : IsRefusedBy stop new
 
 -- up to this condition; where there is none, all stays
 abbrev pub SearchesFor : Option Condition → Recorded → Recorded → Type 0
@@ -87,6 +89,7 @@ pub record SendsFirst (wanted : ℕ → List Event) (all : ℕ) (old new : Recor
   pub within : sent ≤ all
   pub whole : stop ≡ Done → sent ≡ all
   pub refused : IsRefusal stop
+  pub reason : IsRefusedBy stop new
 
 -- Rounds were played
 pub record Plays (most : ℕ) (old new : Recorded) : Type 0 where

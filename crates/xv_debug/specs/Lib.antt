@@ -1,6 +1,14 @@
+pub mod AnswerText
 pub mod Conversations
 pub mod Effects
 pub mod Focus
 pub mod Instructions
-pub mod Pipes
+pub mod LookText
 pub mod motion
+pub mod OutcomeText
+pub mod OutputText
+pub mod Pipes
+pub mod PipeText
+pub mod ProcessText
+pub mod StopText
+pub mod WhereText

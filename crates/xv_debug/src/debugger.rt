@@ -1,6 +1,7 @@
 //! The debugger: a line goes in, its answer comes out.
-ghost use Rattle.std.specs.Prelude.{◌≡◌};
+ghost use Rattle.std.specs.Prelude.{◌≡◌, ◌++◌, OnOk, string_bytes};
 ghost use Rattle.xv_debug.specs.Effects.{next_of};
+ghost use Rattle.xv_debug.specs.WhereText.{nobody};
 
 use crate::focus::{last_seen, running_or};
 use crate::motion::{self, Journey, Output, Round};
@@ -62,19 +63,38 @@ fn next_of(word: &Word) -> Next
     }
 }
 
+/// Writes that there is no process.
+fn show_nobody(answer: &mut String) -> Result<(), AllocError>
+    ensures { OnOk result (string_bytes answer.new ≡ string_bytes answer.old ++ nobody) }
+{
+    answer.push_str("there is no process\n")
+}
+
 impl Debugger {
-    ghost use Rattle.std.specs.Prelude.{◌≡◌, ◌⊎◌, IfOk, IfErr, length, map, option_map, replicate, take};
+    ghost use Rattle.std.specs.Prelude.{◌≡◌, ◌⊎◌, [], IfOk, IfErr, OnOk, length, map, option_map, replicate, string_bytes, take, unwrap_or};
     ghost use Rattle.kernel_spec.specs.runs.Run as runs;
     ghost use Rattle.xv_machine.specs.Events.{event_of, outcome_of};
     ghost use Rattle.xv_debug.specs.motion.Aims.{aim_in};
     ghost use Rattle.xv_debug.specs.motion.Reaching.{meets_aim};
+    ghost use Rattle.debug_views.specs.DescriptorText.{descriptors_shown};
+    ghost use Rattle.debug_views.specs.MemoryText.{memory_shown};
+    ghost use Rattle.debug_views.specs.PagesText.{IsPagesText};
+    ghost use Rattle.debug_views.specs.RegisterText.{registers_shown};
+    ghost use Rattle.debug_views.specs.Written.{Writes};
+    ghost use Rattle.xv_debug.specs.AnswerText.{Answers, BackTells, ConditionTells, GoalTells, IsBackText};
+    ghost use Rattle.xv_debug.specs.AnswerText.{IsSentText, RoundsTell, SearchTells, SendsTell, StepTells};
     ghost use Rattle.xv_debug.specs.Effects.{Does, DoesOrStays, DoesSome, GoesBack, IsConditionOf, Obeys, Plays, Searches, SearchesFor, SearchesGoal, SendsFirst, Steps, next_of};
-    ghost use Rattle.xv_debug.specs.Focus.{IsFocus, last_seen};
+    ghost use Rattle.xv_debug.specs.Focus.{IsFocus};
+    ghost use Rattle.xv_debug.specs.LookText.{IsOfFocus, Shows};
+    ghost use Rattle.xv_debug.specs.OutputText.{output_text};
+    ghost use Rattle.xv_debug.specs.WhereText.{IsWhereOf};
 
     /// A debugger that has seen nothing. The names of functions come from the programs' own symbols, and no line is
     /// known.
     pub fn new() -> Debugger
-        ensures { result.last ≡ None }
+        ensures last { result.last ≡ None }
+        ensures shown { result.shown ≡ 0 }
+        ensures sources { result.sources ≡ None }
     {
         Debugger {
             last: None,
@@ -86,6 +106,7 @@ impl Debugger {
     /// A debugger that has seen nothing, and knows this of the programs' sources.
     pub fn with_sources(sources: Sources) -> Debugger
         ensures last { result.last ≡ None }
+        ensures shown { result.shown ≡ 0 }
         ensures sources { result.sources ≡ Some sources }
     {
         Debugger {
@@ -98,13 +119,18 @@ impl Debugger {
     /// Writes where the run is, what the process does that a word looks at, and so many instructions from its pc on.
     fn show_focus(
         &self,
+        alloc: Global,
         session: &Session,
         named: Option<Pid>,
         count: u32,
         answer: &mut String,
-    ) -> Result<(), AllocError> {
+    ) -> Result<(), AllocError>
+        ensures { OnOk result
+            (Writes (string_bytes answer.old) (string_bytes answer.new)
+            (IsWhereOf self.now.last session.now named)) }
+    {
         let focus = self.focus(session, named);
-        show_where(session, self.sources.as_ref(), focus, count, answer)
+        show_where(alloc, session, self.sources.as_ref(), focus, count, answer)
     }
 
     /// The process that a word looks at: the one that it names; else the one that runs; else the one that made the
@@ -156,6 +182,9 @@ impl Debugger {
     ) -> Result<Next, AllocError>
         ensures done { IfOk result (λ _. Does self.old.last word.now session.old session.new) }
         ensures next { IfOk result (λ next. next ≡ next_of word.now) }
+        ensures told { OnOk result
+            (Answers self.old.last self.new.last self.old.shown word.now session.old session.new
+            (string_bytes answer.old) (string_bytes answer.new)) }
         ensures failed { IfErr result (λ _. DoesOrStays self.old.last word.now session.old session.new) }
     {
         self.act(alloc, session, word, answer)?;
@@ -171,13 +200,16 @@ impl Debugger {
         answer: &mut String,
     ) -> Result<(), AllocError>
         ensures done { IfOk result (λ _. Does self.old.last word.now session.old session.new) }
+        ensures told { OnOk result
+            (Answers self.old.last self.new.last self.old.shown word.now session.old session.new
+            (string_bytes answer.old) (string_bytes answer.new)) }
         ensures failed { IfErr result (λ _. DoesOrStays self.old.last word.now session.old session.new) }
     {
         match word {
             Word::Back { count } => self.go_back(alloc, session, *count, answer),
-            Word::Step { count } => self.step(session, word, *count, answer),
-            Word::Next => self.next(session, word, answer),
-            Word::Until(goal) => self.seek(session, word, goal, answer),
+            Word::Step { count } => self.step(alloc, session, word, *count, answer),
+            Word::Next => self.next(alloc, session, word, answer),
+            Word::Until(goal) => self.seek(alloc, session, word, goal, answer),
             Word::Run { rounds } => self.play(alloc, session, word, *rounds, answer),
             Word::Tick { count } => self.send_often(
                 alloc,
@@ -223,10 +255,13 @@ impl Debugger {
         count: u64,
         answer: &mut String,
     ) -> Result<(), AllocError>
-        ensures { GoesBack count session.old session.new }
+        ensures done { GoesBack count session.old session.new }
+        ensures told { OnOk result
+            (BackTells self.now.last count session.old session.new
+            (string_bytes answer.old) (string_bytes answer.new)) }
     {
         match motion::go_back(alloc, session, count) {
-            Ok(taken) => self.tell_back(session, taken, answer),
+            Ok(taken) => self.tell_back(alloc, session, taken, answer),
             Err(error) => show_refusal(&error, answer),
         }
     }
@@ -234,71 +269,92 @@ impl Debugger {
     /// Tells that it went back by so many events, and where that is.
     fn tell_back(
         &self,
+        alloc: Global,
         session: &Session,
         taken: u64,
         answer: &mut String,
-    ) -> Result<(), AllocError> {
+    ) -> Result<(), AllocError>
+        ensures { OnOk result
+            (Writes (string_bytes answer.old) (string_bytes answer.new)
+            (IsBackText self.now.last session.now taken)) }
+    {
         let many = Many(taken, "event");
         writeln!(answer, "{many} back")?;
-        self.show_focus(session, None, 1, answer)
+        self.show_focus(alloc, session, None, 1, answer)
     }
 
     /// Sends so many Runs, and tells what came of them.
     fn step(
         &mut self,
+        alloc: Global,
         session: &mut Session,
         word: &Word,
         count: u32,
         answer: &mut String,
     ) -> Result<(), AllocError>
-        ensures { Steps count session.old session.new }
+        ensures done { Steps count session.old session.new }
+        ensures told { OnOk result
+            (StepTells self.old.last self.new.last word.now count session.old session.new
+            (string_bytes answer.old) (string_bytes answer.new)) }
     {
         let journey = motion::step(session, count);
-        self.tell(session, word, &journey, answer)
+        self.tell(alloc, session, word, &journey, answer)
     }
 
     /// Sends Runs up to the end of an instruction, and of the call that it makes.
     fn next(
         &mut self,
+        alloc: Global,
         session: &mut Session,
         word: &Word,
         answer: &mut String,
     ) -> Result<(), AllocError>
-        ensures { Searches (meets_aim (aim_in session.old.machine.world)) session.old session.new }
+        ensures done { Searches (meets_aim (aim_in session.old.machine.world)) session.old session.new }
+        ensures told { OnOk result
+            (SearchTells self.old.last self.new.last word.now (meets_aim (aim_in session.old.machine.world))
+            session.old session.new (string_bytes answer.old) (string_bytes answer.new)) }
     {
         let journey = motion::next(session, EVENTS_MOST);
-        self.tell(session, word, &journey, answer)
+        self.tell(alloc, session, word, &journey, answer)
     }
 
     /// Sends Runs up to a goal.
     fn seek(
         &mut self,
+        alloc: Global,
         session: &mut Session,
         word: &Word,
         goal: &Goal,
         answer: &mut String,
     ) -> Result<(), AllocError>
-        ensures { SearchesGoal self.old.last goal.now session.old session.new }
+        ensures done { SearchesGoal self.old.last goal.now session.old session.new }
+        ensures told { OnOk result
+            (GoalTells self.old.last self.new.last word.now goal.now session.old session.new
+            (string_bytes answer.old) (string_bytes answer.new)) }
     {
         let condition = self.condition(session, goal);
-        self.search(session, word, condition, answer)
+        self.search(alloc, session, word, condition, answer)
     }
 
     /// Sends Runs up to a condition; none where there is none, since it is asked of a process that isn't there.
     fn search(
         &mut self,
+        alloc: Global,
         session: &mut Session,
         word: &Word,
         condition: Option<Condition>,
         answer: &mut String,
     ) -> Result<(), AllocError>
-        ensures { SearchesFor condition session.old session.new }
+        ensures done { SearchesFor condition session.old session.new }
+        ensures told { OnOk result
+            (ConditionTells self.old.last self.new.last word.now condition session.old session.new
+            (string_bytes answer.old) (string_bytes answer.new)) }
     {
         let Some(condition) = condition else {
-            return writeln!(answer, "there is no process");
+            return show_nobody(answer);
         };
         let journey = motion::until(session, EVENTS_MOST, &condition);
-        self.tell(session, word, &journey, answer)
+        self.tell(alloc, session, word, &journey, answer)
     }
 
     /// Plays rounds, and tells what came of them.
@@ -311,11 +367,14 @@ impl Debugger {
         answer: &mut String,
     ) -> Result<(), AllocError>
         ensures done { IfOk result (λ _. Plays rounds session.old session.new) }
+        ensures told { OnOk result
+            (RoundsTell self.old.last self.new.last word.now rounds session.old session.new
+            (string_bytes answer.old) (string_bytes answer.new)) }
         ensures failed { IfErr result (λ _. (session.new ≡ session.old) ⊎ Plays rounds session.old session.new) }
     {
         let mut output = Output::new(alloc)?;
         let journey = motion::play_rounds(session, &ROUND, rounds, &mut output);
-        self.tell_shown(session, word, &journey, &output, answer)
+        self.tell_shown(alloc, session, word, &journey, &output, answer)
     }
 
     /// Sends an event so many times, and tells what came of it.
@@ -329,11 +388,14 @@ impl Debugger {
         answer: &mut String,
     ) -> Result<(), AllocError>
         ensures done { IfOk result (λ _. SendsFirst (λ n. replicate n (event_of event)) count session.old session.new) }
+        ensures told { OnOk result
+            (SendsTell self.old.last self.new.last word.now (λ n. replicate n (event_of event)) count
+            session.old session.new (string_bytes answer.old) (string_bytes answer.new)) }
         ensures failed { IfErr result (λ _. (session.new ≡ session.old) ⊎ SendsFirst (λ n. replicate n (event_of event)) count session.old session.new) }
     {
         let mut output = Output::new(alloc)?;
         let journey = motion::send_often(session, event, count, &mut output);
-        self.tell_shown(session, word, &journey, &output, answer)
+        self.tell_shown(alloc, session, word, &journey, &output, answer)
     }
 
     /// Types keys, and tells what came of them.
@@ -346,11 +408,14 @@ impl Debugger {
         answer: &mut String,
     ) -> Result<(), AllocError>
         ensures done { IfOk result (λ _. SendsFirst (λ n. map runs.Key (take n keys.now.items)) (length keys.now.items) session.old session.new) }
+        ensures told { OnOk result
+            (SendsTell self.old.last self.new.last word.now (λ n. map runs.Key (take n keys.now.items))
+            (length keys.now.items) session.old session.new (string_bytes answer.old) (string_bytes answer.new)) }
         ensures failed { IfErr result (λ _. (session.new ≡ session.old) ⊎ SendsFirst (λ n. map runs.Key (take n keys.now.items)) (length keys.now.items) session.old session.new) }
     {
         let mut output = Output::new(alloc)?;
         let journey = motion::type_keys(session, keys.as_slice(), &mut output);
-        self.tell_shown(session, word, &journey, &output, answer)
+        self.tell_shown(alloc, session, word, &journey, &output, answer)
     }
 
     /// What a search waits for; `None` where it is asked of a process, and there is none.
@@ -372,33 +437,41 @@ impl Debugger {
     /// Writes what was sent, and who runs now.
     fn tell(
         &mut self,
+        alloc: Global,
         session: &Session,
         word: &Word,
         journey: &Journey,
         answer: &mut String,
     ) -> Result<(), AllocError>
-        ensures { self.new.last ≡ last_seen self.old.last (option_map outcome_of journey.now.last) }
+        ensures { OnOk result
+            (Writes (string_bytes answer.old) (string_bytes answer.new)
+            (IsSentText self.old.last self.new.last word.now session.now journey.now.sent journey.now.stop
+            (option_map outcome_of journey.now.last) [])) }
     {
         self.last = last_seen(self.last, &journey.last);
         show_sent(word, journey, answer)?;
-        self.show_focus(session, None, 1, answer)
+        self.show_focus(alloc, session, None, 1, answer)
     }
 
     /// Writes what was sent, what the console showed, and who runs now.
     fn tell_shown(
         &mut self,
+        alloc: Global,
         session: &Session,
         word: &Word,
         journey: &Journey,
         output: &Output,
         answer: &mut String,
     ) -> Result<(), AllocError>
-        ensures { self.new.last ≡ last_seen self.old.last (option_map outcome_of journey.now.last) }
+        ensures { OnOk result
+            (Writes (string_bytes answer.old) (string_bytes answer.new)
+            (IsSentText self.old.last self.new.last word.now session.now journey.now.sent journey.now.stop
+            (option_map outcome_of journey.now.last) (output_text output.now))) }
     {
         self.last = last_seen(self.last, &journey.last);
         show_sent(word, journey, answer)?;
         show_output(output, answer)?;
-        self.show_focus(session, None, 1, answer)
+        self.show_focus(alloc, session, None, 1, answer)
     }
 
     /// Writes what a word that looks asks for; nothing for any other word.
@@ -408,10 +481,14 @@ impl Debugger {
         session: &Session,
         word: &Word,
         answer: &mut String,
-    ) -> Result<(), AllocError> {
+    ) -> Result<(), AllocError>
+        ensures { OnOk result
+            (Shows self.old.last self.old.shown session.now word.now
+            (string_bytes answer.old) (string_bytes answer.new)) }
+    {
         match word {
-            Word::Where { pid } => self.show_focus(session, *pid, INSTRUCTIONS, answer),
-            Word::At => self.show_focus(session, None, 0, answer),
+            Word::Where { pid } => self.show_focus(alloc, session, *pid, INSTRUCTIONS, answer),
+            Word::At => self.show_focus(alloc, session, None, 0, answer),
             Word::Processes { from } => show_processes(session, *from, answer),
             Word::Frames { frame } => show_frames(alloc, session, *frame, answer),
             Word::Pipe => show_pipes(session, answer),
@@ -419,38 +496,91 @@ impl Debugger {
             Word::Events { from } => show_events(session, *from, answer),
             Word::Trace { count } => show_trace(session, *count, answer),
             Word::Help { topic } => show_help(*topic, answer),
-            _ => self.look_at(alloc, session, word, answer),
+            Word::Registers { pid } => self.show_registers_of(session, *pid, answer),
+            Word::Descriptors { pid } => self.show_descriptors_of(session, *pid, answer),
+            Word::Pages { from, pid } => self.show_pages_of(alloc, session, *pid, *from, answer),
+            Word::Memory {
+                address,
+                count,
+                pid,
+            } => self.show_memory_of(session, *pid, *address, *count, answer),
+            _ => Ok(()),
         }
     }
 
-    /// Writes what a word asks for that looks at a process.
-    fn look_at(
-        &mut self,
+    /// Writes the registers of the process that a word looks at.
+    fn show_registers_of(
+        &self,
+        session: &Session,
+        named: Option<Pid>,
+        answer: &mut String,
+    ) -> Result<(), AllocError>
+        ensures { OnOk result
+            (Writes (string_bytes answer.old) (string_bytes answer.new)
+            (IsOfFocus self.now.last session.now named (λ p text. text ≡ registers_shown session.now p))) }
+    {
+        match self.focus(session, named) {
+            Some(pid) => show_registers(session, pid, answer),
+            None => show_nobody(answer),
+        }
+    }
+
+    /// Writes the descriptors of the process that a word looks at.
+    fn show_descriptors_of(
+        &self,
+        session: &Session,
+        named: Option<Pid>,
+        answer: &mut String,
+    ) -> Result<(), AllocError>
+        ensures { OnOk result
+            (Writes (string_bytes answer.old) (string_bytes answer.new)
+            (IsOfFocus self.now.last session.now named (λ p text. text ≡ descriptors_shown session.now p))) }
+    {
+        match self.focus(session, named) {
+            Some(pid) => show_descriptors(session, pid, answer),
+            None => show_nobody(answer),
+        }
+    }
+
+    /// Writes the tables and pages of the process that a word looks at, from an address on.
+    fn show_pages_of(
+        &self,
         alloc: Global,
         session: &Session,
-        word: &Word,
+        named: Option<Pid>,
+        from: u64,
         answer: &mut String,
-    ) -> Result<(), AllocError> {
-        let named = match word {
-            Word::Registers { pid }
-            | Word::Descriptors { pid }
-            | Word::Memory { pid, .. }
-            | Word::Pages { pid, .. } => *pid,
-            _ => return Ok(()),
-        };
-        let Some(pid) = self.focus(session, named) else {
-            return writeln!(answer, "there is no process");
-        };
-        match word {
-            Word::Registers { .. } => show_registers(session, pid, answer),
-            Word::Descriptors { .. } => show_descriptors(session, pid, answer),
-            Word::Pages { from, .. } => show_pages(alloc, session, pid, *from, answer),
-            Word::Memory { address, count, .. } => {
-                let from = address.unwrap_or(self.shown);
-                self.shown = from.wrapping_add(u64::from(*count));
-                show_memory(session, pid, from, *count, answer)
-            }
-            _ => Ok(()),
+    ) -> Result<(), AllocError>
+        ensures { OnOk result
+            (Writes (string_bytes answer.old) (string_bytes answer.new)
+            (IsOfFocus self.now.last session.now named (λ p. IsPagesText session.now p from))) }
+    {
+        match self.focus(session, named) {
+            Some(pid) => show_pages(alloc, session, pid, from, answer),
+            None => show_nobody(answer),
         }
+    }
+
+    /// Writes so many bytes of the process that a word looks at, from this address on, or behind those that were shown
+    /// last.
+    fn show_memory_of(
+        &mut self,
+        session: &Session,
+        named: Option<Pid>,
+        address: Option<u64>,
+        count: u32,
+        answer: &mut String,
+    ) -> Result<(), AllocError>
+        ensures { OnOk result
+            (Writes (string_bytes answer.old) (string_bytes answer.new)
+            (IsOfFocus self.old.last session.now named
+            (λ p text. text ≡ memory_shown session.now p (unwrap_or address self.old.shown) count))) }
+    {
+        let Some(pid) = self.focus(session, named) else {
+            return show_nobody(answer);
+        };
+        let from = address.unwrap_or(self.shown);
+        self.shown = from.wrapping_add(u64::from(count));
+        show_memory(session, pid, from, count, answer)
     }
 }

@@ -1,13 +1,21 @@
 //! What came of an event, in words.
+ghost use Rattle.std.specs.Prelude.{◌≡◌, Some};
+ghost use Rattle.std.specs.Fmt.{WritesOnOk};
+ghost use Rattle.kernel_spec.specs.runs.Run.{Step_of};
+ghost use Rattle.kernel_spec.specs.steps.Own as answers;
+ghost use Rattle.xv_machine.specs.Events.{outcome_of};
+ghost use Rattle.xv_debug.specs.OutcomeText.{cause_text, echo_text, happened_text, pid_text, sent_text};
+
 use crate::calls::CallShown;
-use crate::focus::process_of;
 use debug_words::texts::Quoted;
 use std::fmt;
-use xk_base::Cause;
+use xk_base::{Cause, Pid};
 use xv_machine::Outcome;
 
 /// Why an instruction can't be done.
-fn cause_text(cause: Cause) -> &'static str {
+fn cause_text(cause: Cause) -> &'static str
+    ensures { result.now ≡ cause_text cause }
+{
     match cause {
         Cause::TargetMisaligned => "a jump to an address that is no multiple of 4",
         Cause::IllegalInstruction => "a word that is no instruction",
@@ -24,58 +32,90 @@ fn cause_text(cause: Cause) -> &'static str {
 #[derive(Clone, Copy)]
 pub(crate) struct Happened<'a>(pub &'a Outcome);
 
-/// What a call answers, behind its process.
-fn show_answer<W: fmt::Write>(number: i32, value: i64, f: &mut fmt::Formatter<W>) -> fmt::Result {
-    let call = CallShown(number);
-    write!(f, ": {call} answers {value}")
-}
-
-/// What came of an event of a process, behind its pid.
-fn show_step<W: fmt::Write>(outcome: &Outcome, f: &mut fmt::Formatter<W>) -> fmt::Result {
-    match outcome {
-        Outcome::Stepped { .. } => f.write_str(" did an instruction"),
-        Outcome::Called { number, value, .. } => show_answer(*number, *value, f),
-        Outcome::Blocked { number, .. } => {
-            let call = CallShown(*number);
-            write!(f, " sleeps in {call}")
-        }
-        Outcome::Exited { status, .. } => write!(f, " is gone, with status {status}"),
-        Outcome::Faulted { cause, .. } => {
-            let text = cause_text(*cause);
-            write!(f, " is gone by a fault: {text}")
-        }
-        Outcome::Turn { .. } => f.write_str(" has its turn"),
-        _ => Ok(()),
-    }
-}
-
-/// What came of an event of a process.
-fn show_process<W: fmt::Write>(outcome: &Outcome, f: &mut fmt::Formatter<W>) -> fmt::Result {
-    let Some(pid) = process_of(outcome) else {
-        return Ok(());
-    };
+/// That a kernel call of a process is done.
+fn show_called<W: fmt::Write>(
+    pid: Pid,
+    number: i32,
+    value: i64,
+    f: &mut fmt::Formatter<W>,
+) -> fmt::Result
+    ensures { WritesOnOk W.write_str_gives f.old result (happened_text (Step_of pid (answers.Called number value))) f.new }
+{
     let pid = pid.number();
-    write!(f, "process {pid}")?;
-    show_step(outcome, f)
+    let call = CallShown(number);
+    write!(f, "process {pid}: {call} answers {value}")
+}
+
+/// That a process sleeps in a kernel call.
+fn show_blocked<W: fmt::Write>(pid: Pid, number: i32, f: &mut fmt::Formatter<W>) -> fmt::Result
+    ensures { WritesOnOk W.write_str_gives f.old result (happened_text (Step_of pid (answers.Blocked number))) f.new }
+{
+    let pid = pid.number();
+    let call = CallShown(number);
+    write!(f, "process {pid} sleeps in {call}")
+}
+
+/// That a process is gone.
+fn show_exited<W: fmt::Write>(pid: Pid, status: i32, f: &mut fmt::Formatter<W>) -> fmt::Result
+    ensures { WritesOnOk W.write_str_gives f.old result (happened_text (Step_of pid (answers.Exited status))) f.new }
+{
+    let pid = pid.number();
+    write!(f, "process {pid} is gone, with status {status}")
+}
+
+/// That a process is gone by a fault.
+fn show_faulted<W: fmt::Write>(pid: Pid, cause: Cause, f: &mut fmt::Formatter<W>) -> fmt::Result
+    ensures { WritesOnOk W.write_str_gives f.old result (happened_text (Step_of pid (answers.Faulted cause))) f.new }
+{
+    let pid = pid.number();
+    let text = cause_text(cause);
+    write!(f, "process {pid} is gone by a fault: {text}")
+}
+
+/// That a process did an instruction, or has its turn.
+fn show_pid<W: fmt::Write>(pid: Pid, does: &str, f: &mut fmt::Formatter<W>) -> fmt::Result
+    ensures { WritesOnOk W.write_str_gives f.old result (pid_text pid does.now) f.new }
+{
+    let pid = pid.number();
+    write!(f, "process {pid}{does}")
+}
+
+/// The byte that left, if there was one.
+fn show_sent<W: fmt::Write>(byte: Option<u8>, f: &mut fmt::Formatter<W>) -> fmt::Result
+    ensures { WritesOnOk W.write_str_gives f.old result (sent_text byte) f.new }
+{
+    let Some(byte) = byte else {
+        return f.write_str("no byte waits to be sent");
+    };
+    let bytes = [byte];
+    let shown = Quoted(&bytes);
+    write!(f, "the byte {shown} is sent")
+}
+
+/// What the console showed for a key.
+fn show_echo<W: fmt::Write>(echo: &[u8], f: &mut fmt::Formatter<W>) -> fmt::Result
+    ensures { WritesOnOk W.write_str_gives f.old result (echo_text echo.now) f.new }
+{
+    let shown = Quoted(echo);
+    write!(f, "the console shows {shown}")
 }
 
 impl<'a> fmt::Display for Happened<'a> {
+    ghost output = { λ h. Some (happened_text (outcome_of h.0.now)) };
+
     fn fmt<W: fmt::Write>(&self, f: &mut fmt::Formatter<W>) -> fmt::Result {
         match self.0 {
+            Outcome::Stepped { pid } => show_pid(*pid, " did an instruction", f),
+            Outcome::Called { pid, number, value } => show_called(*pid, *number, *value, f),
+            Outcome::Blocked { pid, number } => show_blocked(*pid, *number, f),
+            Outcome::Exited { pid, status } => show_exited(*pid, *status, f),
+            Outcome::Faulted { pid, cause } => show_faulted(*pid, *cause, f),
+            Outcome::Turn { pid } => show_pid(*pid, " has its turn", f),
             Outcome::Idle => f.write_str("all processes sleep"),
             Outcome::Ticked => f.write_str("the clock counts a tick"),
-            Outcome::Typed(echo) => {
-                let shown = Quoted(echo.as_slice());
-                write!(f, "the console shows {shown}")
-            }
-            Outcome::Sent(None) => f.write_str("no byte waits to be sent"),
-            Outcome::Sent(Some(byte)) => {
-                let bytes = [*byte];
-                let shown = Quoted(&bytes);
-                write!(f, "the byte {shown} is sent")
-            }
+            Outcome::Typed(echo) => show_echo(echo.as_slice(), f),
+            Outcome::Sent(byte) => show_sent(*byte, f),
             Outcome::Halted => f.write_str("the machine has halted"),
-            other => show_process(other, f),
         }
     }
 }

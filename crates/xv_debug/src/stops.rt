@@ -1,32 +1,74 @@
 //! What a word has sent, and why no more, in words.
+ghost use Rattle.std.specs.Prelude.{◌≡◌, ◌++◌, OnOk, option_map, string_bytes};
+ghost use Rattle.xv_machine.specs.Events.{outcome_of};
+ghost use Rattle.xv_debug.specs.StopText.{done_text, last_text, met_text, not_yet, refusal_text, stop_text, told_journey};
+
 use crate::happened::Happened;
 use crate::motion::{Journey, Stop};
 use debug_words::texts::Many;
 use debug_words::{EVENTS_MOST, Word};
 use std::alloc::AllocError;
+use xv_machine::Outcome;
 use xv_session::SessionError;
 
-/// Writes why a word sent no more events.
-fn show_stop(word: &Word, stop: &Stop, answer: &mut String) -> Result<(), AllocError> {
-    match (stop, word) {
-        (Stop::Asleep, _) => writeln!(
-            answer,
-            "all processes sleep: tick moves the clock, key types"
-        ),
-        (Stop::Halted, _) => writeln!(
-            answer,
-            "the machine has halted: nothing runs any more, but back goes back"
-        ),
-        (Stop::Refused(error), _) => show_refusal(error, answer),
-        (Stop::Met, Word::Run { .. }) => writeln!(
-            answer,
-            "a process is gone by a fault: trace and back show more"
-        ),
-        (Stop::Done, Word::Until(_)) | (Stop::Done, Word::Next) => writeln!(
-            answer,
-            "it has not come yet; a word sends {EVENTS_MOST} events at most, and the same word goes on"
-        ),
+/// Writes that rounds have met what they stop at.
+fn show_met(word: &Word, answer: &mut String) -> Result<(), AllocError>
+    ensures { OnOk result (string_bytes answer.new ≡ string_bytes answer.old ++ met_text word.now) }
+{
+    match word {
+        Word::Run { .. } => {
+            answer.push_str("a process is gone by a fault: trace and back show more\n")
+        }
         _ => Ok(()),
+    }
+}
+
+/// Writes that what a word waits for hasn't come.
+fn show_not_yet(answer: &mut String) -> Result<(), AllocError>
+    ensures { OnOk result (string_bytes answer.new ≡ string_bytes answer.old ++ not_yet) }
+{
+    writeln!(
+        answer,
+        "it has not come yet; a word sends {EVENTS_MOST} events at most, and the same word goes on"
+    )
+}
+
+/// Writes what is told of a word that has sent all that it may.
+fn show_done(word: &Word, answer: &mut String) -> Result<(), AllocError>
+    ensures { OnOk result (string_bytes answer.new ≡ string_bytes answer.old ++ done_text word.now) }
+{
+    match word {
+        Word::Until(_) => show_not_yet(answer),
+        Word::Next => show_not_yet(answer),
+        _ => Ok(()),
+    }
+}
+
+/// Writes why a word sent no more events.
+fn show_stop(word: &Word, stop: &Stop, answer: &mut String) -> Result<(), AllocError>
+    ensures { OnOk result (string_bytes answer.new ≡ string_bytes answer.old ++ stop_text word.now stop.now) }
+{
+    match stop {
+        Stop::Asleep => answer.push_str("all processes sleep: tick moves the clock, key types\n"),
+        Stop::Halted => answer.push_str(
+            "the machine has halted: nothing runs any more, but back goes back\n",
+        ),
+        Stop::Refused(error) => show_refusal(error, answer),
+        Stop::Met => show_met(word, answer),
+        Stop::Done => show_done(word, answer),
+    }
+}
+
+/// Writes what came of the last event, if one was sent.
+fn show_last(last: &Option<Outcome>, answer: &mut String) -> Result<(), AllocError>
+    ensures { OnOk result (string_bytes answer.new ≡ string_bytes answer.old ++ last_text (option_map outcome_of last.now)) }
+{
+    match last {
+        Some(outcome) => {
+            let happened = Happened(outcome);
+            writeln!(answer, "; the last: {happened}")
+        }
+        None => writeln!(answer),
     }
 }
 
@@ -35,23 +77,23 @@ pub(crate) fn show_sent(
     word: &Word,
     journey: &Journey,
     answer: &mut String,
-) -> Result<(), AllocError> {
+) -> Result<(), AllocError>
+    ensures { OnOk result (string_bytes answer.new ≡ string_bytes answer.old ++ told_journey word.now journey.now) }
+{
     let sent = Many(journey.sent, "event");
     write!(answer, "{sent}")?;
-    match &journey.last {
-        Some(outcome) => {
-            let happened = Happened(outcome);
-            writeln!(answer, "; the last: {happened}")?;
-        }
-        None => writeln!(answer)?,
-    }
+    show_last(&journey.last, answer)?;
     show_stop(word, &journey.stop, answer)
 }
 
 /// Writes why the session took no more events.
-pub(crate) fn show_refusal(error: &SessionError, answer: &mut String) -> Result<(), AllocError> {
+pub(crate) fn show_refusal(error: &SessionError, answer: &mut String) -> Result<(), AllocError>
+    ensures { OnOk result (string_bytes answer.new ≡ string_bytes answer.old ++ refusal_text error.now) }
+{
     match error {
-        SessionError::Memory => writeln!(answer, "the host has too little memory for more events"),
-        SessionError::Full => writeln!(answer, "the session keeps 2^63 events, and no more"),
+        SessionError::Memory => {
+            answer.push_str("the host has too little memory for more events\n")
+        }
+        SessionError::Full => answer.push_str("the session keeps 2^63 events, and no more\n"),
     }
 }

@@ -1,4 +1,8 @@
 //! What a sleeper waits for, in a few words.
+ghost use Rattle.std.specs.Prelude.{Some};
+ghost use Rattle.std.specs.Fmt.{WritesOnOk};
+ghost use Rattle.xv_debug.specs.ProcessText.{in_pipe_text, on_text, wait_text};
+
 use std::fmt;
 use xk_base::{Fd, Frame};
 use xv_report::Wait;
@@ -13,7 +17,9 @@ fn show_on<W: fmt::Write>(
     fd: Fd,
     awaited: &str,
     f: &mut fmt::Formatter<W>,
-) -> fmt::Result {
+) -> fmt::Result
+    ensures { WritesOnOk W.write_str_gives f.old result (on_text call.now fd awaited.now) f.new }
+{
     let fd = fd.number();
     write!(f, "{call} fd {fd}, for {awaited}")
 }
@@ -25,13 +31,17 @@ fn show_in_pipe<W: fmt::Write>(
     awaited: &str,
     pipe: Frame,
     f: &mut fmt::Formatter<W>,
-) -> fmt::Result {
+) -> fmt::Result
+    ensures { WritesOnOk W.write_str_gives f.old result (in_pipe_text call.now fd awaited.now pipe) f.new }
+{
     show_on(call, fd, awaited, f)?;
     let pipe = pipe.number();
     write!(f, " in pipe {pipe}")
 }
 
 impl<'a> fmt::Display for WaitShown<'a> {
+    ghost output = { λ w. Some (wait_text w.0.now) };
+
     fn fmt<W: fmt::Write>(&self, f: &mut fmt::Formatter<W>) -> fmt::Result {
         match *self.0 {
             Wait::Until { tick } => write!(f, "sleep, until tick {tick}"),

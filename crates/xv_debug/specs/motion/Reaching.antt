@@ -1,7 +1,9 @@
 -- Runs that are sent one by one, up to the first that is what is waited for.
-use Rattle.std.specs.Prelude.{◌≡◌, ℕ, zero, suc, Bool, true, false, Option, None, Some}
+use Rattle.std.specs.Prelude.{◌≡◌, ℕ, zero, suc, length, Bool, true, false, Option, None, Some}
 use Rattle.kernel_spec.specs.runs.Run.{Run, Outcome}
 use Rattle.xv_machine.specs.Meaning.{Meaning}
+use Rattle.xv_session.specs.Answers.{IsReason}
+use Rattle.xv_session.specs.Recorded.{Recorded}
 use Rattle.xv_session.specs.Steps.{Advances}
 use Rattle.xv_session.specs.declared.running.Running.{Running}
 use Rattle.xv_debug.specs.motion.Aims.{meets}
@@ -37,3 +39,8 @@ abbrev pub IsRefusal : Stop → Type 0
 IsRefusal Done = Unit {0}
 IsRefusal (Refused error) = Unit {0}
 IsRefusal _ = ⊥
+
+-- If it stopped since the session took no more events, it was for this reason
+abbrev pub IsRefusedBy : Stop → Recorded → Type 0
+IsRefusedBy (Refused error) s = IsReason error (length s.events)
+IsRefusedBy _ s = Unit {0}

@@ -28,7 +28,8 @@ impl Output {
     ///
     /// The host has too little memory.
     pub(crate) fn new(alloc: Global) -> Result<Output, AllocError>
-        ensures { IfOk result (λ output. output.last ≡ buffer [] KEPT) }
+        ensures kept { IfOk result (λ output. output.last ≡ buffer [] KEPT) }
+        ensures none { IfOk result (λ output. output.count ≡ 0) }
     {
         let last = HeapCircularBuffer::with_capacity(alloc, KEPT)?;
         Ok(Output { last, count: 0 })

@@ -1,12 +1,12 @@
 //! Words that send Runs: up to the event that they wait for, and none where nobody may run.
-ghost use Rattle.std.specs.Prelude.{◌≡◌, ◌≢◌, ◌≤◌, IfOk, IfErr, option_map};
+ghost use Rattle.std.specs.Prelude.{◌≡◌, ◌≢◌, ◌≤◌, option_map};
 ghost use Rattle.xv_machine.specs.Events.{outcome_of};
 ghost use Rattle.xv_session.specs.Recorded.{running_of};
 ghost use Rattle.xv_session.specs.Until.{meets};
 ghost use Rattle.xv_debug.specs.motion.Aims.{aim_in};
 ghost use Rattle.xv_debug.specs.motion.Effects.{AddsRuns};
 ghost use Rattle.xv_debug.specs.motion.Ran.{Ran};
-ghost use Rattle.xv_debug.specs.motion.Reaching.{Reaches, meets_aim};
+ghost use Rattle.xv_debug.specs.motion.Reaching.{IsRefusedBy, Reaches, meets_aim};
 ghost use Rattle.xv_debug.specs.motion.Resting.{RestsIf};
 
 use crate::motion::aiming::{Aim, aim_in, is_met};
@@ -25,6 +25,7 @@ pub(crate) fn step(session: &mut Session, count: u32) -> Journey
     ensures all { result.stop ≡ Stop.Done → result.sent ≡ count }
     ensures unmet { result.stop ≢ Stop.Met }
     ensures rests { RestsIf result.stop session.new.machine.world }
+    ensures refused { IsRefusedBy result.stop session.new }
 {
     let mut sent: u32 = 0;
     let mut last = None;
@@ -53,6 +54,7 @@ pub(crate) fn next(session: &mut Session, most: u32) -> Journey
     ensures all { result.stop ≡ Stop.Done → result.sent ≡ most }
     ensures reaches { Reaches (meets_aim (aim_in session.old.machine.world)) result.stop result.sent (option_map outcome_of result.last) (running_of session.old) (running_of session.new) }
     ensures rests { RestsIf result.stop session.new.machine.world }
+    ensures refused { IsRefusedBy result.stop session.new }
 {
     let aim = aim_in(session.machine());
     run_to(session, most, &aim)
@@ -65,6 +67,7 @@ fn run_to(session: &mut Session, most: u32, aim: &Aim) -> Journey
     ensures all { result.stop ≡ Stop.Done → result.sent ≡ most }
     ensures reaches { Reaches (meets_aim aim.now) result.stop result.sent (option_map outcome_of result.last) (running_of session.old) (running_of session.new) }
     ensures rests { RestsIf result.stop session.new.machine.world }
+    ensures refused { IsRefusedBy result.stop session.new }
 {
     let mut last = None;
     for sent in 0..most {
@@ -94,6 +97,7 @@ pub(crate) fn until(session: &mut Session, most: u32, condition: &Condition) -> 
     ensures all { result.stop ≡ Stop.Done → result.sent ≡ most }
     ensures reaches { Reaches (meets condition.now) result.stop result.sent (option_map outcome_of result.last) (running_of session.old) (running_of session.new) }
     ensures rests { RestsIf result.stop session.new.machine.world }
+    ensures refused { IsRefusedBy result.stop session.new }
 {
     let mut last = None;
     for sent in 0..most {

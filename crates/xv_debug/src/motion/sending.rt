@@ -4,7 +4,7 @@ ghost use Rattle.kernel_spec.specs.runs.Run as runs;
 ghost use Rattle.xv_machine.specs.Events.{event_of, outcome_of};
 ghost use Rattle.xv_session.specs.Answers.{WentBack};
 ghost use Rattle.xv_debug.specs.motion.Sent.{Sends};
-ghost use Rattle.xv_debug.specs.motion.Reaching.{IsRefusal};
+ghost use Rattle.xv_debug.specs.motion.Reaching.{IsRefusal, IsRefusedBy};
 
 use crate::motion::journey::{Journey, Stop};
 use crate::motion::output::Output;
@@ -23,6 +23,7 @@ pub(crate) fn send_often(
     ensures within { result.sent ≤ count }
     ensures all { result.stop ≡ Stop.Done → result.sent ≡ count }
     ensures refused { IsRefusal result.stop }
+    ensures reason { IsRefusedBy result.stop session.new }
 {
     let mut last = None;
     for sent in 0..count {
@@ -45,6 +46,7 @@ pub(crate) fn type_keys(session: &mut Session, keys: &[u8], output: &mut Output)
     ensures within { result.sent ≤ length keys.now }
     ensures all { result.stop ≡ Stop.Done → result.sent ≡ length keys.now }
     ensures refused { IsRefusal result.stop }
+    ensures reason { IsRefusedBy result.stop session.new }
 {
     let mut last = None;
     for place in 0..keys.len() {
@@ -70,6 +72,7 @@ pub(crate) fn go_back(alloc: Global, session: &mut Session, count: u64) -> Resul
     ensures back { IfOk result (λ _. WentBack (length session.old.events - count) session.old session.new) }
     ensures count { IfOk result (λ taken. taken ≡ min count (length session.old.events)) }
     ensures refused { IfErr result (λ _. session.new ≡ session.old) }
+    ensures memory { IfErr result (λ e. e ≡ SessionError.Memory) }
 {
     let all = session.at();
     session.back_to(alloc, all.saturating_sub(count))?;

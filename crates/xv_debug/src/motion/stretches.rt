@@ -1,6 +1,7 @@
 //! Runs that are sent at once: instructions of the process that runs, as far as they go on.
-ghost use Rattle.std.specs.Prelude.{◌≡◌, ◌<◌, ◌≤◌, IfOk, IfErr, option_map};
+ghost use Rattle.std.specs.Prelude.{◌≡◌, ◌<◌, ◌≤◌, IfOk, IfErr, length, option_map};
 ghost use Rattle.xv_machine.specs.Events.{outcome_of};
+ghost use Rattle.xv_session.specs.Answers.{IsReason};
 ghost use Rattle.xv_debug.specs.motion.Ran.{Ran, last_of};
 
 use xk_base::Pid;
@@ -21,6 +22,7 @@ fn turn(session: &mut Session) -> Result<Stretch, SessionError>
     ensures ran { IfOk result (λ s. Ran s.sent (Some (outcome_of s.last)) session.old session.new) }
     ensures one { IfOk result (λ s. s.sent ≡ 1) }
     ensures refused { IfErr result (λ _. session.new ≡ session.old) }
+    ensures reason { IfErr result (λ e. IsReason e (length session.old.events)) }
 {
     let last = session.send(Event::Run)?;
     Ok(Stretch { sent: 1, last })
@@ -44,6 +46,7 @@ fn instructions(session: &mut Session, pid: Pid, most: u32) -> Result<Stretch, S
     ensures within { IfOk result (λ s. s.sent ≤ most) }
     ensures forth { IfOk result (λ s. 0 < s.sent) }
     ensures refused { IfErr result (λ _. session.new ≡ session.old) }
+    ensures reason { IfErr result (λ e. IsReason e (length session.old.events)) }
 {
     let runs = session.run(most)?;
     let sent = runs.sent;
@@ -62,6 +65,7 @@ pub(crate) fn send_stretch(session: &mut Session, most: u32) -> Result<Stretch, 
     ensures within { IfOk result (λ s. s.sent ≤ most) }
     ensures forth { IfOk result (λ s. 0 < s.sent) }
     ensures refused { IfErr result (λ _. session.new ≡ session.old) }
+    ensures reason { IfErr result (λ e. IsReason e (length session.old.events)) }
 {
     match session.machine().current() {
         Some(pid) => instructions(session, pid, most),

@@ -1,6 +1,11 @@
-use Rattle.std.proofs.Common.{inr}
+use Rattle.std.proofs.Common.{ℕ, inr, option_map, string_bytes, subst}
 use Rattle.xv_debug.specs.Effects.{Plays}
 use Rattle.xv_debug.proofs.Results.{if-ok, if-err}
+use Rattle.std.proofs.lemmas.Result.{on_ok_weaker}
+use Rattle.xv_machine.specs.Events.{outcome_of}
+use Rattle.debug_views.specs.Written.{Writes}
+use Rattle.xv_debug.specs.AnswerText.{IsSentText}
+use Rattle.xv_debug.specs.OutputText.{output_text}
 use Rattle.xv_debug.proofs.debugger.Debugger.play.Goals as goal
 
 pub returns-clause-done : goal.returns-clause-done
@@ -14,3 +19,20 @@ returns-clause-failed c =
     let j = c.play_rounds-journey in
     let p : Plays c.args.rounds c.args.session.now j.new.session = record { stop = j.result.stop; had = c.in_ok-output.output; has = j.new.output; leaves = j.ensures.played } in
     if-err c.tell_shown.result (inr p)
+
+pub returns-clause-told : goal.returns-clause-told
+returns-clause-told c =
+    let j = c.play_rounds-journey in
+    let new = j.new.session in
+    let o = option_map outcome_of j.result.last in
+    let p : Plays c.args.rounds c.args.session.now new = record { stop = j.result.stop; had = c.in_ok-output.output; has = j.new.output; leaves = j.ensures.played } in
+    let before = string_bytes c.args.answer.now in
+    let after = string_bytes c.tell_shown.new.answer in
+    on_ok_weaker c.tell_shown.result (λ wrote. (
+      p,
+      (c.in_ok-output.ensures.kept, c.in_ok-output.ensures.none),
+      (
+        o,
+        subst (λ (n : ℕ). Writes before after (IsSentText c.args.self.now.last c.tell_shown.new.self.last c.args.word.now new n j.result.stop o (output_text j.new.output))) j.ensures.sent wrote,
+      ),
+    )) c.tell_shown.ensures

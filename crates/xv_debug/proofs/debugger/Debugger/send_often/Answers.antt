@@ -2,6 +2,7 @@ use Rattle.std.proofs.Common.{inr, option_map, replicate}
 use Rattle.xv_machine.specs.Events.{event_of, outcome_of}
 use Rattle.xv_debug.specs.Effects.{SendsFirst}
 use Rattle.xv_debug.proofs.Results.{if-ok, if-err}
+use Rattle.std.proofs.lemmas.Result.{on_ok_weaker}
 use Rattle.xv_debug.proofs.debugger.Debugger.send_often.Goals as goal
 
 pub returns-clause-done : goal.returns-clause-done
@@ -18,6 +19,7 @@ returns-clause-done c =
       within = j.ensures.within;
       whole = j.ensures.all;
       refused = j.ensures.refused;
+      reason = j.ensures.reason;
     } in
     if-ok c.tell_shown.result p
 
@@ -35,5 +37,24 @@ returns-clause-failed c =
       within = j.ensures.within;
       whole = j.ensures.all;
       refused = j.ensures.refused;
+      reason = j.ensures.reason;
     } in
     if-err c.tell_shown.result (inr p)
+
+pub returns-clause-told : goal.returns-clause-told
+returns-clause-told c =
+    let j = c.send_often-journey in
+    let p : SendsFirst (λ n. replicate n (event_of c.args.event)) c.args.count c.args.session.now j.new.session =
+    record {
+      sent = j.result.sent;
+      stop = j.result.stop;
+      last = option_map outcome_of j.result.last;
+      had = c.in_ok-output.output;
+      has = j.new.output;
+      sends = j.ensures.sent;
+      within = j.ensures.within;
+      whole = j.ensures.all;
+      refused = j.ensures.refused;
+      reason = j.ensures.reason;
+    } in
+    on_ok_weaker c.tell_shown.result (λ wrote. (p, (c.in_ok-output.ensures.kept, c.in_ok-output.ensures.none), wrote)) c.tell_shown.ensures

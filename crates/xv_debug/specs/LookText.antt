@@ -1,0 +1,45 @@
+-- What the words that look answer.
+use Rattle.std.specs.Prelude.{◌≡◌, ℕ, unwrap_or, ⊤, List, [], ◌++◌, Option, None, Some}
+use Rattle.xv_session.specs.Recorded.{Recorded}
+use Rattle.debug_words.specs.declared.vocabulary.Word.{Word}
+use Rattle.debug_words.specs.declared.vocabulary.Word.TheVariants.{Nothing, Where, Registers, Memory, Pages, Frames, Processes, Descriptors, Pipe, Console, At, Events, Trace, Continue, Quit}
+use Rattle.debug_views.specs.ConsoleText.{console_text}
+use Rattle.debug_views.specs.DescriptorText.{descriptors_shown}
+use Rattle.debug_views.specs.EventText.{IsEventsText, no_notes}
+use Rattle.debug_views.specs.FrameText.{IsFramesText}
+use Rattle.debug_views.specs.MemoryText.{memory_shown}
+use Rattle.debug_views.specs.PagesText.{IsPagesText}
+use Rattle.debug_views.specs.RegisterText.{registers_shown}
+use Rattle.debug_views.specs.Written.{Writes}
+use Rattle.xv_debug.specs.Focus.{IsFocus}
+use Rattle.xv_debug.specs.PipeText.{IsPipesText}
+use Rattle.xv_debug.specs.ProcessText.{IsProcessesText}
+use Rattle.xv_debug.specs.WhereText.{IsWhereOf, nobody}
+
+-- of a process, if there is one
+abbrev pub IsOf : (ℕ → List ℕ → Type 0) → Option ℕ → List ℕ → Type 0
+IsOf Is None text = text ≡ nobody
+IsOf Is (Some p) text = Is p text
+
+-- of the process that a word looks at, which may name one
+abbrev pub IsOfFocus : (last : Option ℕ) → Recorded → (named : Option ℕ) → (ℕ → List ℕ → Type 0) → List ℕ → Type 0
+IsOfFocus last s named Is text = (p : Option ℕ) × IsFocus last named s.machine.world p × IsOf Is p text
+
+-- What a word writes behind an answer, if the process `last` was seen last and the memory that was shown last ends at `shown`. Of `help`, and of a trace that has notes, nothing is told here, nor of words that move the session
+abbrev pub Shows : (last : Option ℕ) → (shown : ℕ) → Recorded → Word → (old new : List ℕ) → Type 0
+Shows last shown s (Where named) old new = Writes old new (IsWhereOf last s named)
+Shows last shown s At old new = Writes old new (IsWhereOf last s None)
+Shows last shown s (Registers named) old new = Writes old new (IsOfFocus last s named (λ p text. text ≡ registers_shown s p))
+Shows last shown s (Memory address count named) old new = Writes old new (IsOfFocus last s named (λ p text. text ≡ memory_shown s p (unwrap_or address shown) count))
+Shows last shown s (Pages from named) old new = Writes old new (IsOfFocus last s named (λ p. IsPagesText s p from))
+Shows last shown s (Descriptors named) old new = Writes old new (IsOfFocus last s named (λ p text. text ≡ descriptors_shown s p))
+Shows last shown s (Frames frame) old new = Writes old new (IsFramesText s frame)
+Shows last shown s (Processes from) old new = Writes old new (IsProcessesText s from)
+Shows last shown s Pipe old new = Writes old new (IsPipesText s.machine.world)
+Shows last shown s Console old new = new ≡ old ++ console_text s.machine.world.state.console
+Shows last shown s (Events from) old new = Writes old new (IsEventsText s from)
+Shows last shown s (Trace count) old new = s.machine.notes ≡ [] → new ≡ old ++ no_notes
+Shows last shown s Nothing old new = new ≡ old
+Shows last shown s Continue old new = new ≡ old
+Shows last shown s Quit old new = new ≡ old
+Shows last shown s word old new = ⊤

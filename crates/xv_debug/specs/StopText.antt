@@ -1,0 +1,57 @@
+-- What a word has sent, and why no more, as it is told.
+use Rattle.std.specs.Prelude.{ℕ, List, [], ◌++◌, codes, decimal, Option, None, Some, option_map}
+use Rattle.kernel_spec.specs.runs.Run.{Outcome}
+use Rattle.xv_machine.specs.Events.{outcome_of}
+use Rattle.xv_session.specs.declared.session.SessionError.{SessionError}
+use Rattle.xv_session.specs.declared.session.SessionError.TheVariants.{Memory, Full}
+use Rattle.debug_words.specs.Texts.{many}
+use Rattle.debug_words.specs.declared.vocabulary.TheConstants.{EVENTS_MOST}
+use Rattle.debug_words.specs.declared.vocabulary.Word.{Word}
+use Rattle.debug_words.specs.declared.vocabulary.Word.TheVariants.{Next, Until, Run}
+use Rattle.xv_debug.specs.declared.motion.journey.Journey.{Journey}
+use Rattle.xv_debug.specs.declared.motion.journey.Stop.{Stop}
+use Rattle.xv_debug.specs.declared.motion.journey.Stop.TheVariants.{Done, Met, Asleep, Halted, Refused}
+use Rattle.xv_debug.specs.OutcomeText.{happened_text}
+
+-- why the session took no more events
+abbrev pub refusal_text : SessionError → List ℕ
+refusal_text Memory = codes "the host has too little memory for more events\n"
+refusal_text Full = codes "the session keeps 2^63 events, and no more\n"
+
+-- where the rounds of the word `run` met what they stop at
+abbrev pub met_text : Word → List ℕ
+met_text (Run rounds) = codes "a process is gone by a fault: trace and back show more\n"
+met_text _ = []
+
+-- where a word has sent all that it may, and what it waits for hasn't come
+abbrev pub not_yet : List ℕ
+not_yet = codes "it has not come yet; a word sends " ++ decimal EVENTS_MOST ++ codes " events at most, and the same word goes on\n"
+
+abbrev pub done_text : Word → List ℕ
+done_text (Until goal) = not_yet
+done_text Next = not_yet
+done_text _ = []
+
+-- why a word sent no more
+abbrev pub stop_text : Word → Stop → List ℕ
+stop_text word Asleep = codes "all processes sleep: tick moves the clock, key types\n"
+stop_text word Halted = codes "the machine has halted: nothing runs any more, but back goes back\n"
+stop_text word (Refused error) = refusal_text error
+stop_text word Met = met_text word
+stop_text word Done = done_text word
+
+abbrev pub last_text : Option Outcome → List ℕ
+last_text None = codes "\n"
+last_text (Some o) = codes "; the last: " ++ happened_text o ++ codes "\n"
+
+-- how many events a word has sent, what came of the last, and why no more
+abbrev pub journey_text : Word → (sent : ℕ) → Stop → (last : Option Outcome) → List ℕ
+journey_text word sent stop last = many sent (codes "event") ++ last_text last ++ stop_text word stop
+
+-- and so of a journey
+abbrev pub told_journey : Word → Journey → List ℕ
+told_journey word j = journey_text word j.sent j.stop (option_map outcome_of j.last)
+
+-- how many events were taken back
+abbrev pub back_text : (taken : ℕ) → List ℕ
+back_text taken = many taken (codes "event") ++ codes " back\n"
