@@ -1,7 +1,8 @@
 //! The programs of a record, by their names and checksums.
-ghost use Rattle.std.specs.Prelude.{◌≡◌, List, ℕ, length, map, IfOk, IfSome};
+ghost use Rattle.std.specs.Prelude.{◌≡◌, true, false, List, ℕ, length, map, option_copied, IfOk, IfErr, IfSome};
 ghost use Rattle.std.specs.String.{string_bytes};
 ghost use Rattle.sha2.specs.Sha256.{sha256};
+ghost use Rattle.xv_record.specs.Chosen.{AreThere, HasBytes, IsReason, IsRefused, IsThere, named};
 ghost use Rattle.xv_record.specs.Told.{IsProgramTold, program_told_of, program_told, told_program};
 
 use crate::RecordRefusal;
@@ -29,11 +30,32 @@ pub fn sum_of(bytes: &[u8]) -> [u8; 32]
 
 // The program of this name, if there is one.
 fn named<'a>(programs: &'a [Program], name: &str) -> Option<&'a Program>
-    ensures { IfSome result (λ p. p.now.name.items ≡ name.now) }
+    ensures first { option_copied result ≡ named programs.now name.now }
+    ensures same { IfSome result (λ p. p.now.name.items ≡ name.now) }
 {
     programs
         .iter()
         .find(|program| program.name.as_slice() == name.as_bytes())
+}
+
+// Whether a program has the length and the checksum that were recorded.
+fn is_recorded(program: &Program, wanted: &ProgramSum) -> bool
+    ensures same { result ≡ true → HasBytes program.now (told_program wanted.now) }
+    ensures other { result ≡ false → ¬ HasBytes program.now (told_program wanted.now) }
+{
+    if program.bytes.len() as u64 != wanted.size {
+        return false;
+    }
+    sum_of(program.bytes.as_slice()) == wanted.sum
+}
+
+// A copy of a program.
+fn copy_of(alloc: Global, program: &Program) -> Result<Program, AllocError>
+    ensures { IfOk result (λ copy. program_told copy ≡ program_told program.now) }
+{
+    let name = Vec::from_slice(alloc, program.name.as_slice())?;
+    let bytes = Vec::from_slice(alloc, program.bytes.as_slice())?;
+    Ok(Program { name, bytes })
 }
 
 // A copy of the program that was recorded so.
@@ -42,19 +64,20 @@ fn found<'a>(
     programs: &[Program],
     wanted: &'a ProgramSum,
 ) -> Result<Program, RecordRefusal<'a>>
-    ensures { IfOk result (λ p. program_told p ≡ told_program wanted.now) }
+    ensures same { IfOk result (λ p. program_told p ≡ told_program wanted.now) }
+    ensures there { IfOk result (λ _. IsThere programs.now (told_program wanted.now)) }
+    ensures reason { IfErr result (λ e. IsReason programs.now (told_program wanted.now) e) }
 {
     let Some(program) = named(programs, wanted.name.as_str()) else {
         return Err(RecordRefusal::Missing(wanted.name.as_str()));
     };
-    let size = program.bytes.len() as u64;
-    if size != wanted.size || sum_of(program.bytes.as_slice()) != wanted.sum {
+    if !is_recorded(program, wanted) {
         return Err(RecordRefusal::Differs(wanted.name.as_str()));
     }
-    Ok(Program {
-        name: Vec::from_slice(alloc, program.name.as_slice())?,
-        bytes: Vec::from_slice(alloc, program.bytes.as_slice())?,
-    })
+    let Ok(copy) = copy_of(alloc, program) else {
+        return Err(RecordRefusal::Memory);
+    };
+    Ok(copy)
 }
 
 /// Those of the programs that a record names, in its order: each has the name, the length and the checksum that were
@@ -69,11 +92,16 @@ pub fn chosen<'a>(
     programs: &[Program],
     wanted: &'a [ProgramSum],
 ) -> Result<Vec<Program>, RecordRefusal<'a>>
-    ensures { IfOk result (λ list. map program_told list.items ≡ map told_program wanted.now) }
+    ensures same { IfOk result (λ list. map program_told list.items ≡ map told_program wanted.now) }
+    ensures there { IfOk result (λ _. AreThere programs.now wanted.now) }
+    ensures refused { IfErr result (λ e. IsRefused programs.now wanted.now e) }
 {
     let mut list = Vec::new(alloc);
     for sum in wanted {
-        list.push(found(alloc, programs, sum)?)?;
+        let program = found(alloc, programs, sum)?;
+        let Ok(()) = list.push(program) else {
+            return Err(RecordRefusal::Memory);
+        };
     }
     Ok(list)
 }
