@@ -1,4 +1,5 @@
 pub mod Below
+pub mod LastPlaces
 pub mod Turning
 pub mod PlayedOn
 pub mod Sending

@@ -1,8 +1,12 @@
+pub mod Chosen
 pub mod Found
+pub mod LastHit
 pub mod PlayedBy
 pub mod Rounds
 pub mod SameRun
 pub mod Seen
+pub mod Sent
+pub mod Serving
 pub mod Settings
 pub mod Standing
 pub mod Told

@@ -1,6 +1,7 @@
 //! What there is to see at a place of a run.
 ghost use Rattle.std.specs.Prelude.{◌≡◌, Some, IfSome};
-ghost use Rattle.gdb_target.specs.Standing.{Starts, StandsAt, does_instruction};
+ghost use Rattle.gdb_target.specs.Standing.{Starts, StandsAt, begins, does_instruction, starter};
+ghost use Rattle.kernel_spec.specs.views.Words.{is_this};
 
 use crate::played::{Played, is_run};
 use crate::points::{Points, Watched};
@@ -27,16 +28,33 @@ fn does_instruction(state: &Option<ProcessState>) -> bool
     }
 }
 
+/// Whether the process does an instruction by the next event, if it runs.
+fn begins(run: &Played, pid: Pid) -> bool
+    ensures { result ≡ begins run.now pid }
+{
+    is_run(run.next().event) && does_instruction(&run.machine().process(pid))
+}
+
 /// The process that does an instruction by the next event; `None` where the next event is none of an instruction.
 pub(crate) fn starts(run: &Played) -> Option<Pid>
-    ensures { IfSome result (λ pid. Starts run.now pid) }
+    ensures starts { IfSome result (λ pid. Starts run.now pid) }
+    ensures exact { result ≡ starter run.now }
 {
-    let machine = run.machine();
-    let pid = machine.current()?;
-    if is_run(run.next().event) && does_instruction(&machine.process(pid)) {
+    let pid = run.machine().current()?;
+    if begins(run, pid) {
         return Some(pid);
     }
     None
+}
+
+/// Whether it is this process that does an instruction by the next event.
+pub(crate) fn is_starter(run: &Played, wanted: Pid) -> bool
+    ensures { result ≡ is_this wanted (starter run.now) }
+{
+    match starts(run) {
+        Some(pid) => pid.number() == wanted.number(),
+        None => false,
+    }
 }
 
 /// The process of this program that stands at a breakpoint, and does the instruction there by the next event.

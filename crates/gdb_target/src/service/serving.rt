@@ -1,4 +1,9 @@
 //! What is answered to each packet.
+ghost use Rattle.std.specs.Prelude.{◌≡◌, IfOk, OnOk};
+ghost use Rattle.gdb_packets.specs.Answers as packets;
+ghost use Rattle.gdb_target.specs.Sent.{IsAnswered, Sends, stop_told};
+ghost use Rattle.gdb_target.specs.Serving.{behind};
+
 use crate::answers::{malformed, no_such_process};
 use crate::reverse::Back;
 use crate::service::link::Link;
@@ -18,6 +23,16 @@ const READ_BYTES: usize = 512;
 enum After {
     GoesOn,
     Ends,
+}
+
+/// Whether there is more to serve after a command.
+fn behind(command: Command) -> After
+    ensures { result ≡ behind command }
+{
+    match command {
+        Command::Detach => After::Ends,
+        _ => After::GoesOn,
+    }
 }
 
 /// GDB, which is served: a machine, and the way to GDB.
@@ -105,7 +120,11 @@ impl Service {
     }
 
     /// Tells of the last stop.
-    fn tell_stop<W: Write>(&mut self, output: &mut W) -> Result<(), Failure<'static>> {
+    fn tell_stop<W: Write>(&mut self, output: &mut W) -> Result<(), Failure<'static>>
+        ensures sent { OnOk result
+            (Sends (W.contents output.old) (W.contents output.new) (stop_told self.old.target)) }
+        ensures target { self.new.target ≡ self.old.target }
+    {
         let payload = stop_reply(self.alloc, self.target.stopped.stop())?;
         self.link.send(output, payload.as_slice())
     }
@@ -125,7 +144,11 @@ impl Service {
     }
 
     /// Refuses a command that names a process that doesn't live.
-    fn refuse_process<W: Write>(&mut self, output: &mut W) -> Result<(), Failure<'static>> {
+    fn refuse_process<W: Write>(&mut self, output: &mut W) -> Result<(), Failure<'static>>
+        ensures sent { OnOk result
+            (Sends (W.contents output.old) (W.contents output.new) (packets.refusal 3)) }
+        ensures target { self.new.target ≡ self.old.target }
+    {
         let payload = no_such_process(self.alloc)?;
         self.link.send(output, payload.as_slice())
     }
@@ -145,22 +168,30 @@ impl Service {
         }
     }
 
+    /// From now on packets aren't acknowledged, if this command asks for it.
+    fn note_acks(&mut self, command: Command)
+        ensures { self.new.target ≡ self.old.target }
+    {
+        match command {
+            Command::NoAcks => self.link.acks = false,
+            _ => {}
+        }
+    }
+
     /// Answers a command after which the machine is where it was.
     fn answer<W: Write>(
         &mut self,
         output: &mut W,
         command: Command,
-    ) -> Result<After, Failure<'static>> {
+    ) -> Result<After, Failure<'static>>
+        ensures answered { OnOk result
+            (IsAnswered command self.old.target self.new.target (W.contents output.old) (W.contents output.new)) }
+        ensures next { IfOk result (λ next. next ≡ behind command) }
+    {
         let payload = self.target.answer(self.alloc, command)?;
         self.link.send(output, payload.as_slice())?;
-        if command == Command::NoAcks {
-            self.link.acks = false;
-        }
-        Ok(if command == Command::Detach {
-            After::Ends
-        } else {
-            After::GoesOn
-        })
+        self.note_acks(command);
+        Ok(behind(command))
     }
 
     /// Does what a packet asks for.
