@@ -111,8 +111,8 @@ mkdir -p "$RELEASE" "$TEACHER"
 
 # What the commit holds of it.
 git archive HEAD xv xv.mjs xv.cmd package.json anywhere README.md CONTRIBUTING.md LICENSE VERSION CHANGELOG.md docs programs \
-    page/nektavoly.html checks/sessions checks/why checks/terminal checks/debugger checks/gdb checks/gdb.sh checks/grading \
-    checks/programs.sh checks/parts.sh |
+    page/nektavoly.html checks/sessions checks/why checks/c-programs checks/terminal checks/debugger checks/gdb checks/gdb.sh \
+    checks/grading checks/programs.sh checks/parts.sh |
     tar -x -C "$RELEASE"
 mv "$RELEASE/docs/html" "$room/html"
 # What makes and tries the modules is of no use without the crates.

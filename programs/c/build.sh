@@ -43,14 +43,27 @@ build_debug() {
     cmp -s "$file" "$here/../bin/$1" || echo "build.sh: $1 of ../bin is another; $1 of ../debug goes with its NAME.debug" >&2
 }
 
+# Builds the library into the folder $room, for programs of one's own. Its functions are weak: a program may have one of the
+# same name, and that is taken then.
+build_library() {
+    for source in $library; do
+        # shellcheck disable=SC2086
+        (cd "$here/lib" && "${tools}gcc" $target $language -Og -g -fno-builtin $plain $warnings ${CFLAGS-} -I. \
+            -c "$source" -o "$room/$source.o")
+        "${tools}objcopy" --weaken "$room/$source.o"
+        objects="$objects $room/$source.o"
+    done
+}
+
 # Builds the program of file $1 beside it. Its main need not say return.
 build_own() {
     [ -e "$1" ] || { echo "build.sh: there is no $1" >&2; return 1; }
+    [ -n "$objects" ] || build_library
     file=$(readlink -f -- "$1")
     program=${file%.c}
     # shellcheck disable=SC2086
     (cd "$here/lib" && "${tools}gcc" $target $language -Og -g -fno-builtin $plain $warnings ${CFLAGS-} -I. $link \
-        -o "$program" $library "$file" -lgcc)
+        -o "$program" $objects "$file" -lgcc)
     "${tools}objcopy" --only-keep-debug "$program" "$program.debug"
     "${tools}strip" "$program"
 }
@@ -62,8 +75,6 @@ names() {
 }
 
 check() {
-    room=$(mktemp -d)
-    trap 'rm -rf "$room"' EXIT
     others=0
     for name in $(names); do
         build "$name" "$room/$name"
@@ -76,6 +87,9 @@ command -v "${tools}gcc" >/dev/null || {
     echo "build.sh: there is no ${tools}gcc; this mends it: apt-get install gcc-riscv64-unknown-elf" >&2
     exit 1
 }
+room=$(mktemp -d)
+trap 'rm -rf "$room"' EXIT
+objects=
 # shellcheck disable=SC2046
 [ $# -gt 0 ] || set -- $(names)
 [ "$1" = --check ] && { check; exit; }
@@ -91,6 +105,10 @@ fi
 for word; do
     case $word in
         *.c) build_own "$word" ;;
+        *.cc | *.cpp | *.cxx | *.C)
+            echo "build.sh: $word is C++, which the small library isn't for: xvcc builds it" >&2
+            exit 1
+            ;;
         *) build "$word" "$here/../bin/$word" ;;
     esac
 done

@@ -12,6 +12,7 @@
     kernel_function _exit, 2
     kernel_function execv, 7
     kernel_function execvp, 7
+    kernel_function pause, 13
 
     kernel_function fstat, 8
     kernel_function stat, 8

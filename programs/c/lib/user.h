@@ -7,6 +7,8 @@
 #include <stddef.h>
 #include <stdint.h>
 
+#include "assert.h"
+#include "fcntl.h"
 #include "kernel_limits.h"
 #include "stdio.h"
 #include "stdlib.h"
