@@ -4,6 +4,7 @@ import { help, status, tell_version } from "./about.mjs";
 import { explain } from "./explain.mjs";
 import { picture } from "./picture.mjs";
 import { module_of, run } from "./program.mjs";
+import { looked_at } from "./refusals.mjs";
 import { why } from "./reports.mjs";
 import { write_all } from "./streams.mjs";
 import { at_terminal, debug } from "./terminal.mjs";
@@ -14,7 +15,10 @@ const OF_THE_KIT = ["--build", "--unproved"];
 const REFUSED = 1, NOTHING_RUNS = 125;
 
 const program = (name) => (words) => run(module_of(name), name, words);
-const DOINGS = { "--why": why, "--explain": explain, "--picture": picture, "--debug": debug, "--gdb": program("xv_gdb") };
+const DOINGS = {
+  run: program("xv_run"), terminal: at_terminal, "--why": why, "--explain": explain, "--picture": picture, "--debug": debug,
+  "--gdb": program("xv_gdb"),
+};
 
 function say(text, status) {
   write_all(2, `xv: ${text}\n`);
@@ -69,6 +73,7 @@ export function main() {
   const known = status();
   if (!known.runs) return say(known.text, NOTHING_RUNS);
   const taken = as_taken(rest);
-  if (mode) return DOINGS[mode](taken);
-  return are_for_terminal(taken) ? at_terminal(taken) : program("xv_run")(taken);
+  const kind = mode ?? (are_for_terminal(taken) ? "terminal" : "run");
+  const looked = looked_at(kind, taken, (text) => say(text));
+  return looked.words ? DOINGS[kind](looked.words) : looked.status;
 }

@@ -3,7 +3,7 @@ import { readFileSync, readdirSync } from "node:fs";
 
 const NUMBERS = ["--frames", "--rounds", "--quantum", "--trace", "--tick", "--most"];
 const PATHS = ["--record", "--replay", "--lines", "--keys", "--file"];
-const VALUED = [...NUMBERS, ...PATHS, "--type"];
+const VALUED = [...NUMBERS, ...PATHS, "--type", "--pid", "--call"];
 
 /**
  * The words of this process. Node reads bytes that aren't UTF-8 as U+FFFD: where one stands, the word is taken as it came, as a

@@ -1,0 +1,80 @@
+#!/bin/sh
+# What xv says of words before a program gets them: the words of each line `$ KIND WORD..` of told.txt are looked at in a folder
+# of files, and what is told, and the status, are compared. The status is 0 if all is as it should be. With
+# XV_NODE=yes it is anywhere/src/refusals.mjs that looks, and else programs/host/refusals.sh.
+#
+#   checks/refusals/run.sh           compares
+#   checks/refusals/run.sh --store   keeps what is told now
+#
+# XV_RUN is the machine's program.
+set -u
+here=$(dirname "$(readlink -f -- "$0")")
+root=$(cd "$here/../.." && pwd) || exit 2
+# shellcheck source=checks/programs.sh
+. "$root/checks/programs.sh"
+program=${XV_RUN-$(program_path "$root" xv_run)}
+needs_program "$program"
+program=$(realpath -s -- "$program")
+room=$(mktemp -d) || exit 2
+trap 'rm -rf "$room"' EXIT
+mkdir "$room/files" && cd "$room/files" || exit 2
+
+say() {
+    printf 'xv: %s\n' "$*" >&2
+}
+
+# Looks at words for the kind $1.
+looked_at() {
+    kind=$1
+    shift
+    if [ "${XV_NODE-}" = yes ]; then
+        cat >"$room/look.mjs" <<END
+import { looked_at } from "$root/anywhere/src/refusals.mjs";
+const [kind, ...words] = process.argv.slice(2);
+const looked = looked_at(kind, words, (text) => console.error("xv: " + text));
+process.exit(looked.status ?? 0);
+END
+        node "$room/look.mjs" "$kind" "$@"
+    else
+        (
+            # shellcheck source=programs/host/refusals.sh
+            . "$root/programs/host/refusals.sh"
+            look_at "$kind" "$program" "$@"
+        )
+    fi
+}
+
+mkdir a d '50%'
+touch averylongprogram console sh .s größenänderung größenwandel
+for n in $(seq 64); do touch "program$n"; done
+echo nop >init.s
+for copy in a/init.s '50%/init.s' one.s; do cp init.s "$copy"; done
+cat >bad.s <<'END'
+    nop                     # a good line
+    foo a0, 1               # no such word
+ here: mv a0                # an operand is missing
+here: nop
+    j nowhere
+    addi a0, a0, 5000
+    .data
+    addi a0, a0, 5          # not in this section
+END
+for n in $(seq 25); do echo "wrong$n a0"; done >worse.s
+printf 'nop\n\377' >odd.s
+
+sed -n 's/^\$ //p' "$here/told.txt" | while IFS= read -r line; do
+    echo "$ $line"
+    # shellcheck disable=SC2086
+    set -- $line
+    looked_at "$@" </dev/null 2>&1
+    echo "= $?"
+done >"$room/told"
+if [ "${1-}" = --store ]; then
+    cp "$room/told" "$here/told.txt"
+    exit
+fi
+diff "$here/told.txt" "$room/told" || {
+    echo 'refusals: what is said is another'
+    exit 1
+}
+echo "refusals: all $(grep -c '^\$ ' "$here/told.txt") are as they should be"
