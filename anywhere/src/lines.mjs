@@ -20,15 +20,21 @@ function bytes_of(path, most) {
 
 let tool;
 
-/** What readelf tells of the lines of a program, or nothing. */
-function told_by_readelf(path) {
+/** What readelf tells of a file, asked by these words; nothing if there is none. */
+function told_by_readelf(...words) {
   for (const name of tool ? [tool] : TOOLS) {
-    const { error, stdout } = spawnSync(name, ["-W", "--debug-dump=decodedline", path], { maxBuffer: MOST_TOLD, stdio: ["ignore", "pipe", "ignore"] });
+    const { error, stdout } = spawnSync(name, ["-W", ...words], { maxBuffer: MOST_TOLD, stdio: ["ignore", "pipe", "ignore"] });
     if (error) continue;
     tool = name;
     return stdout.toString();
   }
   return "";
+}
+
+/** The names of the functions of an ELF file. */
+export function read_symbols(path) {
+  const from = existsSync(`${path}.debug`) ? `${path}.debug` : path;
+  return told_by_readelf("--symbols", from).split("\n").flatMap((row) => / FUNC .* (\S+)$/.exec(row)?.[1] ?? []);
 }
 
 /**
@@ -41,7 +47,7 @@ function of_program(path) {
   if (!bytes || !bytes.includes(".debug_line")) return [];
   const rows = [];
   let sequence = [];
-  for (const told of told_by_readelf(from).split("\n")) {
+  for (const told of told_by_readelf("--debug-dump=decodedline", from).split("\n")) {
     const [file, line, place] = told.trim().split(/\s+/);
     if (!/^(\d+|-)$/.test(line) || !/^(0x[0-9a-f]+|0)$/.test(place)) continue;
     const address = Number(place);

@@ -3,12 +3,15 @@
 // a signal, the terminal is as it was before.
 import { closeSync } from "node:fs";
 import { isatty } from "node:tty";
+import { fileURLToPath } from "node:url";
 import { Worker } from "node:worker_threads";
+import { edited } from "./editing.mjs";
 import { Keys } from "./keys.mjs";
 import { lines_of } from "./lines.mjs";
 import { module_of, run } from "./program.mjs";
 
 const NAME = "xv_terminal";
+const ITSELF = fileURLToPath(new URL("../../xv.mjs", import.meta.url));
 const HANGUP = 129;
 const SIGNALS = process.platform === "win32" ? { SIGINT: 130, SIGBREAK: 130 } : { SIGINT: 130, SIGQUIT: 131, SIGTERM: 143 };
 const ENTER = 13, LINE_END = 10;
@@ -98,9 +101,13 @@ export function at_terminal(words) {
   return attend(module, ["--terminal", ...option, ...apart, ...words], files);
 }
 
-/** Runs the debugger: with the lines of programs in C, and with a prompt if a person types. */
+/**
+ * Runs the debugger: with the lines of programs in C, and with a prompt if a person types. At a terminal the line editor stands in
+ * front of another process of this kind.
+ */
 export function debug(words) {
   const prompt = isatty(0) ? ["--prompt"] : [];
+  if (isatty(0) && isatty(1)) return edited(process.execPath, [ITSELF, "--debug", ...prompt, ...words]);
   const { option, files } = lines_of(words);
   return run(module_of("xv_debugger"), "xv_debugger", [...option, ...prompt, ...words], { files });
 }
