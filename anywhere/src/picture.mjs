@@ -4,7 +4,7 @@ import { module_of, run } from "./program.mjs";
 import { tell, tell_line, tell_why } from "./reports.mjs";
 
 const NOTE = /^(?:(?:turn|step|call|block|exit|fault|key|sent|name|waits) |(?:idle|tick|halted)$)/;
-const PART = 1 << 16;
+const PART = 1 << 16, UNWRITTEN = 5;
 
 /** Notes, kept as bytes: many runs have millions. */
 class Notes {
@@ -35,7 +35,10 @@ class Notes {
   }
 }
 
-/** Runs the words and draws the run on standard output; the status is that of the run. Without words it draws a trace. */
+/**
+ * Runs the words and draws the run on standard output; the status is that of the run, or 5 if the picture can't be written. Without
+ * words it draws a trace.
+ */
 export function picture(words) {
   const draw = module_of("xv_picture");
   if (words.length === 0) return run(draw, "xv_picture", []);
@@ -44,6 +47,5 @@ export function picture(words) {
   const status = tell_why(["--notes", ...words], hand_on, { output: tell });
   if (notes.is_empty()) return status;
   notes.close();
-  run(draw, "xv_picture", [], { input: (most) => notes.take(most) });
-  return status;
+  return run(draw, "xv_picture", [], { input: (most) => notes.take(most) }) === 0 ? status : UNWRITTEN;
 }

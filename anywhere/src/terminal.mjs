@@ -1,7 +1,7 @@
 // The machine at a terminal. If standard input is one, this thread has it: the terminal hands over each key by itself, and the keys
 // go to the thread that runs the program xv_terminal (terminal_worker.mjs). After each end that a process can see, also one by
 // a signal, the terminal is as it was before.
-import { closeSync } from "node:fs";
+import { closeSync, existsSync, statSync } from "node:fs";
 import { isatty } from "node:tty";
 import { fileURLToPath } from "node:url";
 import { Worker } from "node:worker_threads";
@@ -9,6 +9,8 @@ import { edited } from "./editing.mjs";
 import { Keys } from "./keys.mjs";
 import { lines_of } from "./lines.mjs";
 import { module_of, run } from "./program.mjs";
+import { read_some, write_all } from "./streams.mjs";
+import { before_end } from "./words.mjs";
 
 const NAME = "xv_terminal";
 const ITSELF = fileURLToPath(new URL("../../xv.mjs", import.meta.url));
@@ -33,6 +35,18 @@ function hand_over(terminal, keys) {
   });
 }
 
+/** Who stops this process from outside gets the terminal as it was; after `fg` it is set anew. */
+function stand_still_and_go_on(terminal) {
+  process.on("SIGTSTP", () => {
+    terminal.setRawMode(false);
+    process.kill(process.pid, "SIGSTOP");
+  });
+  process.on("SIGCONT", () => {
+    terminal.setRawMode(false); // Node remembers how it set the terminal, and another process has set it otherwise.
+    terminal.setRawMode(true);
+  });
+}
+
 /** Sets the terminal, and gives what puts it back. */
 function prepared(terminal) {
   try {
@@ -41,6 +55,7 @@ function prepared(terminal) {
     throw new Error("the terminal can't be set");
   }
   const streams = terminals();
+  if (process.platform !== "win32") stand_still_and_go_on(terminal);
   return () => {
     try {
       terminal.setRawMode(false);
@@ -92,11 +107,26 @@ function attend(module, words, files) {
   });
 }
 
+/** The path behind --record, if it stands among the words. */
+function record_among(words) {
+  const options = before_end(words), place = options.indexOf("--record");
+  return place >= 0 ? options[place + 1] : options.find((word) => word.startsWith("--record="))?.slice("--record=".length);
+}
+
+/** Whether the record may be written: one that is there is written over only if the person at the terminal says so. */
+function may_record(words) {
+  const record = record_among(words);
+  if (!record || !existsSync(record) || statSync(record).size === 0) return true;
+  write_all(2, `${record} is there. Write over it? (y or n) `);
+  return ["y", "yes"].includes(read_some(0).toString().trim());
+}
+
 /** Runs the words at a terminal, and gives the exit status. Without one they are run as they are. */
 export function at_terminal(words) {
   const module = module_of(NAME);
   const apart = isatty(1) && isatty(2) ? [] : ["--apart"];
   if (!isatty(0)) return run(module, NAME, [...apart, ...words]);
+  if (!may_record(words)) throw new Error("nothing is done: --record takes another path");
   const { option, files } = lines_of(words);
   return attend(module, ["--terminal", ...option, ...apart, ...words], files);
 }

@@ -5,7 +5,7 @@
 #   programs/host/picture.sh [--frames N] [--rounds N] [--quantum N] FILE.. >run.svg
 #
 # What the programs write to the console goes to standard error, with the reports of why.sh. The exit status is that of
-# the run. Without words it draws the trace that standard input has. XV_WHY and XV_PICTURE are other programs than those
+# the run, or 5 if the picture can't be written. Without words it draws the trace that standard input has. XV_WHY and XV_PICTURE are other programs than those
 # that stand built.
 set -u
 root=$(dirname "$(readlink -f -- "$0")")/../..
@@ -28,6 +28,6 @@ draw() {
 exec 4>&1 5>&2
 status=$({
     { "$root/programs/host/why.sh" --notes "$@" 2>&1 >&5 3>&- 4>&-; echo $? >&3; } |
-        lines_of_trace 3>&- 4>&- | draw >&4 3>&-
-} 3>&1)
+        lines_of_trace 3>&- 4>&- | { draw >&4 3>&- || echo 5 >&3; }
+} 3>&1 | tail -n 1)
 exit "$status"

@@ -28,6 +28,30 @@ fi
 
 [ -t 0 ] || exec "$program" "$@"
 
+# The path behind --record, if it stands among the words.
+record_among() {
+    before=
+    for word; do
+        case $before$word in
+            --record?*) [ "$before" = --record ] && echo "$word" || echo "${word#--record=}" ;;
+            --) return ;;
+        esac
+        before=
+        [ "$word" != --record ] || before=--record
+    done
+}
+
+# A record that is there is written over only if the person at the terminal says so.
+record=$(record_among "$@")
+if [ -s "$record" ]; then
+    printf '%s is there. Write over it? (y or n) ' "$record" >&2
+    read -r answer || answer=
+    case $answer in
+        y | yes) ;;
+        *) give_up "nothing is done: --record takes another path" ;;
+    esac
+fi
+
 command -v stty >/dev/null || give_up "there is no stty on the PATH (Debian: coreutils), by which each key is handed over"
 table=$("$top/programs/host/lines.sh" "$@" 2>/dev/null)
 before=$(stty -g) || give_up "the terminal doesn't tell how it is set"
@@ -48,13 +72,29 @@ trap 'stop 131' QUIT
 trap 'stop 143' TERM
 
 # Keys one by one, none of them a signal's; a read answers with what is there, or with nothing.
-stty -icanon -echo -isig -iexten -ixon min 0 time 0 || { restore; give_up "the terminal can't be set"; }
+take_keys() {
+    stty -icanon -echo -isig -iexten -ixon min 0 time 0
+}
+# Who stops the machine from outside gets the terminal as it was; after `fg` it is set anew.
+stand_still() {
+    restore
+    [ -z "$machine" ] || kill -STOP "$machine"
+    kill -STOP $$
+}
+go_on() {
+    take_keys
+    [ -z "$machine" ] || kill -CONT "$machine"
+}
+trap stand_still TSTP
+trap go_on CONT
+take_keys || { restore; give_up "the terminal can't be set"; }
 exec 3<&0
 "$program" --terminal --lines /dev/fd/4 "$@" <&3 3<&- 4<<END &
 $table
 END
 machine=$!
-wait "$machine"
-status=$?
+while wait "$machine"; status=$?; [ "$status" -gt 128 ] && kill -0 "$machine" 2>/dev/null; do
+    : # It still runs: a signal ended the wait.
+done
 restore
 exit "$status"
