@@ -30,6 +30,14 @@ fi
 # GDB's colours, the host's paths and the numbers of its own that differ from version to version are left out.
 gdb-multiarch -q -nx -batch -l 60 game.debug -ex "target remote | $serve" -x "$here/gdb/game.gdb" >said 2>&1 </dev/null || true
 sed -e '/^warning:/d' -e '/^Remote debugging/d' -e "s|$room/||g" said >kept
+# The same by a file of commands, as ./xv --gdb --commands writes it.
+"$here/../programs/host/gdb_commands.sh" run.gdb --frames 512 --file game "$bin/init" "$bin/sh" game rc 2>/dev/null
+gdb-multiarch -q -nx -batch -x run.gdb -ex 'break report' -ex continue -ex 'print game.rounds' -ex kill >other 2>&1 </dev/null || true
+grep -q '^\$1 = 82$' other || {
+    echo "checks/gdb.sh: by a file of commands GDB says something else" >&2
+    cat other >&2
+    exit 1
+}
 if diff -u "$here/gdb/game.wanted" kept; then
     echo "checks/gdb.sh: GDB says what it should say"
 else

@@ -2,6 +2,7 @@
 import { isatty } from "node:tty";
 import { help, status, tell_version } from "./about.mjs";
 import { explain } from "./explain.mjs";
+import { commands_among, write_commands } from "./gdb_commands.mjs";
 import { picture } from "./picture.mjs";
 import { module_of, run } from "./program.mjs";
 import { looked_at } from "./refusals.mjs";
@@ -15,9 +16,15 @@ const OF_THE_KIT = ["--build", "--unproved"];
 const REFUSED = 1, NOTHING_RUNS = 125;
 
 const program = (name) => (words) => run(module_of(name), name, words);
+/** Serves GDB, or writes commands for it. */
+function gdb(words) {
+  const { path, rest } = commands_among(words);
+  return path === undefined ? program("xv_gdb")(rest) : write_commands(path, rest);
+}
+
 const DOINGS = {
   run: program("xv_run"), terminal: at_terminal, "--why": why, "--explain": explain, "--picture": picture, "--debug": debug,
-  "--gdb": program("xv_gdb"),
+  "--gdb": gdb,
 };
 
 function say(text, status) {

@@ -15,7 +15,7 @@ const SESSION = ["terminal"], GDB = ["--gdb"], EXPLAIN = ["--explain"];
 const TAKERS = {
   "--frames": ALL, "--rounds": ["run", "--why", "--explain", "--picture"], "--quantum": ["run", "--why", "--explain", "--picture", "--gdb"],
   "--trace": ["run", "terminal", "--why", "--explain", "--debug"], "--tick": SESSION, "--record": SESSION, "--replay": SESSION,
-  "--most": GDB, "--keys": GDB, "--type": GDB, "--file": GDB,
+  "--most": GDB, "--keys": GDB, "--type": GDB, "--file": GDB, "--commands": GDB,
   "--pid": EXPLAIN, "--call": EXPLAIN, "--failed": EXPLAIN, "--count": EXPLAIN,
   "--notes": ALL, "--lines": ALL, "--apart": ALL, "--terminal": ALL, "--prompt": ALL,
 };

@@ -2,7 +2,7 @@
 import { readFileSync, readdirSync } from "node:fs";
 
 const NUMBERS = ["--frames", "--rounds", "--quantum", "--trace", "--tick", "--most"];
-const PATHS = ["--record", "--replay", "--lines", "--keys", "--file"];
+const PATHS = ["--record", "--replay", "--lines", "--keys", "--file", "--commands"];
 const VALUED = [...NUMBERS, ...PATHS, "--type", "--pid", "--call"];
 
 /**

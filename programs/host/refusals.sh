@@ -27,7 +27,7 @@ takers() {
         --quantum) echo 'run --why --explain --picture --gdb' ;;
         --trace) echo 'run terminal --why --explain --debug' ;;
         --tick | --record | --replay) echo terminal ;;
-        --most | --keys | --type | --file) echo --gdb ;;
+        --most | --keys | --type | --file | --commands) echo --gdb ;;
         --pid | --call | --failed | --count) echo --explain ;;
         # The options that scripts give.
         --notes | --lines | --apart | --terminal | --prompt) echo 'run terminal --why --explain --picture --debug --gdb' ;;
