@@ -72,7 +72,7 @@ begin_node() {
 
 # What needs a program: the quick ones first.
 quick='checks/words/run.sh checks/refusals/run.sh checks/sessions/run.sh'
-longer='checks/stored-runs/run.sh checks/rows/run.sh checks/why/run.sh checks/c-programs/run.sh checks/gdb/run.sh checks/terminal/run.sh checks/debugger/run.sh checks/lines.py checks/grading/run.sh'
+longer='checks/stored-runs/run.sh checks/rows/run.sh checks/why/run.sh checks/c-programs/run.sh checks/gdb/run.sh checks/terminal/run.sh checks/debugger/run.sh checks/debugger/typed.py checks/lines.py checks/grading/run.sh'
 
 # shellcheck disable=SC2086
 case "$*" in

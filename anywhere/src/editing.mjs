@@ -4,7 +4,8 @@ import { spawn, spawnSync } from "node:child_process";
 import { readFileSync } from "node:fs";
 import { constants } from "node:os";
 import { createInterface } from "node:readline";
-import { Writable } from "node:stream";
+import { PassThrough, Writable } from "node:stream";
+import { StringDecoder } from "node:string_decoder";
 import { read_symbols } from "./lines.mjs";
 import { write_all } from "./streams.mjs";
 import { files_of, own_words } from "./words.mjs";
@@ -47,6 +48,19 @@ function completer_of(command, args) {
     const among = line.trimStart() === begun ? known.words : known.others;
     return [among.filter((word) => word.startsWith(begun)), begun];
   };
+}
+
+/**
+ * The keys of the terminal, one by one: of more at once, as a paste, readline puts all behind the line, wherever the cursor stands.
+ */
+function single_keys(terminal) {
+  const keys = new PassThrough(), decoder = new StringDecoder("utf8");
+  keys.setRawMode = (is_raw) => terminal.setRawMode(is_raw);
+  terminal.on("data", (bytes) => {
+    for (const key of decoder.write(bytes)) keys.write(key);
+  });
+  terminal.on("end", () => keys.end());
+  return keys;
 }
 
 /** The terminal as readline sees it: while nobody is asked, it shows nothing. */
@@ -134,7 +148,7 @@ function hand_on(child, ask) {
 export function edited(command, args) {
   const child = spawn(command, args, { stdio: ["pipe", "pipe", "inherit"] });
   const output = shown();
-  const rl = createInterface({ input: process.stdin, output, terminal: true, historySize: 1000, completer: completer_of(command, args) });
+  const rl = createInterface({ input: single_keys(process.stdin), output, terminal: true, historySize: 1000, completer: completer_of(command, args) });
   const asked = new Asked(rl, output, child);
   const flush = hand_on(child, () => asked.ask());
   child.stdin.on("error", () => {}); // it has ended, and tells so by its status
@@ -143,6 +157,7 @@ export function edited(command, args) {
     child.on("close", (code, signal) => {
       asked.is_asking = false;
       rl.close();
+      process.stdin.pause();
       flush();
       give(code ?? 128 + (constants.signals[signal] ?? 0));
     });
