@@ -87,6 +87,7 @@ class Asked {
       if (this.is_asking) this.answer(true);
     });
     rl.on("SIGINT", () => this.drop());
+    rl.on("SIGCONT", () => rl.resume()); // readline pauses behind Ctrl-Z
     rl.on("close", () => this.end());
   }
 
