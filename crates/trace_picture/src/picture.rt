@@ -11,6 +11,12 @@ use std::io::{self, Write};
 /// How wide the bars of a whole trace are, in pixels.
 const WIDTH: u64 = 1_200;
 
+/// How wide the ground is right of the bars, in pixels: the last number of an event stands there, and the word of a fault.
+const RIGHT: u64 = 80;
+
+/// How far behind its mark the word of a fault begins, in hundredths of a pixel.
+const BEHIND_MARK: u64 = 600;
+
 /// Where the first row begins, in pixels.
 const TOP: u64 = 44;
 
@@ -31,7 +37,7 @@ font-family=\"sans-serif\" font-size=\"11\">
 .running { fill: #2563c9 } .ready { fill: #c4d7f5 }
 .asleep { fill: #f3c969 } .ended { fill: #b9b9b9 }
 .tick { stroke: #e4e4e4 } .birth { stroke: #2e8b57; stroke-width: 1.5 }
-.call { fill: #10294f } .gone { fill: #c0392b }
+.call { fill: #10294f } .exit { fill: #4a4a4a } .fault { fill: #c0392b }
 </style>
 <rect";
 
@@ -157,7 +163,9 @@ fn draw_meaning<W: Write>(class: &str, left: u64, output: &mut W) -> io::Result<
 // What the colours mean.
 fn draw_legend<W: Write>(axis: Axis, output: &mut W) -> io::Result<()> {
     let mut left = axis.left;
-    for class in ["running", "ready", "asleep", "ended", "call", "gone"] {
+    for class in [
+        "running", "ready", "asleep", "ended", "call", "exit", "fault",
+    ] {
         draw_meaning(class, left, output)?;
         left = left.saturating_add(90);
     }
@@ -285,7 +293,8 @@ impl Mark {
     fn class(self) -> &'static str {
         match self {
             Mark::Answered(_, _) | Mark::Waits(_) => "call",
-            Mark::Exit(_) | Mark::Fault(_) => "gone",
+            Mark::Exit(_) => "exit",
+            Mark::Fault(_) => "fault",
         }
     }
 
@@ -337,10 +346,24 @@ fn mark_of(note: Note) -> Option<(u32, Mark)> {
     }
 }
 
-// A mark on the bar of the row at this place; its text shows under the pointer.
+// The word of a fault, with its cause, behind its mark.
+fn draw_fault<W: Write>(x: Length, place: usize, cause: u32, output: &mut W) -> io::Result<()> {
+    let left = Length(x.0.saturating_add(BEHIND_MARK));
+    let base = row_top(place).saturating_add(10);
+    writeln!(
+        output,
+        "<text class=\"fault\" x=\"{left}\" y=\"{base}\">fault {cause}</text>"
+    )
+}
+
+// A mark on the bar of the row at this place; its text shows under the pointer, and that of a fault beside it.
 fn draw_mark<W: Write>(x: Length, place: usize, mark: Mark, output: &mut W) -> io::Result<()> {
     open_bar(mark.class(), x, row_top(place), mark.width(), output)?;
-    writeln!(output, "><title>{mark}</title></rect>")
+    writeln!(output, "><title>{mark}</title></rect>")?;
+    match mark {
+        Mark::Fault(cause) => draw_fault(x, place, cause, output),
+        _ => Ok(()),
+    }
 }
 
 // What stands on the bars for this event.
@@ -470,7 +493,7 @@ pub fn draw<W: Write>(chart: &Chart, remarks: &Remarks, output: &mut W) -> io::R
         axis,
     };
     let bottom = row_top(chart.rows.len());
-    let width = axis.left.saturating_add(WIDTH + 30);
+    let width = axis.left.saturating_add(WIDTH + RIGHT);
     draw_head(width, bottom.saturating_add(70), output)?;
     draw_legend(axis, output)?;
     draw_ticks(chart, axis, bottom, output)?;
