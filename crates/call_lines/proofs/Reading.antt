@@ -10,9 +10,9 @@ use Rattle.call_lines.specs.declared.asked.Asked.{Asked}
 use Rattle.kernel_calls.specs.Arguments.{kind_of}
 use Rattle.kernel_calls.specs.declared.argument.Argument.{Argument}
 use Rattle.kernel_calls.specs.declared.argument.ArgumentKind.{ArgumentKind}
-use Rattle.call_lines.specs.Line.{answer_shown, argument_here, argument_shown, buffer_length, stored_shown, value_at, value_shown, comma_unless, text_and, text_shown, texts_shown}
-use Rattle.call_lines.specs.Memory.{address_at, bytes_from, byte_and, letter_and, text_from}
-use Rattle.debug_views.proofs.Texts.{shown_behind, three_shown, two_behind}
+use Rattle.call_lines.specs.Line.{answer_shown, argument_here, argument_shown, buffer_length, stored_shown, value_at, value_shown, comma_unless, text_shown, texts_shown}
+use Rattle.call_lines.specs.Memory.{address_at, bytes_from, text_from}
+use Rattle.debug_views.proofs.Texts.{shown_behind, three_shown}
 
 -- ---- bytes
 

@@ -1,5 +1,5 @@
 -- Worked cases of strings and lines.
-use Rattle.std.proofs.Common.{◌≡◌, ℕ, List, [], ◌∷◌, ◌++◌, codes, None, Some, refl, replicate}
+use Rattle.std.proofs.Common.{◌≡◌, [], ◌∷◌, ◌++◌, codes, None, refl, replicate}
 use Rattle.std.specs.Prelude.{pos, negsuc}
 use Rattle.std.specs.Fmt.{digits, padded_integral, char_count}
 use Rattle.kernel_calls.specs.Table.{call_at}
