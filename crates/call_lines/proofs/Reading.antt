@@ -1,5 +1,6 @@
 -- Bytes and texts of memory, one behind another, as they are read.
-use Rattle.std.proofs.Common.{◌≡◌, ℕ, zero, suc, Bool, false, ◌+◌, ◌-◌, ◌^◌, ◌==◌, ◌<◌, ◌≤◌, List, [], ◌∷◌, ◌++◌, Option, None, Some, Result, OnOk, refl, sym, ◌∙◌, ap, subst, arith, codes, append-nil, append_assoc, ne_eqb, lt-ltb, le-ltb}
+use Rattle.std.proofs.Common.{◌≡◌, ℕ, zero, suc, Bool, false, ◌+◌, ◌-◌, ◌^◌, ◌==◌, ◌<◌, ◌≤◌, List, [], ◌∷◌, ◌++◌, Option, None, Some, Result, OnOk}
+use Rattle.std.proofs.Common.{refl, sym, ◌∙◌, ap, subst, arith, codes, append-nil, append_assoc, ne_eqb, lt-ltb, le-ltb}
 use Rattle.std.specs.Prelude.{ℤ}
 use Rattle.std.proofs.lemmas.Result.{on_ok_weaker}
 use Rattle.kernel_spec.specs.views.State.{State}
@@ -41,7 +42,8 @@ next_bytes s p a (suc most) next b some there at below =
 pub more_bytes : {T E : Type 0} (r : Result T E) (s : State) (p a most next b : ℕ) (old mid new : List ℕ) → 0 < most → byte_at s p a ≡ Some b → next ≡ a + 1 → next < 2 ^ 64
     → mid ≡ old ++ b ∷ [] → OnOk r (new ≡ mid ++ bytes_from s p next (most - 1)) → OnOk r (new ≡ old ++ bytes_from s p a most)
 more_bytes r s p a most next b old mid new some there at below first wrote =
-    on_ok_weaker r (λ e. e ∙ ap (λ t. t ++ bytes_from s p next (most - 1)) first ∙ append_assoc old (b ∷ []) (bytes_from s p next (most - 1)) ∙ ap (λ t. old ++ t) (next_bytes s p a most next b some there at below)) wrote
+    let rest = bytes_from s p next (most - 1) in
+    on_ok_weaker r (λ e. e ∙ ap (λ t. t ++ rest) first ∙ append_assoc old (b ∷ []) rest ∙ ap (λ t. old ++ t) (next_bytes s p a most next b some there at below)) wrote
 
 -- or it is the last one
 pub last_byte : (s : State) (p a most b : ℕ) (old new : List ℕ) → 0 < most → byte_at s p a ≡ Some b → 2 ^ 64 ≤ a + 1 → new ≡ old ++ b ∷ [] → new ≡ old ++ bytes_from s p a most
@@ -79,9 +81,11 @@ next_letters s p a (suc most) next b some there letter at below =
 pub more_letters : {T E : Type 0} (r : Result T E) (s : State) (p a most next b : ℕ) (old mid new : List ℕ) → 0 < most → byte_at s p a ≡ Some b → ¬ (b ≡ 0) → next ≡ a + 1
     → next < 2 ^ 64 → mid ≡ old ++ b ∷ [] → OnOk r (new ≡ mid ++ text_from s p next (most - 1)) → OnOk r (new ≡ old ++ text_from s p a most)
 more_letters r s p a most next b old mid new some there letter at below first wrote =
-    on_ok_weaker r (λ e. e ∙ ap (λ t. t ++ text_from s p next (most - 1)) first ∙ append_assoc old (b ∷ []) (text_from s p next (most - 1)) ∙ ap (λ t. old ++ t) (next_letters s p a most next b some there letter at below)) wrote
+    let rest = text_from s p next (most - 1) in
+    on_ok_weaker r (λ e. e ∙ ap (λ t. t ++ rest) first ∙ append_assoc old (b ∷ []) rest ∙ ap (λ t. old ++ t) (next_letters s p a most next b some there letter at below)) wrote
 
-pub last_letter : (s : State) (p a most b : ℕ) (old new : List ℕ) → 0 < most → byte_at s p a ≡ Some b → ¬ (b ≡ 0) → 2 ^ 64 ≤ a + 1 → new ≡ old ++ b ∷ [] → new ≡ old ++ text_from s p a most
+pub last_letter : (s : State) (p a most b : ℕ) (old new : List ℕ) → 0 < most → byte_at s p a ≡ Some b → ¬ (b ≡ 0) → 2 ^ 64 ≤ a + 1
+    → new ≡ old ++ b ∷ [] → new ≡ old ++ text_from s p a most
 unfolding text_from
 last_letter s p a zero b old new some there letter past first = absurd (omega (arith, some))
 last_letter s p a (suc most) b old new some there letter past first = rw (there, ne_eqb b 0 letter, le-ltb (a + 1) (2 ^ 64) past) first
@@ -115,8 +119,8 @@ next_texts s p a is_first (suc most) text next some there letter at below =
     let under : a + 8 < 2 ^ 64 = omega (arith, at, below) in
     rw (less, there, ne_eqb text 0 letter, at, lt-ltb (a + 8) (2 ^ 64) under) refl
 
-pub more_texts : {T E : Type 0} (r : Result T E) (s : State) (p a : ℕ) (is_first : Bool) (most text next : ℕ) (old mid new : List ℕ) → 0 < most → address_at s p a ≡ Some text → ¬ (text ≡ 0)
-    → next ≡ a + 8 → next < 2 ^ 64 → mid ≡ old ++ (comma_unless is_first ++ text_shown s p text)
+pub more_texts : {T E : Type 0} (r : Result T E) (s : State) (p a : ℕ) (is_first : Bool) (most text next : ℕ) (old mid new : List ℕ)
+    → 0 < most → address_at s p a ≡ Some text → ¬ (text ≡ 0) → next ≡ a + 8 → next < 2 ^ 64 → mid ≡ old ++ (comma_unless is_first ++ text_shown s p text)
     → OnOk r (new ≡ mid ++ texts_shown s p next false (most - 1)) → OnOk r (new ≡ old ++ texts_shown s p a is_first most)
 more_texts r s p a is_first most text next old mid new some there letter at below first wrote =
     let front = comma_unless is_first ++ text_shown s p text in
@@ -136,7 +140,8 @@ last_text s p a is_first (suc most) text old new some there letter past first =
 -- a comma was written, unless it is the first, and the argument behind it
 pub here_written : {T E : Type 0} (r : Result T E) (s : State) (p : ℕ) (call : KernelCall) (asked : Asked) (answered : Option ℤ) (place : ℕ) (argument : Argument) (kind : ArgumentKind)
     (value : ℕ) (bytes : Option ℕ) (old mid new : List ℕ) → kind ≡ kind_of argument → value ≡ value_at asked place → bytes ≡ buffer_length call asked answered
-    → mid ≡ old ++ comma_unless (place == 0) → OnOk r (new ≡ mid ++ argument_shown s p kind value bytes answered) → OnOk r (new ≡ old ++ argument_here s p call asked answered place (Some argument))
+    → mid ≡ old ++ comma_unless (place == 0) → OnOk r (new ≡ mid ++ argument_shown s p kind value bytes answered)
+    → OnOk r (new ≡ old ++ argument_here s p call asked answered place (Some argument))
 here_written r s p call asked answered place argument kind value bytes old mid new is_kind is_value is_bytes first wrote =
     shown_behind r old mid new (comma_unless (place == 0)) (argument_shown s p (kind_of argument) (value_at asked place) (buffer_length call asked answered) answered) first
     (subst (λ (k : ArgumentKind). OnOk r (new ≡ mid ++ argument_shown s p k (value_at asked place) (buffer_length call asked answered) answered)) is_kind

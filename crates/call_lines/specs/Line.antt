@@ -1,5 +1,6 @@
 -- A kernel call as a line of text: its name, what is passed to it, and what it answers.
-use Rattle.std.specs.Prelude.{ℕ, ℤ, pos, negsuc, zero, suc, ◌+◌, ◌%◌, ◌^◌, ◌==◌, Bool, not, true, false, min, nat_lt, if◌then◌else◌, List, [], ◌++◌, length, flat_map, slice_get, codes, Option, None, Some}
+use Rattle.std.specs.Prelude.{ℕ, ℤ, pos, negsuc, zero, suc, ◌+◌, ◌%◌, ◌^◌, ◌==◌, Bool, not, true, false, min, nat_lt, if◌then◌else◌}
+use Rattle.std.specs.Prelude.{List, [], ◌++◌, length, flat_map, slice_get, codes, Option, None, Some}
 use Rattle.std.specs.Fmt.{signed_decimal}
 use Rattle.std.specs.List.{range_with_len}
 use Rattle.debug_words.specs.Texts.{hexadecimal}
