@@ -1,0 +1,7 @@
+        let held = self.held();
+        match Key::of(key) {
+            Key::Erase => self.erase(),
+            Key::Kill => self.kill(),
+            Key::Typed(byte) if held + 1 < CONSOLE_BYTES => self.type_byte(byte),
+            Key::Ignored | Key::Typed(_) => Echo::new(),
+        }

@@ -1,0 +1,1 @@
+        free_number(self.files.as_slice()).map(|number| Fd::new(number as u8))

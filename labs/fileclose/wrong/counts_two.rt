@@ -1,0 +1,10 @@
+        let entry = self.entry(file);
+        if entry.count <= 1 {
+            self.places[file.index()] = None;
+            return true;
+        }
+        self.places[file.index()] = Some(CountedFile {
+            count: if entry.count > 2 { entry.count - 2 } else { 1 },
+            ..entry
+        });
+        false

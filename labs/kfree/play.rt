@@ -1,0 +1,75 @@
+    // RAM of 16 frames, all of other bytes than 0, and a pool of as many of them, in an order that `step` gives.
+    fn begin(ram: &mut Ram, count: u32, step: u32) -> Pool {
+        for number in 0..16 {
+            for word in 0..512 {
+                ram.write_u64(Frame::new(number), word, 0x0101_0101_0101_0101 * (u64::from(number) + 1));
+            }
+        }
+        let mut pool = Pool { first: None, count: 0 };
+        for turn in 0..count {
+            pool.give(ram, Frame::new(turn * step % 16));
+        }
+        pool
+    }
+
+    // How often a frame is in the list, whose links are followed at most 20 times; 99 if the list has no end or leads out of RAM.
+    fn listed(ram: &Ram, pool: &Pool, frame: Frame) -> u32 {
+        let mut found = 0;
+        let mut at = pool.first;
+        for _ in 0..20 {
+            match at {
+                None => return found,
+                Some(here) => {
+                    if here.number() >= 16 || ram.read_u64(here, 0) > 16 {
+                        return 99;
+                    }
+                    found += u32::from(here == frame);
+                    at = linked(ram.read_u64(here, 0));
+                }
+            }
+        }
+        99
+    }
+
+    fn play_one(rt: &HostRuntime, mine: &mut Ram, its: &mut Ram, count: u32, step: u32) -> bool {
+        let mut pool = begin(mine, count, step);
+        let before = begin(its, count, step);
+        let given = Frame::new(count * step % 16);
+        let number = given.number();
+        let _ = println!(*rt; "case: {count} of 16 frames are free; frame {number} is given back");
+        pool.STUDENT(mine, given);
+        let counted = pool.count;
+        if counted != count + 1 {
+            let _ = println!(*rt; "before: {count} of 16 frames are free; frame {number} is given back\nasked: one frame more is counted\ncame: {counted} are");
+            return false;
+        }
+        for other in 0..16 {
+            let frame = Frame::new(other);
+            let is = listed(mine, &pool, frame);
+            let wanted = if other == number { 1 } else { listed(its, &before, frame) };
+            if is != wanted {
+                let _ = println!(*rt; "before: {count} of 16 frames are free; frame {number} is given back\nasked: frame {other} is {wanted} times in the list\ncame: {is} times (99: the list has no end, or leads out of RAM)");
+                return false;
+            }
+            let same = wanted == 1 || mine.frame(frame) == its.frame(frame);
+            if !same {
+                let _ = println!(*rt; "before: {count} of 16 frames are free; frame {number} is given back\nasked: frame {other}, which isn't free, keeps its bytes\ncame: it doesn't");
+                return false;
+            }
+        }
+        true
+    }
+
+    #[test]
+    fn plays(rt: HostRuntime) {
+        let mut mine = Ram::new(rt.alloc(), 16).expect(&rt, "memory");
+        let mut its = Ram::new(rt.alloc(), 16).expect(&rt, "memory");
+        let mut cases = 0;
+        for count in 0..16 {
+            for step in [1, 3, 5, 7, 9, 11, 13, 15] {
+                assert!(rt; play_one(&rt, &mut mine, &mut its, count, step), "the case is told above");
+                cases += 1;
+            }
+        }
+        let _ = println!(rt; "played: {cases}");
+    }

@@ -1,0 +1,2 @@
+        ram.write_u64(f, 0, link_to(self.first));
+        self.first = Some(f);

@@ -1,0 +1,3 @@
+        self.first = Some(f);
+        self.count += 1;
+        ram.write_u64(f, 0, link_to(self.first));

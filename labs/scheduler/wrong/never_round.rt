@@ -1,0 +1,1 @@
+    first_runnable(places, last + 1, top)

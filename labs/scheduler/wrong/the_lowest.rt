@@ -1,0 +1,1 @@
+    first_runnable(places, 0, top)

@@ -1,0 +1,224 @@
+"""Labs in the kernel: see ../README.md and `lab --help`."""
+import concurrent.futures
+import csv
+import os
+import pathlib
+import shutil
+import subprocess
+import sys
+
+import bodies
+import rooms
+import verdicts
+from bodies import Refused
+from prover import PROVED, REFUSED
+from source import LABS, TOP, Lab, LabError, all_labs
+from verdicts import Verdict
+
+HELP = """usage: lab                     the labs, from the first on
+       lab NAME [FOLDER]       makes a folder of your own with the lab NAME (lab-NAME, if no FOLDER is named)
+       lab check [FOLDER]      is the body wrong, proved or open? Half a minute
+       lab run FOLDER FILE..   runs programs on the kernel with your body in it, in a build without proofs
+       lab grade [--jobs N] FOLDER..    CSV: each folder's lab, verdict and reason; N folders at once
+       lab prepare [NAME..]    proves what lies below the labs of these names, once in a clone (no NAME: below all labs)
+       lab pack FILE           what `lab prepare` made, as an archive FILE (.tar.xz) for a class
+       lab unpack FILE         puts what is in such an archive into a clone of the same version, with the same kit
+
+It needs the Rattle kit (`rt` on the PATH) and Python 3. `lab check` and `lab grade` end with the status 0 if each body is
+proved, 1 if one isn't, 2 if the words or the host won't do."""
+
+# How long a crate takes the first time, in seconds, on a host of 4 processors that does nothing else.
+SECONDS = {"xk_base": 50, "phys_ram": 30, "frame_list": 30, "file_table": 60, "pipe_core": 45, "console_core": 50,
+           "sv39_core": 70, "proc_table": 180, "rv64i_core": 380}
+
+
+def say(text):
+    """A line for the person, beside what is asked for."""
+    print(f"lab: {text}", file=sys.stderr, flush=True)
+
+
+def need_kit():
+    """Refuses to go on without the kit."""
+    if not shutil.which("rt"):
+        raise LabError("there is no rt on the PATH: it is the command of the Rattle kit, which proves")
+
+
+def show_labs():
+    """The labs, in their order."""
+    print("The labs, in the order of the xv6 book. `lab NAME` makes a folder of your own with one.")
+    for line in (LABS / "ORDER").read_text(encoding="utf-8").split("\n"):
+        if line.strip() and not line.startswith("#"):
+            name, _, told = line.partition(" ")
+            print(f"  {name:12} {told.strip()}")
+
+
+def make_folder(name, folder=None):
+    """Makes a folder with a lab."""
+    lab = Lab(name)
+    home = pathlib.Path(folder or f"lab-{name}")
+    if home.exists():
+        raise LabError(f"{home} is there already: name another folder, `lab {name} FOLDER`")
+    (home / "read" / "specs").mkdir(parents=True)
+    shutil.copy(lab.home / "README.md", home / "README.md")
+    (home / bodies.ANSWER).write_text(lab.sheet(), encoding="utf-8")
+    for file, text in bodies.handed_out(lab):
+        (home / file).write_text(text, encoding="utf-8")
+    print(f"{home}/README.md is the page of the lab, {home}/{bodies.ANSWER} the place for your body. Then: lab check {home}")
+    tell_missing(lab)
+
+
+def tell_missing(lab):
+    """Says what has to be built before a body can be proved; whether something has."""
+    missing = [*rooms.missing_below(lab)]
+    if missing:
+        minutes = sum(SECONDS.get(it, 60) for it in missing) // 60 + 1
+        say(f"before a body can be proved, {', '.join(missing)} have to be: `lab prepare {lab.name}` does it, once, in some "
+            f"{minutes} minutes on a host that does nothing else")
+    return bool(missing)
+
+
+def prepare(names):
+    """Proves what lies below labs, and their own crates."""
+    need_kit()
+    for crate in dict.fromkeys(Lab(it).crate for it in names or all_labs()):
+        say(f"proving {crate} and what lies below it, some {SECONDS.get(crate, 60)} seconds and what is missing below")
+        done = subprocess.run(["rt", "check"], cwd=TOP / "crates" / crate, stdout=subprocess.PIPE, stderr=subprocess.STDOUT, check=False)
+        if done.returncode:
+            tail = done.stdout.decode(errors="replace").strip().split("\n")[-3:]
+            raise LabError(f"{crate} of this clone isn't proved, so it can't be prepared: {' '.join(tail)}")
+    say("all is there")
+
+
+def kept_work():
+    """What labs need of what `rt` keeps, below the top of the clone: each library below, and the work of the labs' crates."""
+    labs = [Lab(it) for it in all_labs()]
+    for name in dict.fromkeys(it for lab in labs for it in [*lab.below(), lab.crate]):
+        yield f"crates/{name}/out/rlib"
+    for name in dict.fromkeys(lab.crate for lab in labs):
+        yield f"crates/{name}/out/incremental"
+
+
+def pack(file):
+    """Packs what `lab prepare` made."""
+    paths = list(kept_work())
+    missing = [it for it in paths if not (TOP / it).is_dir()]
+    if missing:
+        raise LabError(f"{missing[0]} isn't there: `lab prepare` makes it")
+    say("packing, some minutes")
+    words = ["tar", "-C", str(TOP), "--sort=name", "--owner=0", "--group=0", "-cJf", os.path.abspath(file), *paths]
+    if subprocess.run(words, env={**os.environ, "XZ_OPT": "-T0"}, check=False).returncode:
+        raise LabError(f"{file} couldn't be written")
+
+
+def unpack(file):
+    """Takes out of an archive what labs need, and nothing else."""
+    if subprocess.run(["tar", "-C", str(TOP), "-xJf", os.path.abspath(file), *kept_work()], check=False).returncode:
+        raise LabError(f"{file} isn't such an archive, or not of this version")
+    say("all is there; if the kit is another, or a crate was changed, rt proves it anew")
+
+
+def judged(folder, tell=lambda text: None):
+    """The lab of a folder, and the verdict on its body."""
+    try:
+        answer = bodies.read_answer(folder)
+    except Refused as refused:
+        return None, Verdict(REFUSED, (str(refused),))
+    return answer.lab, verdicts.judge(answer.lab, answer.body, answer.line, tell)
+
+
+def check(folder):
+    """Checks one folder, and shows the verdict."""
+    need_kit()
+    if not os.path.isdir(folder):
+        raise LabError(f"there is no folder {folder}: `lab NAME` makes one")
+    _, verdict = judged(folder, say)
+    print(verdicts.MESSAGES[verdict.word])
+    for line in verdict.lines:
+        print(f"    {line}")
+    return 0 if verdict.word == PROVED else 1
+
+
+def same_as_shipped(lab, body):
+    """Whether a body is, word for word, the one that the clone has."""
+    words = [it[1] for it in bodies.tokens(body)]
+    return words == [it[1] for it in bodies.tokens(lab.cut.body)]
+
+
+def graded(folder):
+    """A line of CSV for a folder: its name, lab, verdict and reason."""
+    lab, verdict = judged(folder) if os.path.isdir(folder) else (None, Verdict(REFUSED, ("it is no folder",)))
+    reason = verdict.reason()
+    if verdict.word == PROVED and same_as_shipped(lab, bodies.read_answer(folder).body):
+        reason = "it is the body of this repository, word for word"
+    shown = os.fsencode(folder).decode(errors="backslashreplace")
+    return [shown, lab.name if lab else "", verdict.word, reason]
+
+
+def grade(folders, jobs=1):
+    """Writes a line of CSV for each folder, in their order, as soon as it is judged."""
+    need_kit()
+    rows = csv.writer(sys.stdout, lineterminator="\n")
+    rows.writerow(["folder", "lab", "verdict", "reason"])
+    is_proved = True
+    with concurrent.futures.ThreadPoolExecutor(jobs) as pool:
+        for row in pool.map(graded, folders):
+            rows.writerow(row)
+            sys.stdout.flush()
+            is_proved = is_proved and row[2] == PROVED
+    return 0 if is_proved else 1
+
+
+def run(folder, words):
+    """Runs programs on the kernel with a folder's body in it."""
+    need_kit()
+    try:
+        answer = bodies.read_answer(folder)
+    except Refused as refused:
+        raise LabError(f"refused: {refused}") from refused
+    home = rooms.whole_room(answer.lab)
+    text, _ = answer.lab.with_body(answer.body)
+    rooms.write_if_changed(home / "crates" / answer.lab.crate / answer.lab.file, text)
+    os.execv(home / "programs/host/build.sh", ["build.sh", "--unproved", *words])
+
+
+def main(words):
+    """Does what the words ask for; its status."""
+    try:
+        match words:
+            case []:
+                show_labs()
+            case ["--help" | "-h"]:
+                print(HELP)
+            case ["check"]:
+                return check(".")
+            case ["check", folder]:
+                return check(folder)
+            case ["grade", "--jobs", number, _, *_] if number.isdecimal() and 0 < int(number) <= 64:
+                return grade(words[3:], int(number))
+            case ["grade", first, *_] if not first.startswith("-"):
+                return grade(words[1:])
+            case ["run", folder, _, *_]:
+                run(folder, words[2:])
+            case ["pack", file]:
+                pack(file)
+            case ["unpack", file]:
+                unpack(file)
+            case ["prepare", *names]:
+                prepare(names)
+            case [name, *folder] if name in all_labs() and len(folder) < 2:
+                make_folder(name, *folder)
+            case [name] if not name.startswith("-") and name not in ("grade", "run", "pack", "unpack"):
+                raise LabError(f"there is no lab {name}; `lab` lists them")
+            case _:
+                print(HELP, file=sys.stderr)
+                return 2
+    except (LabError, OSError) as error:
+        say(str(error))
+        return 2
+    except KeyboardInterrupt:
+        return 130
+    return 0
+
+
+if __name__ == "__main__":
+    sys.exit(main(sys.argv[1:]))

@@ -1,0 +1,69 @@
+"""Plays bodies beside the crate's own, in a build without proofs: over small states, and over random ones."""
+import dataclasses
+import re
+import subprocess
+
+from source import LABS
+
+WRONG, SAME, UNTRIED = "wrong", "same", "untried"
+# How many seconds one body is played; it takes a few, and a loop without an end takes all of them.
+SECONDS = 60
+
+
+@dataclasses.dataclass(frozen=True)
+class Play:
+    """What a play tells: wrong with the lines of the case, the same in so many cases, or why it couldn't be played."""
+    verdict: str
+    lines: tuple = ()
+    cases: int = 0
+    text: str = ""
+
+
+def module_of(lab, name):
+    """The module that plays the function of this name, from the lab's play.rt."""
+    text = (LABS / "tools" / "dice.rt").read_text(encoding="utf-8") + (lab.home / "play.rt").read_text(encoding="utf-8")
+    return f"\n#[cfg(test)]\nmod {name}_play {{\n" + text.replace("STUDENT", name) + "}\n"
+
+
+def tried(room):
+    """What `rt try --test` prints of the room's crate."""
+    how = {"cwd": room.crate, "stdout": subprocess.PIPE, "stderr": subprocess.STDOUT, "stdin": subprocess.DEVNULL}
+    done = subprocess.run(["rt", "try", "--test", "--seconds", str(SECONDS)], check=False, **how)
+    text = done.stdout.decode(errors="replace")
+    (room.home / "said.txt").write_text(text, encoding="utf-8")
+    return text
+
+
+def told_of(text, name):
+    """The lines that the play of a function printed, and whether it passed; nothing if it wasn't played."""
+    found = re.search(rf"^test \S*\b{name}_play::\S+ \.\.\. (ok|FAILED)\n((?:    .*\n)*)", text, re.M)
+    return found and (found[1] == "ok", [it[4:] for it in found[2].split("\n") if it])
+
+
+def stopped(lines):
+    """The lines of a case in which the body stopped: the last case that was begun, and where and why it stopped."""
+    begun = [it for it in lines if it.startswith("case: ")]
+    said = [it for it in lines if not it.startswith(("case: ", "played: "))]
+    why = next((it for it in said if "src/" in it or "panick" in it or "seconds" in it or "killed" in it), said[-1] if said else "")
+    return [*(["before: " + begun[-1][6:]] if begun else []), f"came: it stops: {why or 'without a word'}"]
+
+
+def play_of(text, name):
+    """What the play of one function tells."""
+    found = told_of(text, name)
+    if not found:
+        return Play(UNTRIED, lines=tuple(text.strip().split("\n")[-6:]), text=text)
+    passed, lines = found
+    if passed:
+        cases = [int(it.split()[1]) for it in lines if it.startswith("played: ")]
+        return Play(SAME, cases=sum(cases), text=text)
+    told = [it for it in lines if re.match(r"(before|call|asked|came|clause): ", it)]
+    return Play(WRONG, lines=tuple(told or stopped(lines)), text=text)
+
+
+def play(lab, room, bodies):
+    """Plays bodies, by the names of functions that they get: a Play for each."""
+    text, _ = lab.with_bodies(bodies)
+    room.write_code(text + "".join(module_of(lab, name) for name in bodies))
+    said = tried(room)
+    return {name: play_of(said, name) for name in bodies}

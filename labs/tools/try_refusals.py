@@ -1,0 +1,141 @@
+"""Hands in what is no body, in many ways, and sees that each is refused for its own reason; and that plain bodies aren't.
+It proves and plays nothing, and needs no kit: checks/labs.sh --refusals."""
+import os
+import pathlib
+import sys
+import tempfile
+
+import bodies
+from source import BEGIN, END, Lab
+
+GOOD = Lab("pipewrite").variants("right")["with_min"]
+
+# A body, and a word of the reason why it is refused; no word: it isn't.
+BODIES = [
+    (GOOD, ""),
+    (GOOD + '\n    // a comment with } and fn and "', ""),
+    ("    /* } /* nested } */ } */\n" + GOOD, ""),
+    ("    let _sign = '}';\n    let _text = \"}\";\n    let _raw = r#\"}\"#;\n" + GOOD, ""),
+    ("    let _byte = b'{';\n    let _other = '\\u{7d}';\n" + GOOD, ""),
+    ("    loop {}", ""),
+    ("", "empty"),
+    ("    // nothing but a comment", "empty"),
+    ("    unreachable!()", "gives up"),
+    ("    panic!(\"no\")", "gives up"),
+    ("    todo!()", "gives up"),
+    ("    if true { unreachable ! { } }\n    0", "gives up"),
+    ("    assert!(false);\n    0", "gives up"),
+    ("    0\n}\n\nfn helper() {", "hasn't opened"),
+    ("    0 }", "hasn't opened"),
+    ("    { 0", "isn't closed"),
+    ("    /* 0", "isn't closed"),
+    ("    let _text = \"0;\n    0", "isn't closed"),
+    ("    (0]", "hasn't opened"),
+    ("    fn helper() -> usize { 0 }\n    helper()", "`fn`"),
+    ("    use crate::len as count;\n    count(ram, frame)", "`use`"),
+    ("    const PIPE_BYTES: usize = 1;\n    0", "`const`"),
+    ("    static mut X: usize = 0;\n    0", "`static`"),
+    ("    struct Ram;\n    0", "`struct`"),
+    ("    impl Frame { }\n    0", "`impl`"),
+    ("    mod inner { }\n    0", "`mod`"),
+    ("    trait Any { }\n    0", "`trait`"),
+    ("    type Frame = u8;\n    0", "`type`"),
+    ("    macro_rules! m { () => { 0 } }\n    m!()", "`macro_rules`"),
+    ("    include!(\"other.rt\")", "macro"),
+    ("    env!(\"PATH\");\n    0", "macro"),
+    ("    unsafe { 0 }", "`unsafe`"),
+    ("    #[allow(warnings)]\n    0", "attribute"),
+    ("    #[tactic(none)]\n    let n = 0;\n    n", "attribute"),
+    ("    #![tactic(none)]\n    0", "attribute"),
+    ("    r#fn", "attribute"),
+    ("    let f = || requires { ⊥ } { 0 };\n    f()", "`requires`"),
+    ("    let f = || ensures { ⊤ } { 0 };\n    f()", "`ensures`"),
+    ("    ghost let x = 0;\n    0", "`ghost`"),
+    ("    push(ram, frame, bytes)", "function itself"),
+    ("    crate::push(ram, frame, bytes)", "function itself"),
+    ("    lab_right_a_push(ram, frame, bytes)", "labs' own"),
+    ("    push_part(ram, frame, frame, 0, 0);\n    0", "the lab's work"),
+    ("    0 \u202e", "no place"),
+]
+
+
+def with_body(body):
+    """An answer with a body."""
+    return Lab("pipewrite").sheet(body)
+
+
+def files():
+    """Whole answers: a name, what makes it in a folder, and a word of the reason."""
+    good = with_body(GOOD)
+
+    def text(data):
+        return lambda home: (home / "answer.rt").write_bytes(data if isinstance(data, bytes) else data.encode())
+
+    def link(home):
+        (home / "real.rt").write_text(good, encoding="utf-8")
+        (home / "answer.rt").symlink_to("real.rt")
+
+    def read_file(home):
+        text(good)(home)
+        (home / "read" / "specs").mkdir(parents=True)
+        (home / "read" / "specs" / "Pipe.antt").write_text("pub new_pipe : Unit\n", encoding="utf-8")
+
+    def more(home):
+        text(good)(home)
+        (home / "proofs" / "push").mkdir(parents=True)
+        (home / "proofs" / "push" / "Answers.antt").write_text("pub returns c = ?\n", encoding="utf-8")
+
+    yield "as it is", text(good), ""
+    yield "with another file beside it", more, ""
+    yield "CRLF and a BOM", text(b"\xef\xbb\xbf" + good.replace("\n", "\r\n").encode()), ""
+    yield "blanks at the ends of lines", text(good.replace("\n", "  \n")), ""
+    yield "no file", lambda home: None, "can't be read"
+    yield "a link", link, "can't be read"
+    yield "a folder", lambda home: (home / "answer.rt").mkdir(), "is no file"
+    yield "a pipe", lambda home: os.mkfifo(home / "answer.rt"), "is no file"
+    yield "a device", lambda home: (home / "answer.rt").symlink_to("/dev/zero"), "can't be read"
+    yield "too long", text(good + "\n" * 70000), "more than"
+    yield "a byte 0", text(good.replace("let ", "let\0")), "byte 0"
+    yield "no UTF-8", text(good.encode() + b"\xff"), "UTF-8"
+    yield "no first line", text(good.split("\n", 1)[1]), "doesn't begin"
+    yield "another lab", text(good.replace("Lab pipewrite", "Lab fdalloc")), "above the body"
+    yield "no such lab", text(good.replace("Lab pipewrite", "Lab nothing")), "there is no lab"
+    yield "a lab of another folder", text(good.replace("Lab pipewrite", "Lab ../x")), "doesn't begin"
+    yield "no line of signs", text(good.replace(END, "")), "signs"
+    yield "two lines of signs", text(good.replace(END, END + "\n" + END)), "signs"
+    yield "signs in the other order", text(good.replace(BEGIN, "@").replace(END, BEGIN).replace("@", END)), "signs"
+    yield "a weaker contract", text(good.replace("min (length", "max (length")), "above the body"
+    yield "a clause fewer", text("\n".join(it for it in good.split("\n") if "ensures pipe" not in it)), "above the body"
+    yield "a requires more", text(good.replace("    requires", "    requires no { ⊥ }\n    requires")), "above the body"
+    yield "an attribute more", text(good.replace("pub fn", "#[tactic(none)]\npub fn")), "above the body"
+    yield "another name", text(good.replace("pub fn push", "pub fn pull")), "above the body"
+    yield "a function more", text(good + "\nfn more() {}\n"), "below the body"
+    yield "a changed definition", read_file, "checksum"
+
+
+def reason_for(make):
+    """Why a folder that is made so is refused; nothing if it isn't."""
+    with tempfile.TemporaryDirectory() as room:
+        make(pathlib.Path(room))
+        try:
+            bodies.read_answer(room)
+        except bodies.Refused as refused:
+            return str(refused)
+    return ""
+
+
+def main():
+    """Hands in all of it."""
+    cases = [(f"body {body!r}", lambda home, b=body: (home / "answer.rt").write_text(with_body(b), encoding="utf-8"), word) for body, word in BODIES]
+    amiss = 0
+    for name, make, word in [*cases, *files()]:
+        said = reason_for(make)
+        if bool(said) != bool(word) or word not in said:
+            amiss += 1
+            print(f"{name}: wanted {word or 'no refusal'!r}, and it is {said or 'not refused'!r}")
+    print(f"{len(BODIES) + len([*files()])} answers handed in, {amiss} not judged as they are to be")
+    return 1 if amiss else 0
+
+
+if __name__ == "__main__":
+    sys.exit(main())

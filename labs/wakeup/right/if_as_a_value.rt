@@ -1,0 +1,3 @@
+        if let State::Live(life) = &mut self.state {
+            life.channel = if life.sleeps_on(on) { None } else { life.channel };
+        }

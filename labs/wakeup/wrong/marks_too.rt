@@ -1,0 +1,6 @@
+        if let State::Live(life) = &mut self.state {
+            if life.sleeps_on(on) {
+                life.channel = None;
+                life.marked = true;
+            }
+        }

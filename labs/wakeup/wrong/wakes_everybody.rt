@@ -1,0 +1,3 @@
+        if let State::Live(life) = &mut self.state {
+            life.channel = None;
+        }

@@ -1,0 +1,4 @@
+    let indexes = split(va)?;
+    let _upper = read_table(ram, root, indexes[0])?;
+    let lower = read_table(ram, root, indexes[1])?;
+    Some(Pte::from_bits(ram.read_u64(lower, indexes[2])))
