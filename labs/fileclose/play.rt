@@ -50,7 +50,7 @@
                 return false;
             }
             if is != wanted {
-                let _ = println!(*rt; "before: places 0, 1 and 2 are named by {first}, {second} and {third} descriptors; the file in place {place} is closed\nclause: after\nasked: the file in place {other} is what it was\ncame: it is another");
+                let _ = println!(*rt; "before: places 0, 1 and 2 are named by {first}, {second} and {third} descriptors; the file in place {place} is closed\nclause: after\nasked: place {other} is free then, or has the same file, as it is due\ncame: it isn't so");
                 return false;
             }
         }

@@ -1,7 +1,19 @@
+    // The words of a frame that are filled before, and looked at after.
+    const SOME_WORDS: [usize; 5] = [0, 1, 2, 255, 511];
+
+    fn is_same_frame(one: &Ram, other: &Ram, frame: Frame) -> bool {
+        for word in SOME_WORDS {
+            if one.read_u64(frame, word) != other.read_u64(frame, word) {
+                return false;
+            }
+        }
+        true
+    }
+
     // RAM of 16 frames, all of other bytes than 0, and a pool of as many of them, in an order that `step` gives.
     fn begin(ram: &mut Ram, count: u32, step: u32) -> Pool {
         for number in 0..16 {
-            for word in 0..512 {
+            for word in SOME_WORDS {
                 ram.write_u64(Frame::new(number), word, 0x0101_0101_0101_0101 * (u64::from(number) + 1));
             }
         }
@@ -51,7 +63,7 @@
                 let _ = println!(*rt; "before: {count} of 16 frames are free; frame {number} is given back\nasked: frame {other} is {wanted} times in the list\ncame: {is} times (99: the list has no end, or leads out of RAM)");
                 return false;
             }
-            let same = wanted == 1 || mine.frame(frame) == its.frame(frame);
+            let same = wanted == 1 || is_same_frame(mine, its, frame);
             if !same {
                 let _ = println!(*rt; "before: {count} of 16 frames are free; frame {number} is given back\nasked: frame {other}, which isn't free, keeps its bytes\ncame: it doesn't");
                 return false;
@@ -66,7 +78,7 @@
         let mut its = Ram::new(rt.alloc(), 16).expect(&rt, "memory");
         let mut cases = 0;
         for count in 0..16 {
-            for step in [1, 3, 5, 7, 9, 11, 13, 15] {
+            for step in [1, 3, 7, 13] {
                 assert!(rt; play_one(&rt, &mut mine, &mut its, count, step), "the case is told above");
                 cases += 1;
             }

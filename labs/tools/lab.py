@@ -8,6 +8,7 @@ import subprocess
 import sys
 
 import bodies
+import laws
 import rooms
 import verdicts
 from bodies import Refused
@@ -54,10 +55,16 @@ def show_labs():
 
 def make_folder(name, folder=None):
     """Makes a folder with a lab."""
-    lab = Lab(name)
     home = pathlib.Path(folder or f"lab-{name}")
     if home.exists():
         raise LabError(f"{home} is there already: name another folder, `lab {name} FOLDER`")
+    if laws.is_one(name):
+        for file, text in laws.files_of(name):
+            (home / file).parent.mkdir(parents=True, exist_ok=True)
+            (home / file).write_text(text, encoding="utf-8")
+        print(f"{home}/README.md is the page of the lab, {home}/{laws.NAME} the place for your answer. Then: lab check {home}")
+        return
+    lab = Lab(name)
     (home / "read" / "specs").mkdir(parents=True)
     shutil.copy(lab.home / "README.md", home / "README.md")
     (home / bodies.ANSWER).write_text(lab.sheet(), encoding="utf-8")
@@ -80,7 +87,7 @@ def tell_missing(lab):
 def prepare(names):
     """Proves what lies below labs, and their own crates."""
     need_kit()
-    for crate in dict.fromkeys(Lab(it).crate for it in names or all_labs()):
+    for crate in dict.fromkeys(Lab(it).crate for it in names or all_labs() if not laws.is_one(it)):
         say(f"proving {crate} and what lies below it, some {SECONDS.get(crate, 60)} seconds and what is missing below")
         done = subprocess.run(["rt", "check"], cwd=TOP / "crates" / crate, stdout=subprocess.PIPE, stderr=subprocess.STDOUT, check=False)
         if done.returncode:
@@ -91,7 +98,7 @@ def prepare(names):
 
 def kept_work():
     """What labs need of what `rt` keeps, below the top of the clone: each library below, and the work of the labs' crates."""
-    labs = [Lab(it) for it in all_labs()]
+    labs = [Lab(it) for it in all_labs() if not laws.is_one(it)]
     for name in dict.fromkeys(it for lab in labs for it in [*lab.below(), lab.crate]):
         yield f"crates/{name}/out/rlib"
     for name in dict.fromkeys(lab.crate for lab in labs):
@@ -118,12 +125,14 @@ def unpack(file):
 
 
 def judged(folder, tell=lambda text: None):
-    """The lab of a folder, and the verdict on its body."""
+    """The lab's name of a folder, and the verdict on its body."""
     try:
+        if os.path.lexists(os.path.join(folder, laws.NAME)):
+            return laws.judged(folder)
         answer = bodies.read_answer(folder)
     except Refused as refused:
-        return None, Verdict(REFUSED, (str(refused),))
-    return answer.lab, verdicts.judge(answer.lab, answer.body, answer.line, tell)
+        return "", Verdict(REFUSED, (str(refused),))
+    return answer.lab.name, verdicts.judge(answer.lab, answer.body, answer.line, tell)
 
 
 def check(folder):
@@ -138,20 +147,21 @@ def check(folder):
     return 0 if verdict.word == PROVED else 1
 
 
-def same_as_shipped(lab, body):
-    """Whether a body is, word for word, the one that the clone has."""
-    words = [it[1] for it in bodies.tokens(body)]
-    return words == [it[1] for it in bodies.tokens(lab.cut.body)]
+def is_as_shipped(folder):
+    """Whether a folder's body is, word for word, the one that the clone has."""
+    answer = bodies.read_answer(folder)
+    words = [it[1] for it in bodies.tokens(answer.body)]
+    return words == [it[1] for it in bodies.tokens(answer.lab.cut.body)]
 
 
 def graded(folder):
     """A line of CSV for a folder: its name, lab, verdict and reason."""
-    lab, verdict = judged(folder) if os.path.isdir(folder) else (None, Verdict(REFUSED, ("it is no folder",)))
+    name, verdict = judged(folder) if os.path.isdir(folder) else ("", Verdict(REFUSED, ("it is no folder",)))
     reason = verdict.reason()
-    if verdict.word == PROVED and same_as_shipped(lab, bodies.read_answer(folder).body):
+    if verdict.word == PROVED and not laws.is_one(name) and is_as_shipped(folder):
         reason = "it is the body of this repository, word for word"
     shown = os.fsencode(folder).decode(errors="backslashreplace")
-    return [shown, lab.name if lab else "", verdict.word, reason]
+    return [shown, name, verdict.word, reason]
 
 
 def grade(folders, jobs=1):
