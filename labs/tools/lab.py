@@ -71,17 +71,18 @@ def make_folder(name, folder=None):
     for file, text in bodies.handed_out(lab):
         (home / file).write_text(text, encoding="utf-8")
     print(f"{home}/README.md is the page of the lab, {home}/{bodies.ANSWER} the place for your body. Then: lab check {home}")
-    tell_missing(lab)
+    if missing(lab):
+        say(missing(lab))
 
 
-def tell_missing(lab):
-    """Says what has to be built before a body can be proved; whether something has."""
-    missing = [*rooms.missing_below(lab)]
-    if missing:
-        minutes = sum(SECONDS.get(it, 60) for it in missing) // 60 + 1
-        say(f"before a body can be proved, {', '.join(missing)} have to be: `lab prepare {lab.name}` does it, once, in some "
-            f"{minutes} minutes on a host that does nothing else")
-    return bool(missing)
+def missing(lab):
+    """What has to be built before a body of the lab can be proved, in words; nothing if all is there."""
+    names = rooms.missing_below(lab)
+    if not names:
+        return ""
+    minutes = sum(SECONDS.get(it, 60) for it in [*names, lab.crate]) // 60 + 1
+    return (f"before a body can be proved, {', '.join(names)} have to be: `lab prepare {lab.name}` does it, once, in some "
+            f"{minutes} minutes on a host of 4 processors that does nothing else")
 
 
 def prepare(names):
@@ -108,9 +109,9 @@ def kept_work():
 def pack(file):
     """Packs what `lab prepare` made."""
     paths = list(kept_work())
-    missing = [it for it in paths if not (TOP / it).is_dir()]
-    if missing:
-        raise LabError(f"{missing[0]} isn't there: `lab prepare` makes it")
+    absent = [it for it in paths if not (TOP / it).is_dir()]
+    if absent:
+        raise LabError(f"{absent[0]} isn't there: `lab prepare` makes it")
     say("packing, some minutes")
     words = ["tar", "-C", str(TOP), "--sort=name", "--owner=0", "--group=0", "-cJf", os.path.abspath(file), *paths]
     if subprocess.run(words, env={**os.environ, "XZ_OPT": "-T0"}, check=False).returncode:
@@ -132,6 +133,8 @@ def judged(folder, tell=lambda text: None):
         answer = bodies.read_answer(folder)
     except Refused as refused:
         return "", Verdict(REFUSED, (str(refused),))
+    if missing(answer.lab):
+        raise LabError(missing(answer.lab))
     return answer.lab.name, verdicts.judge(answer.lab, answer.body, answer.line, tell)
 
 
