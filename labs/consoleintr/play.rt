@@ -31,7 +31,7 @@
             let _ = println!(*rt; "before: {committed} bytes are committed and {uncommitted} are not; the key {key}\nclause: echo\nasked: {wanted} bytes are shown\ncame: {shown}");
             return false;
         }
-        if !came.as_slice() == asked.as_slice() {
+        if came.as_slice() != asked.as_slice() {
             let _ = println!(*rt; "before: {committed} bytes are committed and {uncommitted} are not; the key {key}\nclause: echo\nasked: other bytes are shown\ncame: as many, and others");
             return false;
         }

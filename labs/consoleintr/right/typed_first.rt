@@ -1,6 +1,7 @@
+        let held = self.held();
         let meaning = Key::of(key);
         if let Key::Typed(byte) = meaning {
-            if self.held() == CONSOLE_BYTES {
+            if held == CONSOLE_BYTES {
                 return Echo::new();
             }
             return self.type_byte(byte);

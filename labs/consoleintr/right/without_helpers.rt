@@ -1,5 +1,6 @@
+        let held = self.held();
         match Key::of(key) {
-            Key::Typed(byte) if self.held() < CONSOLE_BYTES => self.type_byte(byte),
+            Key::Typed(byte) if held < CONSOLE_BYTES => self.type_byte(byte),
             Key::Typed(_) => Echo::new(),
             Key::Erase => {
                 if self.uncommitted.is_empty() {
