@@ -70,7 +70,7 @@
         for _ in 0..200 {
             let committed = dice.below(CONSOLE_BYTES + 1);
             let uncommitted = dice.below(CONSOLE_BYTES + 1 - committed).min(126);
-            let key = dice.next() as u8;
+            let key = (dice.next() % 256) as u8;
             assert!(rt; play_one(&rt, &mut mine, &mut its, committed, uncommitted, key), "the case is told above");
             cases += 1;
         }

@@ -14,12 +14,16 @@
         let mut wanted = [170; 140];
         let came = mine.STUDENT(&mut got[..room], done);
         let asked = its.pull_line(&mut wanted[..room], done);
-        if came.taken != asked.taken {
-            let _ = println!(*rt; "before: committed are {bytes:?}; a read has room for {room} more bytes, and took {done} before\nclause: count\nasked: it takes {}\ncame: {}", asked.taken, came.taken);
+        let taken = came.taken;
+        let takes = asked.taken;
+        let ended = came.ended;
+        let ends = asked.ended;
+        if taken != takes {
+            let _ = println!(*rt; "before: committed are {bytes:?}; a read has room for {room} more bytes, and took {done} before\nclause: count\nasked: it takes {takes}\ncame: {taken}");
             return false;
         }
-        if came.ended != asked.ended {
-            let _ = println!(*rt; "before: committed are {bytes:?}; a read has room for {room} more bytes, and took {done} before\nclause: ended\nasked: the read is over: {}\ncame: {}", asked.ended, came.ended);
+        if ended != ends {
+            let _ = println!(*rt; "before: committed are {bytes:?}; a read has room for {room} more bytes, and took {done} before\nclause: ended\nasked: the read is over: {ends}\ncame: {ended}");
             return false;
         }
         if got != wanted {
@@ -64,7 +68,7 @@
             let mut bytes = [0; CONSOLE_BYTES];
             let count = dice.below(CONSOLE_BYTES + 1);
             for place in 0..count {
-                bytes[place] = if dice.below(40) == 0 { 10 } else if dice.below(40) == 0 { 4 } else { dice.next() as u8 };
+                bytes[place] = if dice.below(40) == 0 { 10 } else if dice.below(40) == 0 { 4 } else { (dice.next() % 256) as u8 };
             }
             let room = dice.below(140);
             assert!(rt; play_one(&rt, &mut mine, &mut its, &bytes[..count], room, dice.below(2) * room), "the case is told above");

@@ -41,11 +41,16 @@ def told_of(text, name):
 
 
 def stopped(lines):
-    """The lines of a case in which the body stopped: the last case that was begun, and where and why it stopped."""
+    """The lines of a case in which the body stopped: the last case that was begun, and why it stopped."""
     begun = [it for it in lines if it.startswith("case: ")]
-    said = [it for it in lines if not it.startswith(("case: ", "played: "))]
-    why = next((it for it in said if "src/" in it or "panick" in it or "seconds" in it or "killed" in it), said[-1] if said else "")
-    return [*(["before: " + begun[-1][6:]] if begun else []), f"came: it stops: {why or 'without a word'}"]
+    faults = [re.search(r"fault kind=\S+ in=.*?: (.*?)(?:, called from.*)?$", it) for it in lines]
+    why = [it[1] for it in faults if it] or [it for it in lines if not it.startswith(("case: ", "played: "))][-1:]
+    return [*(["before: " + begun[-1][6:]] if begun else []), f"came: it stops: {why[0] if why else 'without a word'}"]
+
+
+def is_of_play(lines, name):
+    """Whether it was the play itself that stopped, and not the body."""
+    return any(f"{name}_play::" in it.partition(" in=")[2].partition(": ")[0] for it in lines if "fault kind=" in it)
 
 
 def play_of(text, name):
@@ -57,6 +62,8 @@ def play_of(text, name):
     if passed:
         cases = [int(it.split()[1]) for it in lines if it.startswith("played: ")]
         return Play(SAME, cases=sum(cases), text=text)
+    if is_of_play(lines, name):
+        return Play(UNTRIED, lines=tuple(lines[-2:]), text=text)
     told = [it for it in lines if re.match(r"(before|call|asked|came|clause): ", it)]
     return Play(WRONG, lines=tuple(told or stopped(lines)), text=text)
 

@@ -30,8 +30,11 @@
         let _ = println!(*rt; "case: the virtual address {va:#x}");
         let came = STUDENT(ram, Frame::new(1), va).map(|entry| entry.bits());
         let asked = last_entry(ram, Frame::new(1), va).map(|entry| entry.bits());
+        let first = va >> 30 & 511;
+        let second = va >> 21 & 511;
+        let third = va >> 12 & 511;
         if came != asked {
-            let _ = println!(*rt; "before: the virtual address {va:#x}; its parts are {} in the root, {} in the upper and {} in the lower table\nasked: the entry {asked:?}\ncame: {came:?}", va >> 30 & 511, va >> 21 & 511, va >> 12 & 511);
+            let _ = println!(*rt; "before: the virtual address {va:#x}; its parts are {first} in the root, {second} in the upper and {third} in the lower table\nasked: the entry {asked:?}\ncame: {came:?}");
             return false;
         }
         true
