@@ -28,7 +28,7 @@ tell_others() {
     tell wrong-bodies/run.sh 'wrong-bodies/run.sh [CRATE..]' 'the prover refuses wrong bodies: minutes a crate, hours for all'
     tell wrong-bodies/run.sh 'wrong-bodies/run.sh --definitions [CRATE..]' 'a law, worked case or contract refuses turned definitions: 1 to 10 minutes each'
     tell labs.sh 'labs.sh [NAME..]' 'the labs: right bodies are proved, wrong ones told by a case: 2 to 5 minutes each; needs rt'
-    tell labs.sh 'labs.sh --refusals' '70 answers of a lab, most of which are refused: seconds; needs no kit'
+    tell labs.sh 'labs.sh --refusals' '69 answers of a lab, most of which are refused: seconds; needs no kit'
     tell hostile/run.sh 'hostile/run.sh' 'each refused growth of memory, read and write is answered: a minute'
     tell beside-qemu/run.sh 'beside-qemu/run.sh' '1,000 random programs do what they do under QEMU: some minutes; needs qemu-user'
     tell rows/run.sh 'rows/run.sh --many 1000 [--seed N]' 'more random programs in rows and by single events: minutes'

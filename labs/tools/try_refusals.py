@@ -8,7 +8,8 @@ import tempfile
 import bodies
 from source import BEGIN, END, Lab
 
-GOOD = Lab("pipewrite").variants("right")["with_min"]
+NAME = "fileclose"
+GOOD = Lab(NAME).variants("right")["as_shipped"]
 
 # A body, and a word of the reason why it is refused; no word: it isn't.
 BODIES = [
@@ -32,14 +33,14 @@ BODIES = [
     ("    let _text = \"0;\n    0", "isn't closed"),
     ("    (0]", "hasn't opened"),
     ("    fn helper() -> usize { 0 }\n    helper()", "`fn`"),
-    ("    use crate::len as count;\n    count(ram, frame)", "`use`"),
-    ("    const PIPE_BYTES: usize = 1;\n    0", "`const`"),
+    ("    use crate::file_id::FileId as Id;\n    false", "`use`"),
+    ("    const OPEN_FILES: usize = 1;\n    false", "`const`"),
     ("    static mut X: usize = 0;\n    0", "`static`"),
-    ("    struct Ram;\n    0", "`struct`"),
-    ("    impl Frame { }\n    0", "`impl`"),
+    ("    struct Files;\n    false", "`struct`"),
+    ("    impl Files { }\n    false", "`impl`"),
     ("    mod inner { }\n    0", "`mod`"),
     ("    trait Any { }\n    0", "`trait`"),
-    ("    type Frame = u8;\n    0", "`type`"),
+    ("    type FileId = u8;\n    false", "`type`"),
     ("    macro_rules! m { () => { 0 } }\n    m!()", "`macro_rules`"),
     ("    include!(\"other.rt\")", "macro"),
     ("    env!(\"PATH\");\n    0", "macro"),
@@ -51,17 +52,16 @@ BODIES = [
     ("    let f = || requires { ⊥ } { 0 };\n    f()", "`requires`"),
     ("    let f = || ensures { ⊤ } { 0 };\n    f()", "`ensures`"),
     ("    ghost let x = 0;\n    0", "`ghost`"),
-    ("    push(ram, frame, bytes)", "function itself"),
-    ("    crate::push(ram, frame, bytes)", "function itself"),
-    ("    lab_right_a_push(ram, frame, bytes)", "labs' own"),
-    ("    push_part(ram, frame, frame, 0, 0);\n    0", "the lab's work"),
+    ("        self.close(file)", "function itself"),
+    ("        Files::close(self, file)", "function itself"),
+    ("        self.lab_right_as_shipped(file)", "labs' own"),
     ("    0 \u202e", "no place"),
 ]
 
 
 def with_body(body):
     """An answer with a body."""
-    return Lab("pipewrite").sheet(body)
+    return Lab(NAME).sheet(body)
 
 
 def files():
@@ -78,12 +78,12 @@ def files():
     def read_file(home):
         text(good)(home)
         (home / "read" / "specs").mkdir(parents=True)
-        (home / "read" / "specs" / "Pipe.antt").write_text("pub new_pipe : Unit\n", encoding="utf-8")
+        (home / "read" / "specs" / "OpenFiles.antt").write_text("pub is_last : Unit\n", encoding="utf-8")
 
     def more(home):
         text(good)(home)
-        (home / "proofs" / "push").mkdir(parents=True)
-        (home / "proofs" / "push" / "Answers.antt").write_text("pub returns c = ?\n", encoding="utf-8")
+        (home / "proofs" / "close").mkdir(parents=True)
+        (home / "proofs" / "close" / "Answers.antt").write_text("pub returns c = ?\n", encoding="utf-8")
 
     yield "as it is", text(good), ""
     yield "with another file beside it", more, ""
@@ -98,17 +98,17 @@ def files():
     yield "a byte 0", text(good.replace("let ", "let\0")), "byte 0"
     yield "no UTF-8", text(good.encode() + b"\xff"), "UTF-8"
     yield "no first line", text(good.split("\n", 1)[1]), "doesn't begin"
-    yield "another lab", text(good.replace("Lab pipewrite", "Lab fdalloc")), "above the body"
-    yield "no such lab", text(good.replace("Lab pipewrite", "Lab nothing")), "there is no lab"
-    yield "a lab of another folder", text(good.replace("Lab pipewrite", "Lab ../x")), "doesn't begin"
+    yield "another lab", text(good.replace(f"Lab {NAME}", "Lab fdalloc")), "above the body"
+    yield "no such lab", text(good.replace(f"Lab {NAME}", "Lab nothing")), "there is no lab"
+    yield "a lab of another folder", text(good.replace(f"Lab {NAME}", "Lab ../x")), "doesn't begin"
     yield "no line of signs", text(good.replace(END, "")), "signs"
     yield "two lines of signs", text(good.replace(END, END + "\n" + END)), "signs"
     yield "signs in the other order", text(good.replace(BEGIN, "@").replace(END, BEGIN).replace("@", END)), "signs"
-    yield "a weaker contract", text(good.replace("min (length", "max (length")), "above the body"
-    yield "a clause fewer", text("\n".join(it for it in good.split("\n") if "ensures pipe" not in it)), "above the body"
-    yield "a requires more", text(good.replace("    requires", "    requires no { ⊥ }\n    requires")), "above the body"
+    yield "a weaker contract", text(good.replace("≡ Some result", "≡ None")), "above the body"
+    yield "a clause fewer", text("\n".join(it for it in good.split("\n") if "ensures after" not in it)), "above the body"
+    yield "a requires more", text(good.replace("        requires", "        requires no { ⊥ }\n        requires")), "above the body"
     yield "an attribute more", text(good.replace("pub fn", "#[tactic(none)]\npub fn")), "above the body"
-    yield "another name", text(good.replace("pub fn push", "pub fn pull")), "above the body"
+    yield "another name", text(good.replace("pub fn close", "pub fn shut")), "above the body"
     yield "a function more", text(good + "\nfn more() {}\n"), "below the body"
     yield "a changed definition", read_file, "checksum"
 
