@@ -7,10 +7,11 @@ A command stands in an indented block of a page. After `$ ` its output is shown 
 If a page has a command over `init.s`, each program of it (a fenced block) that an indented block follows is run by that
 command, and the block is what it prints.
 
-A command is run if it begins with ./xv, node xv.mjs, bin/xv_.., python3, echo or printf, if all files that it names are
-there, and if it needs no terminal, no kit and no package. Those of a page are run one after another, in a folder of their
-own in which the repository's files are. What is shown has to be printed; a command of which nothing is shown mustn't be
-refused (status 1, 2, or 125 and above).
+A command is run if it begins as BEGINS says, if all files that it names are there or were made by a command before it, and
+if it needs no terminal, no kit and no package; programs in C are built if the compiler is there. Those of a page are run one
+after another, in a folder of their own in which the repository's files are. A source in C without a folder is the one of
+`checks` that has its name, or else the page's first program in C. What is shown has to be printed; a command of which nothing
+is shown mustn't be refused (status 1, 2, or 125 and above).
 
 It needs Python 3, and the built programs or Node (18.17 or later). `--tell` names the commands that aren't run. PATIENCE is
 how many seconds a command may take: 120 without it. The status is 0 if all is as shown, 2 if no program runs here, else 1.
@@ -19,14 +20,18 @@ import dataclasses
 import os
 import pathlib
 import re
+import shutil
 import subprocess
 import sys
 import tempfile
 
 TOP = pathlib.Path(__file__).resolve().parents[1]
 PATIENCE = float(os.environ.get("PATIENCE", 120))
-BEGINS = re.compile(r"(\./xv|node xv\.mjs|bin/xv_\w+|python3 -B checks/|echo .*[|>]|printf .*[|>])(\s|$|\w)")
-BY_HAND = re.compile(r"\.\.(\s|$)|\[|\b[A-Z]{4,}\b|--(build|unproved|gdb|record|replay)\b|\$top|mine")
+COMPILED = r"(cp \S+ \. && )?(CFLAGS=\S+ )?(\$top/)?programs/c/build\.sh"
+BEGINS = re.compile(rf"((\$top/|\./)xv|node xv\.mjs|bin/xv_\w+|python3 -B checks/|programs/course/grade\.sh|{COMPILED}"
+                    r"|mkdir mine && cp|echo .*[|>]|printf .*[|>])(\s|$|\w)")
+BY_HAND = re.compile(r"\.\.(\s|$)|\[-|\b[A-Z]{5,}\b|--(build|unproved|gdb|record|replay)\b|build\.sh --debug")
+HAS_COMPILER = shutil.which(os.environ.get("RISCV", "riscv64-unknown-elf-") + "gcc") is not None
 
 
 @dataclasses.dataclass
@@ -38,25 +43,25 @@ class Command:
     shown: list = None
     program: str = ""
     before: "Command" = None
+    is_by_hand: bool = False
 
     def __str__(self):
         return f"{self.page.relative_to(TOP)}:{self.line}: {self.words}"
 
     @property
     def files(self):
-        """The words that name files of the repository."""
-        bare = re.sub(r"\d?[<>]+&?\s*\S+|'[^']*'", " ", self.words.partition("  #")[0])
-        return [it for it in bare.split()[1:] if "/" in it and not it.startswith(("/", "-"))]
+        """The words that name files of the repository, or of the folder in which the command is run."""
+        bare = re.sub(r"\d?[<>]+&?\s*\S+|'[^']*'", " ", self.words.partition("  #")[0]).replace("$top/", "")
+        return [it.removeprefix("./") for it in bare.split()[1:] if "/" in it and not it.startswith(("/", "-"))]
 
-    @property
-    def is_by_hand(self):
-        """It needs what isn't there: a terminal, a file, the kit, or a command before it that is by hand."""
-        at_terminal = self.shown is not None and not re.search(r"[<|>]", self.words)
+    def is_for_hands(self, folder):
+        """It needs what isn't in this folder, or not here: a terminal, a file, the kit, the compiler."""
+        at_terminal = self.shown is not None and re.match(r"(\./|\$top/)xv|node", self.words) and not re.search(r"[<|>]", self.words)
         unnamed = re.search(r"(^| )init\.s", self.words) and not self.program
-        missing = [it for it in self.files if not list(TOP.glob(it.removeprefix("./")))]
-        wants_more = BY_HAND.search(re.sub(r"'[^']*'", "", self.words))
-        follows = self.before is not None and self.before.is_by_hand
-        return bool(at_terminal or unnamed or missing or wants_more or follows or not BEGINS.match(self.words))
+        missing = [it for it in self.files if not list(folder.glob(it))]
+        wants_more = BY_HAND.search(re.sub(r"'[^']*'|CFLAGS=\S+", "", self.words))
+        uncompiled = re.match(COMPILED, self.words) and not HAS_COMPILER
+        return bool(at_terminal or unnamed or missing or wants_more or uncompiled or not BEGINS.match(self.words))
 
 
 # ---- the commands of a page
@@ -114,7 +119,7 @@ def commands(page):
 def run(words, folder):
     """What a command prints, by lines, and its status."""
     done = subprocess.run(["bash", "-c", words], cwd=folder, stdin=subprocess.DEVNULL, stdout=subprocess.PIPE,
-                          stderr=subprocess.STDOUT, timeout=PATIENCE, check=False)
+                          stderr=subprocess.STDOUT, timeout=PATIENCE, check=False, env={**os.environ, "top": str(TOP)})
     text = done.stdout.decode("utf-8", "replace").rstrip("\n")
     return text.split("\n") if text else [], done.returncode
 
@@ -166,14 +171,33 @@ def wrong_with(command, folder):
     return f"status {status}: {lines[-1] if lines else 'nothing is printed'}" if is_refused else None
 
 
+def lay_source(command, page, folder):
+    """Puts the source in C that a command builds into the folder, if it is a bare name; whether there is one."""
+    found = re.match(COMPILED + r" (\w+\.c)\b", command.words)
+    if not found or found[1] or (folder / found[4]).exists():
+        return True
+    text = page.read_text(encoding="utf-8")
+    shown = [re.sub("(?m)^    ", "", it) for it in re.findall(r"(?m)^    #include.*\n(?:(?:    .*)?\n)*", text) if "main(" in it]
+    sources = [it.read_text(encoding="utf-8") for it in TOP.glob(f"checks/*/{found[4]}")] + shown
+    if sources:
+        (folder / found[4]).write_text(sources[0], encoding="utf-8")
+    return bool(sources)
+
+
 def looked_at(page):
     """The commands of a page, and what is wrong with those that are run."""
-    found = list(commands(page))
-    with tempfile.TemporaryDirectory() as folder:
+    found, wrong = list(commands(page)), []
+    with tempfile.TemporaryDirectory() as room:
+        folder = pathlib.Path(room)
         for it in TOP.iterdir():
-            os.symlink(it, os.path.join(folder, it.name))
-        wrong = [(it, wrong_with(it, folder)) for it in found if not it.is_by_hand]
-    return found, [(it, why) for it, why in wrong if why]
+            os.symlink(it, folder / it.name)
+        for it in found:
+            it.is_by_hand = bool(it.before and it.before.is_by_hand) or it.is_for_hands(folder) or not lay_source(it, page, folder)
+            if it.is_by_hand:
+                continue
+            why = wrong_with(it, room)
+            wrong += [(it, why)] if why else []
+    return found, wrong
 
 
 def main(words):

@@ -2,8 +2,9 @@
 # The checks beside the proofs: checks/run.sh gives the programs the words that are stored, plays the sessions, also those
 # at a terminal and of the debugger, the stored runs, random programs in rows and by single events, the reports and the
 # conversations with GDB by the programs that are built, reads the lines of all sources a second time, grades submissions,
-# looks at the links of the pages, counts what the proofs can do without and what has to be believed, and tells whether the
-# modules and page/nektavoly.html are of these sources, in some seconds. The gate does the same after `rt ci`.
+# runs the commands that the pages show, looks at their links, counts what the proofs can do without and what has to be
+# believed, and tells whether the modules and page/nektavoly.html are of these sources, in some 40 seconds. The gate does the
+# same after `rt ci`.
 # `checks/run.sh --others` tells which other checks there are, how each is called, and how long it takes.
 #
 # `checks/run.sh --node` plays all of that which needs a program by the modules of anywhere/, with Node in place of the native
@@ -37,7 +38,7 @@ tell_others() {
     tell release.sh 'release.sh FOLDER' 'a release, tried in a bare Debian 12, natively and by Node: some minutes; needs root, debootstrap and the network'
     tell imports.py 'imports.py [--tell] CRATE..' 'writes the heads of the proofs, and the module that hands on their words: a second'
     tell html-links.py 'html-links.py FOLDER' 'the links of a release that was untarred'
-    tell commands.py 'commands.py' 'the commands that the pages show print what the pages show: half a minute'
+    tell commands.py 'commands.py --tell' 'which commands of the pages are run by hand alone; the others are run here'
     tell terminal/by_hand.sh 'terminal/by_hand.sh [FOLDER]' 'sessions at a real terminal, with their screens: a minute; needs tmux'
     tell terminal/measure.py 'terminal/measure.py' 'the terminal'"'"'s speed beside xv_run, its echo, and what it takes while all sleep: a minute'
     tell grading/run.sh 'grading/run.sh --all' '207 submissions, twice, in two orders, with a kill and a second start: a minute'
@@ -81,7 +82,7 @@ longer='checks/stored-runs/run.sh checks/rows/run.sh checks/why/run.sh checks/c-
 # shellcheck disable=SC2086
 case "$*" in
 '')
-    do_all $quick $longer 'python3 -B checks/links.py' 'python3 -B checks/lemmas.py' 'python3 -B checks/closure.py' anywhere/is_current.sh page/is_current.sh checks/shell.sh
+    do_all $quick $longer 'python3 -B checks/commands.py' 'python3 -B checks/links.py' 'python3 -B checks/lemmas.py' 'python3 -B checks/closure.py' anywhere/is_current.sh page/is_current.sh checks/shell.sh
     tell_others
     ;;
 --node)
