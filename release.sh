@@ -10,7 +10,7 @@
 #
 # The archive holds the programs twice: for Linux on x86-64, as `./xv --build` proved and built them (libexec/), and for
 # Node on every host (anywhere/). It holds the page, the programs for the machine with their sources, and the manual and the
-# course as HTML and as text. npm takes it as a package, since package.json stands in its one folder. There is no link in it:
+# course as HTML, with a search that needs no network, and as text. npm takes it as a package, since package.json stands in its one folder. There is no link in it:
 # npm leaves links out, and Windows makes them for some users alone. Windows has `tar`, so there is no .zip.
 #
 # The same commit, kit and pandoc give the same bytes, whoever makes it, when and in which folder. pandoc is Debian's
@@ -145,18 +145,22 @@ up_from() {
     dirname "$1" | awk -F/ '{ up = $0 == "." ? "." : ".."; for (at = 2; at <= NF; at++) up = up "/.."; print up }'
 }
 
-# Makes HTML of each page of those in the lines of standard input, beside its text.
+# Makes HTML of each page of those in the lines of standard input, beside its text. Above it stand the manual, the course and a
+# search.
 as_html() {
     while read -r page; do
         title=$(sed -n 's/^# //p' "$RELEASE/$page" | head -n 1)
-        PAGE=$page pandoc --data-dir "$room/none" -f gfm -t html5 -s --metadata pagetitle="$title" \
+        sed "s|UP|$(up_from "$page")|g" "$room/html/above.html" >"$room/above"
+        PAGE=$page pandoc --data-dir "$room/none" -f gfm -t html5 -s --metadata pagetitle="$title" -B "$room/above" \
             --lua-filter "$room/html/links.lua" --css "$(up_from "$page")/docs/style.css" -o "$RELEASE/${page%.md}.html" "$RELEASE/$page"
     done
 }
 
 cp "$room/html/style.css" "$RELEASE/docs/style.css"
-# The page in the browser leads to the manual's HTML, too.
-sed -i -E 's/([A-Za-z0-9-]+)\.md(\\?[#"`)])/\1.html\2/g' "$RELEASE/page/nektavoly.html"
+# The page in the browser leads to the manual's HTML, too, and its own manual to the search.
+sed -i -E -e 's/([A-Za-z0-9-]+)\.md(\\?[#"`)])/\1.html\2/g' \
+    -e 's|(<select id="manual-page"[^>]*></select></label>)|\1 <a href="../docs/search.html">search</a>|' "$RELEASE/page/nektavoly.html"
+grep -q 'href="../docs/search.html"' "$RELEASE/page/nektavoly.html" || stop "the page has no place for the link to the search"
 
 # What is a teacher's goes apart; its page is made while all that it leads to is there.
 echo docs/COURSE-ANSWERS.md | as_html
@@ -166,6 +170,7 @@ echo docs/COURSE-ANSWERS.md | as_html
     mv "$RELEASE/$its" "$TEACHER/$its"
 done
 find "$RELEASE" -name '*.md' -printf '%P\n' | sort | as_html
+python3 -B "$room/html/search.py" "$RELEASE"
 [ -z "$(find "$RELEASE" "$TEACHER" -type l)" ] || stop "the repository has links, which npm and Windows don't take: $(find "$RELEASE" "$TEACHER" -type l -printf '%P ')"
 
 # Packs the folder in $1 as the archive $2, with the sums of its files in the file $3.

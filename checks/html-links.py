@@ -22,6 +22,7 @@ class Page(html.parser.HTMLParser):
         super().__init__()
         self.names, self.targets = set(), []
         self.is_script = False
+        self.has_scripts_links = path.endswith("/nektavoly.html")
         with open(path, encoding="utf-8") as file:
             self.feed(file.read())
 
@@ -40,8 +41,13 @@ class Page(html.parser.HTMLParser):
         self.is_script = self.is_script and tag != "script"
 
     def handle_data(self, data):
-        if self.is_script:
+        if self.is_script and self.has_scripts_links:
             self.targets += [path or f"../docs/manual/{name}" for path, name in IN_SCRIPTS.findall(data)]
+
+
+def is_own_place(page, place):
+    """Whether the page in the browser finds the place itself: an example, or a page of the manual inside it."""
+    return page.endswith("/nektavoly.html") and re.match(r"(example|manual)=", place) is not None
 
 
 def wrong_links(pages):
@@ -54,7 +60,7 @@ def wrong_links(pages):
             to = os.path.realpath(os.path.join(folder, urllib.parse.unquote(file))) if file else path
             if not os.path.exists(to):
                 yield path, target, "there is no such file"
-            elif place and to in pages and urllib.parse.unquote(place) not in pages[to].names:
+            elif place and to in pages and not is_own_place(to, place) and urllib.parse.unquote(place) not in pages[to].names:
                 yield path, target, "the page has no such place"
 
 
