@@ -1,5 +1,5 @@
-"""Looks at each link of each page: the file it leads to is there, and has the heading that stands behind '#'; a link into
-the page names an example.
+"""Looks at each link of each page: the file it leads to is there, and has the heading that stands after '#'; a link into
+the page names an example. A path in the text, as `programs/c/lib`, is there too, if it begins with a folder of the repository.
 
 A link whose text is a name of the code, as `two_worlds`, leads to a file in which that name stands; the statement
 of a law may stand there in its place, with capitals (`TwoWorlds`). Links to other sites aren't followed, and code that is
@@ -13,6 +13,9 @@ import re
 import sys
 
 TOP = pathlib.Path(__file__).resolve().parents[1]
+FOLDERS = {"anywhere", "bench", "bin", "checks", "crates", "docs", "labs", "page", "programs"}
+# A path with a word for any name, one of a reader's own, or one that is built.
+NO_PATH = re.compile(r"[A-Z_]{3,}|\bN\b|\.\.$|\bmine\b|/out/|^programs/debug")
 
 
 @functools.cache
@@ -68,8 +71,18 @@ def wrong_with(page, name, link):
     return None if stands_in(name, target) else f"{name} doesn't stand there"
 
 
+def missing_paths(line, page):
+    """The paths in a line that lead nowhere, from the top or from the page's folder."""
+    for path in re.findall(r"`([\w.*-]+/[\w./*-]*)`", line):
+        is_path = path.partition("/")[0] in FOLDERS and not NO_PATH.search(path)
+        if is_path and not any(any(it.glob(path)) for it in (TOP, page.parent)):
+            yield path
+
+
 def wrong_links(page):
     for number, line in lines_of(page):
+        for path in missing_paths(line, page):
+            yield f"{page.relative_to(TOP)}:{number}: `{path}`: there is no such file"
         for name, link in re.findall(r"\[([^]]*)\]\(([^)\s]+)\)", line):
             wrong = None if re.match(r"[a-z]+:", link) else wrong_with(page, name, link)
             if wrong:
