@@ -1,10 +1,13 @@
 """The manual's pages (docs/manual/*.md) as HTML for the page: headings with the anchors that links name, paragraphs, lists, tables,
 code. A link to another page of the manual becomes `#manual=NAME&to=HEADING`, which the page opens itself; one to another file of
-the repository becomes its text, with the file's path as a title, since the page has no such file. Python alone, so that the page
-is built without packages; it knows the Markdown that these pages have, and no other."""
+the repository becomes its text, with the file's path as a title, since the page has no such file. A drawing stands in the page
+itself. Python alone, so that the page is built without packages; it knows the Markdown that these pages have, and no other."""
 import html
 import os
 import re
+import urllib.parse
+
+DRAWINGS = {}  # each drawing of the manual (docs/manual/*.svg), by its name, as an address that has all of it
 
 
 def anchor(heading):
@@ -23,6 +26,12 @@ def target(to, name):
     return f'<a href="#manual={page}{"&amp;to=" + heading if heading else ""}">', "</a>"
 
 
+def picture(found):
+    """A drawing, or the words of another picture."""
+    words, path = found.groups()
+    return f'<img alt="{words}" src="{DRAWINGS[path]}" style="max-width: 100%">' if path in DRAWINGS else f"<i>{words}</i>"
+
+
 def inline(text, name):
     """`code`, **strong**, *words that are named* and links of a line."""
     codes = []
@@ -36,7 +45,7 @@ def inline(text, name):
         return start + found[1] + end
 
     text = html.escape(re.sub(r"`([^`]+)`", keep, text), quote=False)
-    text = re.sub(r"!\[([^]]*)\]\([^)]+\)", r"<i>\1</i>", text)
+    text = re.sub(r"!\[([^]]*)\]\(([^)]+)\)", picture, text)
     text = re.sub(r"\[([^]]+)\]\(([^)]+)\)", link, text)
     text = re.sub(r"\*\*([^*]+)\*\*", r"<b>\1</b>", text)
     text = re.sub(r"(?<![\w*])\*([^*\s][^*]*)\*(?![\w*])", r"<i>\1</i>", text)
@@ -104,6 +113,10 @@ def pages(root):
         with open(f"{folder}/{name}.md", encoding="utf-8") as it:
             return it.read()
 
+    for it in sorted(os.listdir(folder)):
+        if it.endswith(".svg"):
+            with open(f"{folder}/{it}", encoding="utf-8") as drawing:
+                DRAWINGS[it] = "data:image/svg+xml," + urllib.parse.quote(drawing.read(), safe=" =/:;,().")
     first = text("README")
     named = list(dict.fromkeys(re.findall(r"\]\(([\w-]+)\.md\)", first)))
     others = sorted(it[:-3] for it in os.listdir(folder) if it.endswith(".md") and it[:-3] not in named + ["README"])
