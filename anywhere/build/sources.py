@@ -57,7 +57,8 @@ def files_of(root, what):
     if what == "--page":
         folders = ["anywhere/build", "page/build", "page/src", "programs/bin", "programs/examples", "programs/course"]
         manual = [path for path in files_below(root, ["docs/manual"]) if path.endswith(".md")]
-        return sorted(manual + [path for path in files_below(root, ["docs/manual"]) if path.endswith(".svg")] + [KIT] + code_of(root, ["xv_page"]) + files_below(root, folders))
+        drawings = [path for path in files_below(root, ["docs/manual"]) if path.endswith(".svg")]
+        return sorted(manual + drawings + [KIT] + code_of(root, ["xv_page"]) + files_below(root, folders))
     return sorted(TRANSLATION + code_of(root, ["xv_page"] if what == "--module" else PROGRAMS))
 
 
