@@ -10,8 +10,8 @@ command, and the block is what it prints.
 A command is run if it begins as BEGINS says, if all files that it names are there or were made by a command before it, and
 if it needs no terminal, no kit and no package; programs in C are built if the compiler is there. Those of a page are run one
 after another, in a folder of their own in which the repository's files are. A source in C without a folder is the one of
-`checks` that has its name, or else the page's first program in C. What is shown has to be printed; a command of which nothing
-is shown mustn't be refused (status 1, 2, or 125 and above).
+`checks` that has its name, or else the page's first program in C; a file in `mine` is a right answer of the exercise. What is
+shown has to be printed; a command of which nothing is shown mustn't be refused (status 1, 2, or 125 and above).
 
 It needs Python 3, and the built programs or Node (18.17 or later). `--tell` names the commands that aren't run. PATIENCE is
 how many seconds a command may take: 120 without it. The status is 0 if all is as shown, 2 if no program runs here, else 1.
@@ -184,6 +184,18 @@ def lay_source(command, page, folder):
     return bool(sources)
 
 
+def lay_answer(command, page, folder):
+    """Puts a right answer of the exercise that a command stands in into `mine`, if it names a file there."""
+    heads = re.findall(r"(?m)^### (\d+)\.", "\n".join(page.read_text(encoding="utf-8").split("\n")[:command.line]))
+    if command.words.startswith("mkdir mine"):
+        shutil.rmtree(folder / "mine", ignore_errors=True)
+    for it in command.files if heads else ():
+        answer = next(TOP.glob(f"checks/grading/answers/{heads[-1]}-*/right/{it.removeprefix('mine/')}"), None)
+        if it.startswith("mine/") and answer and not (folder / it).exists():
+            (folder / "mine").mkdir(exist_ok=True)
+            shutil.copy(answer, folder / it)
+
+
 def looked_at(page):
     """The commands of a page, and what is wrong with those that are run."""
     found, wrong = list(commands(page)), []
@@ -192,6 +204,7 @@ def looked_at(page):
         for it in TOP.iterdir():
             os.symlink(it, folder / it.name)
         for it in found:
+            lay_answer(it, page, folder)
             it.is_by_hand = bool(it.before and it.before.is_by_hand) or it.is_for_hands(folder) or not lay_source(it, page, folder)
             if it.is_by_hand:
                 continue
