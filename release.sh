@@ -171,6 +171,7 @@ echo docs/COURSE-ANSWERS.md | as_html
 done
 find "$RELEASE" -name '*.md' -printf '%P\n' | sort | as_html
 python3 -B "$room/html/search.py" "$RELEASE"
+python3 -B "$room/html/words.py" "$RELEASE"
 [ -z "$(find "$RELEASE" "$TEACHER" -type l)" ] || stop "the repository has links, which npm and Windows don't take: $(find "$RELEASE" "$TEACHER" -type l -printf '%P ')"
 
 # Packs the folder in $1 as the archive $2, with the sums of its files in the file $3.

@@ -2,8 +2,8 @@
 """Follows each link of the HTML pages below a folder, by hand: checks/html-links.py FOLDER
 
 A link to a file must lead to one, and a link to a place in a page to an element of that name. So must the links to the
-manual that the page in the browser makes when it runs: they stand in its scripts. Links to other hosts aren't
-followed. A line for each that leads nowhere; the status is 0 if there is none.
+manual that the page in the browser makes when it runs: they stand in its scripts. Links in texts (.md) must lead to files. Links
+to other hosts aren't followed. A line for each that leads nowhere; the status is 0 if there is none.
 """
 import html.parser
 import os
@@ -64,17 +64,27 @@ def wrong_links(pages):
                 yield path, target, "the page has no such place"
 
 
+def wrong_links_of_text(path):
+    """The links of a text, but for its code, to files that aren't there."""
+    with open(path, encoding="utf-8") as file:
+        text = re.sub(r"(?ms)^```.*?^```$|^    .*?$|`[^`\n]*`", "", file.read())
+    for target in re.findall(r"\]\(([^)\s#]+)", text):
+        if not urllib.parse.urlparse(target).scheme and not os.path.exists(os.path.join(os.path.dirname(path), target)):
+            yield path, target, "there is no such file"
+
+
 def main():
     if len(sys.argv) != 2:
         sys.exit(__doc__)
     found = [os.path.join(at, name) for at, _, names in os.walk(sys.argv[1]) for name in names]
     paths = [path for path in found if path.endswith(".html")]
     pages = {os.path.realpath(path): Page(path) for path in paths}
-    wrong = list(wrong_links(pages))
+    texts = [path for path in found if path.endswith(".md")]
+    wrong = [*wrong_links(pages), *(it for path in sorted(texts) for it in wrong_links_of_text(path))]
     for path, target, why in wrong:
         print(f"{os.path.relpath(path, sys.argv[1])}: {target}: {why}")
     count = sum(len(page.targets) for page in pages.values())
-    print(f"{count} links of {len(pages)} pages: {len(wrong)} lead nowhere")
+    print(f"{count} links of {len(pages)} pages, and those of {len(texts)} texts: {len(wrong)} lead nowhere")
     sys.exit(1 if wrong or not pages else 0)
 
 
