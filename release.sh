@@ -10,8 +10,9 @@
 #
 # The archive holds the programs twice: for Linux on x86-64, as `./xv --build` proved and built them (libexec/), and for
 # Node on every host (anywhere/). It holds the page, the programs for the machine with their sources, and the manual and the
-# course as HTML, with a search that needs no network, and as text. npm takes it as a package, since package.json stands in its one folder. There is no link in it:
-# npm leaves links out, and Windows makes them for some users alone. Windows has `tar`, so there is no .zip.
+# course as HTML, with a search that needs no network, and as text; a link of theirs to what it doesn't hold is words. npm
+# takes it as a package, since package.json stands in its one folder. No file of it is a link: npm leaves links out, and
+# Windows makes them for some users alone. Windows has `tar`, so there is no .zip.
 #
 # The same commit, kit and pandoc give the same bytes, whoever makes it, when and in which folder. pandoc is Debian's
 # package of that name; 2.17 is that of Debian 12. BUILT in the archive names the kit.
