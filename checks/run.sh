@@ -1,6 +1,6 @@
 #!/bin/sh
 # The checks beside the proofs: checks/run.sh gives the programs the words that are stored, plays the sessions, also those
-# at a terminal and of the debugger, the stored runs, random programs in rows and by single events, the reports and the
+# at a terminal and of the debugger, the stored runs, random programs and random words in rows and by single events, the reports and the
 # conversations with GDB by the programs that are built, reads the lines of all sources a second time, grades submissions,
 # runs the commands that the pages show, looks at their links, counts what the proofs can do without and what has to be
 # believed, and tells whether the modules and page/nektavoly.html are of these sources, in some 40 seconds. The gate does the
@@ -8,7 +8,7 @@
 # `checks/run.sh --others` tells which other checks there are, how each is called, and how long it takes.
 #
 # `checks/run.sh --node` plays all of that which needs a program by the modules of anywhere/, with Node in place of the native
-# programs, and compares it with the same texts; `checks/run.sh --node --quick` plays the words and the sessions alone. What
+# programs, and compares it with the same texts; `checks/run.sh --node --quick` plays the words, the sessions and random words alone. What
 # can't be the same by Node has a form of its own, which its check names: how a program gets little memory (checks/words), how
 # the debugger gets the lines of sources (checks/debugger), and xv.mjs and anywhere/grade.mjs in place of scripts (checks/why,
 # checks/debugger, checks/grading).
@@ -25,7 +25,7 @@ tell() {
 tell_others() {
     echo 'Other checks, by hand; the head or the README.md of each says more:'
     tell run.sh 'run.sh --node' 'the same by the modules, with Node in place of the native programs: two minutes; needs nodejs'
-    tell run.sh 'run.sh --node --quick' 'the words and sessions alone, by the modules: half a minute; needs nodejs'
+    tell run.sh 'run.sh --node --quick' 'the words, sessions and random words alone, by the modules: half a minute; needs nodejs'
     tell wrong-bodies/run.sh 'wrong-bodies/run.sh [CRATE..]' 'the prover refuses wrong bodies: minutes a crate, hours for all'
     tell wrong-bodies/run.sh 'wrong-bodies/run.sh --definitions [CRATE..]' 'a law, worked case or contract refuses turned definitions: 1 to 10 minutes each'
     tell labs.sh 'labs.sh [NAME..]' 'the labs: right bodies are proved, wrong ones told by a case: 2 to 5 minutes each; needs rt'
@@ -33,6 +33,7 @@ tell_others() {
     tell hostile/run.sh 'hostile/run.sh' 'each refused growth of memory, read and write is answered: a minute'
     tell beside-qemu/run.sh 'beside-qemu/run.sh' '1,000 random programs do what they do under QEMU: some minutes; needs qemu-user'
     tell rows/run.sh 'rows/run.sh --many 1000 [--seed N]' 'more random programs in rows and by single events: minutes'
+    tell rows/wild.sh 'rows/wild.sh --many 800 [--seed N]' 'the same of random words, some 100,000 rows: minutes'
     tell outside.sh 'outside.sh' "others' programs do what they do under QEMU: minutes, with \`torture\` an hour; needs packages, told by the script"
     tell back-to/run.sh 'back-to/run.sh [N]' 'the stored runs, played back to 20 places each: slow; needs rt'
     tell release.sh 'release.sh FOLDER' 'a release, tried in a bare Debian 12, natively and by Node: some minutes; needs root, debootstrap and the network'
@@ -76,7 +77,7 @@ begin_node() {
 }
 
 # What needs a program: the quick ones first.
-quick='checks/words/run.sh checks/refusals/run.sh checks/sessions/run.sh'
+quick='checks/words/run.sh checks/refusals/run.sh checks/sessions/run.sh checks/rows/wild.sh'
 longer='checks/stored-runs/run.sh checks/rows/run.sh checks/why/run.sh checks/c-programs/run.sh checks/gdb/run.sh checks/terminal/run.sh checks/debugger/run.sh checks/debugger/typed.py checks/lines.py checks/grading/run.sh'
 
 # shellcheck disable=SC2086

@@ -1,4 +1,4 @@
-"""Plays programs that change their own code in rows of random lengths and by single events, and compares: see README.md."""
+"""Plays programs that change their own code, or random words, in rows of random lengths and by single events, and compares: see README.md."""
 
 import argparse
 import functools
@@ -13,8 +13,10 @@ from concurrent.futures import ProcessPoolExecutor
 
 from changing import PAGE, ROOM_PAGES, SCRATCH, Changing, Numbers, init_file
 from layout import file, placed
+from wild import DATA, NEAR_2_GB, WORDS, Wild
 
 CASES = 30
+WILD_CASES = 6
 FRAMES = 2048
 
 # The notes that a trace keeps: more than a play has.
@@ -26,6 +28,10 @@ LENGTHS = [1, 2, 3, 7, 23, 24, 25, 63, 64, 65, 127, 255, 1000]
 
 # Behind them it has so many short rows, with Sends, in which a program writes what it has.
 LAST_ROWS = 40
+
+# A case of random words has so many Runs. Behind each row are so many looks at memory.
+WILD_RUNS = 24000
+LOOKS = 3
 
 # The Sends of a round of xv_run.
 SENDS = 32
@@ -83,6 +89,38 @@ class Case:
     def rounds(self):
         """How many rounds xv_run is to play."""
         return min(RUNS // self.quantum, NOTES // self.events_of_a_round())
+
+
+class WildCase:
+    """A program of random words, and how it is played: the same."""
+
+    def __init__(self, seed, number):
+        numbers = self.numbers = Numbers(seed, -1 - number)
+        self.files = {"init": Wild(seed, number).file()}
+        self.quantum = numbers.one_of([*LENGTHS[1:], numbers.between(2, 400)])
+        self.words, left = ["step 250"], WILD_RUNS
+        while left > 0:
+            row = numbers.one_of(LENGTHS) if numbers.below(2) else numbers.between(1, 300)
+            left -= row
+            self.words += [f"step {row}", "regs", *[self.look() for _ in range(LOOKS)]]
+            if numbers.below(2):
+                self.words.append("tick")
+
+    def look(self):
+        """A word that shows some memory of the process that runs."""
+        numbers = self.numbers
+        if numbers.in_one_of(8):
+            return f"mem {numbers.one_of([DATA, NEAR_2_GB - 256, NEAR_2_GB]):#x} 256"
+        first, count, _ = numbers.one_of(WORDS)
+        return f"mem {first * PAGE + 256 * numbers.below(16 * count):#x} 256"
+
+    def events_of_a_round(self):
+        """How many events a round of xv_run has: Runs, a Tick and Sends."""
+        return self.quantum + 1 + SENDS
+
+    def rounds(self):
+        """How many rounds xv_run is to play."""
+        return min(WILD_RUNS // self.quantum, NOTES // self.events_of_a_round())
 
 
 class Answer:
@@ -230,29 +268,33 @@ def play(options, number):
         folder = options.keep or scratch
         os.makedirs(folder, exist_ok=True)
         try:
-            return compared(Plays(options.bin, Case(options.seed, number), folder))
+            case = (WildCase if options.wild else Case)(options.seed, number)
+            return compared(Plays(options.bin, case, folder))
         except (ValueError, subprocess.TimeoutExpired) as error:
             return f"it isn't played: {error}", 0, 0
 
 
 def compare(options):
     """Plays cases, and tells those that differ, and how to play them again. Tells how many these are."""
-    numbers = range(options.many) if options.case is None else [options.case]
+    kind, words = ("random words", "--wild ") if options.wild else ("two programs", "")
+    many = options.many or (WILD_CASES if options.wild else CASES)
+    numbers = range(many) if options.case is None else [options.case]
     different, runs, rows = 0, 0, 0
     with ProcessPoolExecutor(max_workers=len(os.sched_getaffinity(0))) as pool:
         for number, (found, its_runs, its_rows) in zip(numbers, pool.map(functools.partial(play, options), numbers)):
             runs, rows, different = runs + its_runs, rows + its_rows, different + bool(found)
             if found:
                 print(f"case {number} of seed {options.seed}: {found}")
-                print(f"  its programs and words: checks/rows/run.sh --seed {options.seed} --case {number} --keep FOLDER")
-    print(f"{len(numbers)} cases of two programs, seed {options.seed}, {runs} Runs in {rows} rows: {different} other than by single events")
+                print(f"  its programs and words: checks/rows/run.sh {words}--seed {options.seed} --case {number} --keep FOLDER")
+    print(f"{len(numbers)} cases of {kind}, seed {options.seed}, {runs} Runs in {rows} rows: {different} other than by single events")
     return different
 
 
 def main():
     parser = argparse.ArgumentParser(prog="checks/rows/run.sh", allow_abbrev=False)
     parser.add_argument("--seed", type=int, default=1, help="other programs and rows for each (1)")
-    parser.add_argument("--many", type=int, metavar="N", default=CASES, help=f"how many cases, of two programs each ({CASES})")
+    parser.add_argument("--many", type=int, metavar="N", help=f"how many cases, of two programs each ({CASES}), or of random words ({WILD_CASES})")
+    parser.add_argument("--wild", action="store_true", help="random words, in place of two programs")
     parser.add_argument("--case", type=int, metavar="N", help="this case alone")
     parser.add_argument("--keep", metavar="FOLDER", help="with --case: put its programs, words and records there")
     parser.add_argument("bin", help=argparse.SUPPRESS)

@@ -31,6 +31,7 @@ pub use encoding::encode;
 pub use execution::{Stop, execute};
 pub use fast::action::Action;
 pub use fast::decode_cache::DecodeCache;
+pub use fast::flow::Pc;
 pub use fast::performing::{Way, execute_cached, execute_kept};
 pub use flat_memory::FlatMemory;
 pub use instruction::{BranchOp, ImmOp, Instr, LoadOp, RegOp, ShiftOp, StoreOp, WordOp};
