@@ -190,11 +190,6 @@ broke-early xs ys s t h k q = record {
   calls = q.calls;
 }
 
-pub later-plays : {E : Type 0} (r : Result (Unit {0}) E) (xs ys : List Event) (s t u : Meaning) (h k m : Sink)
-    → Played xs s t h k → Plays r ys t u k m → Plays r (xs ++ ys) s u h m
-later-plays (Ok x) xs ys s t u h k m p q = played-join xs ys s t u h k m p q
-later-plays (Err x) xs ys s t u h k m p q = broke-later xs ys s t u h k m p q
-
 -- ---- the same event again and again
 
 pub played-more : (e : Event) (n : ℕ) (s t u : Meaning) (h k m : Sink) → Played (replicate n e) s t h k → Played (e ∷ []) t u k m

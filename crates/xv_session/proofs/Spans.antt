@@ -41,10 +41,6 @@ one-span-more spans place d lt =
     ap all_events (take_more spans place d lt) ∙ flat_map-append span_events (take place spans) (get_or spans place d ∷ [])
     ∙ ap (λ es. all_events (take place spans) ++ es) (append-nil (span_events (get_or spans place d)))
 
--- a span that is over is the last of them
-pub over-now : (over : List Span) (last : Span) → all_events (over ++ last ∷ []) ++ [] ≡ all_events over ++ span_events last
-over-now over last = append-nil (all_events (over ++ last ∷ [])) ∙ flat_map-append span_events over (last ∷ []) ∙ ap (λ es. all_events over ++ es) (append-nil (span_events last))
-
 pub long-span : (s : Span) → length (span_events s) ≡ s.count
 long-span s = length-replicate s.count (event_of s.event)
 
