@@ -296,8 +296,9 @@ function piece(most) {
   if (stops_on(told)) { stop("at a kernel call"); return false; }
   return after_step();
 }
+/** Whether to go on after what was sent; a key or a byte that is sent leads no process to a break point at which it stands already. */
 function after_step() {
-  if (!looks_at_each()) return true;
+  if (!looks_at_each() || run.line.event[run.line.find(run.at - 1)] !== EVENT.RUN) return true;
   const why = breaks_here();
   if (why === null) return true;
   stop(why);

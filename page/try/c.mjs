@@ -112,6 +112,39 @@ async function stops(page) {
   holds(await page.eval("page.app.work.breaks.length === 0 && document.querySelectorAll('#c-text .stop').length === 0"), "a second click takes it away");
 }
 
+/** From a break point Play goes on, also while bytes wait to be sent. */
+async function goes_on(page) {
+  await shell(page);
+  await stop_at(page, "wc.c:24");
+  await stopped(page, "echo a b | wc\n");
+  const places = [await at(page)];
+  for (let k = 0; k < 3; k++) {
+    await page.click("#play");
+    await page.sleep(400);
+    await comes(page, "page.app.view?.playing === false");
+    places.push(await at(page));
+  }
+  const steps = places.slice(1).map((it, k) => it - places[k]);
+  holds(steps.every((it) => it > 10) && (await where(page)) === "count, wc.c:24", `from break point to break point: ${places.join(", ")}`);
+  await page.eval("page.app.work.breaks = []");
+  await shell(page);
+  await stop_at(page, "primes.c:59");
+  await stopped(page, "primes 12\n");
+  const first = await at(page);
+  await page.click("#play");
+  await page.sleep(600);
+  await comes(page, "page.app.view?.playing === false");
+  holds((await at(page)) > first && (await text_of(page, "clock")).includes("at primes.c:59"), `also while bytes are sent: ${first}, ${await at(page)}`);
+  // In the past too: back to the first place, and on from there.
+  await page.eval(`page.ask('go', { place: ${first} })`);
+  await page.until(`page.app.view?.at === ${first}`);
+  const next = await page.eval("page.app.line.end");
+  await page.click("#play");
+  await comes(page, `page.app.view?.playing === false && page.app.view.at > ${first}`);
+  holds((await at(page)) <= next && (await text_of(page, "clock")).includes("at primes.c:59"), `and in the past: ${await at(page)}`);
+  await page.eval("page.app.work.breaks = []");
+}
+
 // ---- a program that is dropped
 
 async function dropped(page) {
@@ -172,7 +205,7 @@ async function speed(page) {
 
 // ---- all of it
 
-const PARTS = { lines, stops, dropped, why, speed };
+const PARTS = { lines, stops, goes_on, dropped, why, speed };
 for (const [name, how] of [["light", { width: 1400, height: 950 }], ["dark", { width: 1400, height: 950, dark: true }], ["phone", { width: 420, height: 860, mobile: true }], ["phone-dark", { width: 420, height: 860, mobile: true, dark: true }]]) {
   const page = await open(url, how);
   try {
