@@ -45,6 +45,7 @@ tell_others() {
     tell terminal/measure.py 'terminal/measure.py' 'the terminal'"'"'s speed beside xv_run, its echo, and what it takes while all sleep: a minute'
     tell grading/run.sh 'grading/run.sh --all' '207 submissions, twice, in two orders, with a kill and a second start: a minute'
     tell grading/run.sh 'grading/run.sh --many' 'a thousand submissions by GNU parallel (Debian: parallel): two minutes'
+    tell c-lines.py 'c-lines.py' 'the lines of the programs in C are those of addr2line: half a minute; needs the C compiler'
     tell gdb.sh 'gdb.sh' 'gdb-multiarch finds a planted bug, forth and back: a minute; needs gdb-multiarch and the C compiler'
     tell ../page/check.sh '../page/check.sh' 'the page runs what the program runs, by Node: some minutes; needs nodejs'
     tell ../page/measure.sh '../page/measure.sh' 'how fast the page is, in a browser on a host that does nothing else: two minutes; needs the same'

@@ -55,7 +55,7 @@ def code_of(root, names):
 def files_of(root, what):
     """The files that the page, its module, or the programs' modules are built of."""
     if what == "--page":
-        folders = ["anywhere/build", "page/build", "page/src", "programs/bin", "programs/examples", "programs/course"]
+        folders = ["anywhere/build", "page/build", "page/src", "programs/bin", "programs/c/src", "programs/c/lib", "programs/c/tables", "programs/examples", "programs/course"]
         manual = [path for path in files_below(root, ["docs/manual"]) if path.endswith(".md")]
         drawings = [path for path in files_below(root, ["docs/manual"]) if path.endswith(".svg")]
         return sorted(manual + drawings + [KIT] + code_of(root, ["xv_page"]) + files_below(root, folders))

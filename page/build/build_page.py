@@ -11,6 +11,7 @@ module, sum_of_64_bits, root, out = sys.argv[1:5]
 note = "".join(sys.argv[5:])
 sys.path.append(os.path.join(root, "anywhere", "build"))
 import manual
+import packing
 import sources
 here = os.path.join(root, "page", "src")
 
@@ -73,6 +74,18 @@ def examples():
     return found
 
 
+def in_c():
+    """What the page shows of the programs in C: the tables of their lines, and the sources that these name."""
+    tables = {name: text(f"{root}/programs/c/tables/{name}.lines") for name in PROGRAMS}
+    named = sorted({row[5:] for table in tables.values() for row in table.split("\n") if row.startswith("file ")})
+    folders = [f"{root}/programs/c/{it}" for it in ("src", "lib")]
+    return {"tables": tables, "sources": {name: text(f"{folder}/{name}") for name in named for folder in folders if os.path.exists(f"{folder}/{name}")}}
+
+
+def smaller(value):
+    return packing.packed(json.dumps(value, ensure_ascii=False, separators=(",", ":")))
+
+
 def packed(value):
     return json.dumps(value, ensure_ascii=True, separators=(",", ":")).replace("</", "<\\/").replace("<!--", "<\\!--")
 
@@ -84,7 +97,8 @@ data = {
     "worker": joined("worker.mjs"),
     "programs": {name: base64.b64encode(read(f"{root}/programs/bin/{name}")).decode() for name in PROGRAMS},
     "examples": examples(),
-    "manual": manual.pages(root),
+    "manual": smaller(manual.pages(root)),
+    "c": smaller(in_c()),
     "built": sum_[:16],
 }
 sum_of_module = "unproved" if note else sources.sum_of(root, "--module")

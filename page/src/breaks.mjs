@@ -3,6 +3,7 @@
 import { $, app, ask, element, on, say, tell } from "./app.mjs";
 import { is_source } from "./kinds.mjs";
 import { nearest } from "./stops.mjs";
+import { start_of_line } from "./symbols.mjs";
 import { all_calls, call_name, call_number } from "./calls.mjs";
 import { hex } from "./words.mjs";
 import { touch } from "./works.mjs";
@@ -10,7 +11,8 @@ import { touch } from "./works.mjs";
 const ADDRESS = /^(0x[0-9a-f]+|\d+)$/i;
 
 const place_of = (booted, program) => booted?.files.findIndex((it) => it.name === program) ?? -1;
-const label_of = (booted, place, name) => booted?.symbols[place]?.names.find((it) => it.name === name)?.address ?? null;
+const LINE = /:\d+$/; // as sh.c:12
+const label_of = (booted, place, name) => (LINE.test(name) ? start_of_line(booted?.symbols[place], name) : booted?.symbols[place]?.names.find((it) => it.name === name)?.address ?? null);
 
 /** The address of a line of a file in a machine, which may have the file as it was before it was edited. */
 function address_of_line(booted, file, { line, text }) {
@@ -43,6 +45,7 @@ export const counting = (booted) => all(booted).flatMap((it) => it.sent ?? []);
 function show() {
   const found = all(app.booted);
   if (app.booted) ask("breaks", { list: counting(app.booted) });
+  tell("stops shown");
   $("break-count").textContent = found.length || "";
   $("break-list").replaceChildren(...found.map((it) => element("li", {}, element("span", { class: it.sent ? "" : "dim" }, it.words, it.sent ? "" : ": not in this machine"), element("button", { "aria-label": `Take away: ${it.words}`, onclick: it.gone }, "✕"))));
 }
@@ -61,6 +64,17 @@ function meant(kind, name) {
   const place = places().find((it) => ADDRESS.test(name) || label_of(app.booted, it, name) !== null);
   if (place === undefined) return `No such label: ${name}. Write a label of a program, or an address, as 0x10`;
   return { kind, name, program: app.booted.files[place].name };
+}
+
+/** The lines in C of a program at which break points stand, as sh.c:12. */
+export const stops_in = (program) => app.work.breaks.filter((it) => it.kind === "address" && it.program === program && LINE.test(it.name)).map((it) => it.name);
+
+/** Sets a break point at a line in C of a program, or takes it away. */
+export function toggle_stop(name, program) {
+  const is = (it) => it.kind === "address" && it.name === name && it.program === program;
+  app.work.breaks = app.work.breaks.some(is) ? app.work.breaks.filter((it) => !is(it)) : [...app.work.breaks, { kind: "address", name, program }];
+  touch();
+  show();
 }
 
 function add() {

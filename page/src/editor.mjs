@@ -167,7 +167,7 @@ function break_at_caret() {
 
 // ---- a file
 
-const words_of_bytes = ({ name, bytes }) => (is_elf(bytes) ? `${name}: a program file of ${bytes.length} bytes, built from C.\n\nIts instructions and functions are shown at the right when it runs.` : `${name}: a file of ${bytes.length} bytes, which are no text.\n\nPrograms open it and read its bytes.`);
+const words_of_bytes = ({ name, bytes }) => (is_elf(bytes) ? `${name}: a program file of ${bytes.length} bytes, built from C.\n\nIts source is shown at the right when it runs, if ${name}.lines is known (the page has it of its own programs), and its functions and instructions.` : `${name}: a file of ${bytes.length} bytes, which are no text.\n\nPrograms open it and read its bytes.`);
 
 /** Shows a file. */
 export function open(file) {

@@ -2,7 +2,7 @@
 // answered, and who woke. Its answers are made in the worker, for the events that are looked at alone.
 import { KIND } from "./machine.mjs";
 import { call_name } from "./calls.mjs";
-import { describe_fault, hex } from "./words.mjs";
+import { hex } from "./words.mjs";
 
 const MOST_TEXT = 40; // bytes of a text that are told
 const MOST_TEXTS = 8; // texts of an exec that are told
@@ -109,17 +109,14 @@ export function stored_by(name, [a0, a1], value) {
 const asleep = (machine) => machine.pids().filter((pid) => machine.process(pid).asleep);
 const key_words = (byte) => (byte > 32 && byte < 127 ? `'${String.fromCharCode(byte)}'` : { 10: "Enter", 32: "the blank", 127: "Backspace", 4: "Ctrl-D" }[byte] ?? String(byte));
 
-function fault_words(machine, pid, cause) {
-  const registers = machine.registers(pid), bytes = registers ? machine.peek(pid, registers[0], 4) : [];
-  const word = bytes.length === 4 ? new DataView(bytes.buffer, bytes.byteOffset).getUint32(0, true) : null;
-  return describe_fault(pid, cause, registers, word, machine.address(pid)).replace(/^process \d+: /, "");
-}
+/** A fault in the words of the report, without who it is of. */
+const fault_words = (machine, cause) => (machine.fault_text(cause) ?? "").split("\n")[0].replace(/^process \d+( \(.*?\))?: /, "");
 
 /** What came of an event that is none of a call, in words. */
-function plain_words({ kind, pid, number }, machine) {
+function plain_words({ kind, number }, machine) {
   switch (kind) {
     case KIND.STEP: return "an instruction";
-    case KIND.FAULT: return `faults: ${fault_words(machine, pid, number)}`;
+    case KIND.FAULT: return `faults: ${fault_words(machine, number)}`;
     case KIND.TURN: return "has a turn";
     case KIND.IDLE: return "nobody may run";
     case KIND.TICK: return "a tick";

@@ -7,7 +7,7 @@ import { REGISTERS, hex, number } from "./words.mjs";
 let before = null, changed = new Set(), as = "bytes";
 
 /** The program that a process runs, or ran as it ended. */
-function program_of(pid) {
+export function program_of(pid) {
   const { ended, processes } = app.view;
   return ended ? ended.program : processes.find((it) => it.pid === pid)?.program;
 }

@@ -53,10 +53,11 @@ export class Machine {
     this.session = take(16);
     this.programs = take(16);
     this.table = take(16);
+    this.sources = take(16);
     this.told = take(256);
     this.room = take(ROOM);
     this.view();
-    for (const at of [this.session, this.programs, this.table]) this.bytes.fill(0, Number(at), Number(at) + 16);
+    for (const at of [this.session, this.programs, this.table, this.sources]) this.bytes.fill(0, Number(at), Number(at) + 16);
     this.at = Number(this.told);
     this.room_at = Number(this.room);
   }
@@ -94,8 +95,8 @@ export class Machine {
 
   /** Boots a machine; files: [{name, bytes}]. Answers null, or why there is none: then the machine before stays. */
   boot(config, files) {
-    const { calls, bytes, data, session, programs, table, told, room, at, room_at } = this;
-    const put_back = () => Object.assign(this, { calls, bytes, data, session, programs, table, told, room, at, room_at });
+    const { calls, bytes, data, session, programs, table, sources, told, room, at, room_at } = this;
+    const put_back = () => Object.assign(this, { calls, bytes, data, session, programs, table, sources, told, room, at, room_at });
     try {
       this.fresh();
       const refusal = this.boot_fresh(config, files);
@@ -148,6 +149,18 @@ export class Machine {
   /** Sends Run up to the first that is what is waited for: {sent, met, last}. */
   until(most, kind, pid = 0, number = 0n) {
     this.done(this.calls.xv_page_until(this.session, most, whole(kind), whole(pid), BigInt(number), this.told));
+    return this.runs();
+  }
+
+  /**
+   * Sends Run as long as an instruction is done and leads to no stop, and once more: {sent, met, last}. The process that runs stands before
+   * a stop if its next instruction stands at one of the addresses, or stores to one of the bytes.
+   */
+  run_to_stop(most, { addresses, bytes }) {
+    const at = this.room + 8n * BigInt(addresses.length);
+    this.view();
+    [...addresses, ...bytes].slice(0, ROOM / 8).forEach((it, k) => this.data.setBigUint64(this.room_at + 8 * k, BigInt.asUintN(64, it), true));
+    this.done(this.calls.xv_page_run_to_stop(this.session, most, this.room, BigInt(addresses.length), at, BigInt(bytes.length), this.told));
     return this.runs();
   }
 
@@ -282,6 +295,29 @@ export class Machine {
     const count = Number(this.calls.xv_page_instruction(word, BigInt(address), this.room, 64n));
     this.view();
     return count ? String.fromCharCode(...this.bytes.subarray(this.room_at, this.room_at + count)) : null;
+  }
+
+  // ---- why, in the words of xv_report
+
+  /** The text that a call has told; null where it names nothing. */
+  told_text(answer) {
+    if ((answer & 255) === UNKNOWN) return null;
+    this.done(answer);
+    return this.text(this.room, this.data.getBigUint64(this.at, true));
+  }
+
+  /** What a process does that has not ended: on what it sleeps, and who could wake it. */
+  wait_text(pid) { return this.told_text(this.calls.xv_page_wait(this.session, this.sources, whole(pid), this.told, this.room, BigInt(ROOM))); }
+
+  /** Why the step that is next can't be made, by the cause of its fault: its first line, then registers, then calls. */
+  fault_text(cause) { return this.told_text(this.calls.xv_page_fault(this.session, this.sources, whole(cause), this.told, this.room, BigInt(ROOM))); }
+
+  /** Tells the module what is known of the source of the program at a place: {table, symbols, source}. The host puts the memory back then. */
+  know(place, { table = "", symbols = NO_BYTES, source = "" }) {
+    const texts = new TextEncoder(), rows = table.split("\n").filter((it) => it).map((it) => `${place} ${it}\n`).join("");
+    const give = (bytes) => [this.put(bytes), BigInt(bytes.length)];
+    this.done(this.calls.xv_page_know(this.sources, ...give(texts.encode(rows))));
+    for (let k = 0; k <= place; k++) this.done(this.calls.xv_page_source(this.sources, ...give(k < place ? NO_BYTES : symbols), ...give(k < place ? NO_BYTES : texts.encode(source))));
   }
 
   /** The rows of a table that a call tells by their places, up to the first place at which there is none. */

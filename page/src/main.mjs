@@ -11,6 +11,7 @@ import * as time from "./time.mjs";
 import * as breaks from "./breaks.mjs";
 import * as processes from "./processes.mjs";
 import * as instruction from "./instruction.mjs";
+import * as c_source from "./c_source.mjs";
 import * as pages from "./pages.mjs";
 import * as opened from "./opened.mjs";
 import * as why from "./why.mjs";
@@ -92,6 +93,8 @@ function heard({ data }) {
   else if (data.replayed) tell("replayed", data.replayed);
   else if (data.assembled) tell("assembled", data.assembled);
   else if (data.events_told) tell("events told", data.events_told);
+  else if (data.explained) tell("explained", data.explained);
+  else if (data.calls_told) tell("calls told", data.calls_told);
   else if (data.sought) tell("sought", data.sought);
   else if (data.reached) tell("reached", data.reached);
   else if (data.record) app.on_record?.(data.record);
@@ -160,7 +163,7 @@ function begin() {
   app.worker = new Worker(URL.createObjectURL(new Blob([DATA.worker], { type: "text/javascript" })));
   app.worker.onmessage = heard;
   app.worker.onerror = (event) => { programs.refuse(event.message); console.error(event.message); };
-  for (const part of [terminal, editor, works, time, breaks, processes, instruction, pages, opened, why, programs, sharing, lessons, session, happened, translate, manual, slides, first]) part.start();
+  for (const part of [terminal, editor, works, time, breaks, processes, instruction, c_source, pages, opened, why, programs, sharing, lessons, session, happened, translate, manual, slides, first]) part.start();
   tabs();
   keep_clear();
   on("ready", async () => {
@@ -177,6 +180,6 @@ function begin() {
   on("resized", redraw);
   ask("module", { bytes: base64.of(DATA.wasm) });
   on("view", () => { if (!globalThis.ready) { globalThis.ready = true; globalThis.took = { page: began, boot: app.booted?.took, shown: performance.now() }; } });
-  globalThis.page = { app, ask, on, time, programs, sharing, works, drawn: () => drawn, short_place, calls_in_words };
+  globalThis.page = { app, ask, on, time, programs, sharing, works, drawn: () => drawn, short_place, calls_in_words, manual: manual.pages };
 }
 begin();

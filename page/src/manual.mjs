@@ -1,29 +1,41 @@
 // The manual inside the page: its pages as HTML (build/manual.py makes them), the help of a panel, and links that lead to both.
 import { $, app, element, on } from "./app.mjs";
+import { unpacked } from "./unpacked.mjs";
 
 const DATA = globalThis.PAGE_DATA;
 const seen = []; // the pages that were shown before this one, with how far they were scrolled
 let shown = null;
 
+let unpacked_pages = null;
+/** The pages of the manual, as HTML, by their names; they are unpacked when one is asked for. */
+export const pages = () => (unpacked_pages ??= JSON.parse(unpacked(DATA.manual)));
+
 /** The title of a page of the manual. */
-const title_of_page = (name) => /<h1[^>]*>(.*?)<\/h1>/.exec(DATA.manual[name])?.[1].replace(/<[^>]*>/g, "") ?? name;
+const title_of_page = (name) => /<h1[^>]*>(.*?)<\/h1>/.exec(pages()[name])?.[1].replace(/<[^>]*>/g, "") ?? name;
 
 /** The part of the page's own page of the manual that helps with a panel. */
 export function help_of(heading) {
-  const part = DATA.manual.page.split(/(?=<h2 )/).find((it) => it.startsWith("<h2 ") && it.slice(it.indexOf(">") + 1).startsWith(`${heading}</h2>`));
+  const part = pages().page.split(/(?=<h2 )/).find((it) => it.startsWith("<h2 ") && it.slice(it.indexOf(">") + 1).startsWith(`${heading}</h2>`));
   return part ?? "";
+}
+
+/** Lists the pages, once. */
+function list_pages() {
+  const list = $("manual-page");
+  if (!list.options.length) list.append(...Object.keys(pages()).map((name) => element("option", { value: name }, name === "README" ? "all pages" : title_of_page(name))));
 }
 
 /** Shows a page of the manual, at a heading. */
 export function open_manual(name, heading = "") {
-  const page = DATA.manual[name] ? name : "README", body = $("manual-body");
+  list_pages();
+  const page = pages()[name] ? name : "README", body = $("manual-body");
   if (shown && (shown.name !== page || $("manual").open)) seen.push({ ...shown, top: body.scrollTop });
   show({ name: page, heading });
 }
 
 function show({ name, heading = "", top = 0 }) {
   const body = $("manual-body");
-  if (shown?.name !== name || !body.firstChild) body.innerHTML = DATA.manual[name];
+  if (shown?.name !== name || !body.firstChild) body.innerHTML = pages()[name];
   shown = { name, heading };
   $("manual-page").value = name;
   $("manual-back").disabled = seen.length === 0;
@@ -47,7 +59,6 @@ export function manual_place(hash) {
 }
 
 export function start() {
-  $("manual-page").replaceChildren(...Object.keys(DATA.manual).map((name) => element("option", { value: name }, name === "README" ? "all pages" : title_of_page(name))));
   $("manual-page").addEventListener("change", () => open_manual($("manual-page").value));
   $("manual-back").addEventListener("click", () => { const last = seen.pop(); if (last) show(last); });
   $("open-manual").addEventListener("click", () => open_manual(shown?.name ?? "README"));

@@ -2,13 +2,15 @@
 import { $, app, ask, bytes_words, color_of, element, fresh, grouped, in_time, on, program_name, style_of } from "./app.mjs";
 import { KIND } from "./machine.mjs";
 import { call_name } from "./calls.mjs";
-import { waits_for } from "./words.mjs";
 import { range } from "./time.mjs";
+
+/** In which call a process sleeps, and on what: the report's words, without who could wake it. */
+const sleep_of = ({ wait }) => /sleeps in [^:;]*/.exec(wait ?? "")?.[0] ?? "sleeps";
 
 function state_of(process, current) {
   if (!process.lives) return ["zombie", `zombie, ended with ${process.status}`];
   const mark = process.marked ? ", to be killed" : "";
-  if (process.asleep) return ["sleeps", `sleeps ${waits_for(process, app.view.processes, app.view.files || null).what}${mark}`];
+  if (process.asleep) return ["sleeps", `${sleep_of(process)}${mark}`];
   if (process.pid === current) return ["runs", "runs" + mark];
   return ["may", "may run" + mark];
 }

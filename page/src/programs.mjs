@@ -1,6 +1,7 @@
 // The files of the machine: the list of a work's files, examples by name, files that are opened or dropped, the machine's settings; boot.
 import { $, app, ask, element, on, say, tell } from "./app.mjs";
-import { functions_of, places_of } from "./symbols.mjs";
+import { PlacesInC, places_of } from "./symbols.mjs";
+import { is_table, shipped_source, shipped_table } from "./tables.mjs";
 import { is_elf, is_source } from "./kinds.mjs";
 import { MOST_BYTES, boot_words, files_refused, mistake_words, too_large } from "./refused.mjs";
 import { add, bring_back, bytes_of_file, forget_work, is_changed, own_names, put, put_away, ship_anew, title_of, touch, work_of } from "./works.mjs";
@@ -168,7 +169,12 @@ function assembled(text) {
 }
 
 
-const of_bytes = (name, bytes, from) => ({ name, bytes, from, text: from.text, symbols: functions_of(bytes) });
+/** A text of the list by its name; nothing if there is none. */
+const text_named = (name) => app.files.find((it) => it.name === name)?.text ?? "";
+const table_of = (file) => (file.built_in ? shipped_table(file.name) : text_named(`${file.name}.lines`));
+const of_bytes = (name, bytes, from) => ({ name, bytes, from, text: from.text, symbols: new PlacesInC(bytes, () => table_of(from), (file) => text_named(file) || shipped_source(file)) });
+/** What belongs to a program and is no file of the machine: the table of its lines. */
+const stands_beside = (file) => file.name.endsWith(".lines") && is_table(file.text);
 
 /** The file of the machine that a file of the list is: {name, bytes, from, text, symbols}. `mistake`: what is wrong with its source. */
 export async function made_of(file) {
@@ -225,7 +231,7 @@ export function meant({ frames, order, quantum, keys }) {
 
 /** The files of the machine, of those of the list; null if one is refused, which is told. */
 export async function made_of_all(list) {
-  const files = await Promise.all(list.map(made_of)), wrong = files.find((it) => it.mistake);
+  const files = await Promise.all(list.filter((it) => !stands_beside(it)).map(made_of)), wrong = files.find((it) => it.mistake);
   if (wrong) {
     if (app.files.includes(wrong.from)) editor.open(wrong.from);
     show_files();

@@ -121,12 +121,12 @@ export class Run {
     return told;
   }
 
-  /** Sends Run, `most` times at most, and tells how many were sent and what came of the last. */
-  run(most) {
+  /** Sends Run, `most` times at most, and tells how many were sent and what came of the last. `stops`: it goes up to a stop at most. */
+  run(most, stops = null) {
     this.cut();
     const current = this.current;
     if (!current && !this.halted) most = 1;
-    const { sent, last } = this.machine.run(most);
+    const { sent, last } = this.sent(most, stops);
     if (last === null) this.heard(EVENT.RUN, { kind: KIND.STEP, pid: current, number: 0, value: 0 }, sent);
     else if (last.kind === KIND.IDLE || last.kind === KIND.HALTED) this.heard(EVENT.RUN, last, sent);
     else {
@@ -137,8 +137,15 @@ export class Run {
     return { sent, kind: last === null ? KIND.STEP : last.kind, last };
   }
 
-  /** Sends again what the record has next, up to a place. */
-  replay(to) {
+  /** Sends Run: {sent, last}, where `last` is null if each is a done instruction; up to a stop, if there are stops. */
+  sent(most, stops) {
+    if (!stops) return this.machine.run(most);
+    const told = this.machine.run_to_stop(most, stops);
+    return told.last?.kind === KIND.STEP ? { ...told, last: null } : told;
+  }
+
+  /** Sends again what the record has next, up to a place. `stops`: tells those of the process that runs; then it goes on up to one, and tells whether it stands there. */
+  replay(to, stops = null) {
     const { line, machine } = this;
     const until = Math.min(to, line.end);
     let place = line.find(this.at);
@@ -151,10 +158,15 @@ export class Run {
       } else {
         while (place + 1 < line.length && line.event[place + 1] === EVENT.RUN && stop < until) stop = line.end_of(++place);
         stop = Math.min(stop, until);
-        while (this.at < stop) this.at += machine.run(Math.min(stop - this.at, MOST_AT_ONCE)).sent;
+        while (this.at < stop) {
+          const told = this.sent(Math.min(stop - this.at, MOST_AT_ONCE), stops?.() ?? null);
+          this.at += told.sent;
+          if (told.met) return true;
+        }
         place++;
       }
     }
+    return false;
   }
 
   // ---- copies of the machine, to come back fast
@@ -248,12 +260,12 @@ export class Plan {
     return this.run.send(EVENT.KEY, this.keys.shift());
   }
 
-  /** Sends what comes next, at most so many Runs; tells the outcome. */
-  next(most) {
-    return this.rounds ? this.next_of_round(most) : this.next_of_terminal(most, true);
+  /** Sends what comes next, at most so many Runs, up to a stop if there are stops; tells the outcome. */
+  next(most, stops = null) {
+    return this.rounds ? this.next_of_round(most, stops) : this.next_of_terminal(most, true, stops);
   }
 
-  next_of_round(most) {
+  next_of_round(most, stops = null) {
     const { run } = this;
     if (this.ticked) {
       const told = run.send(EVENT.SEND);
@@ -269,14 +281,14 @@ export class Plan {
       this.sends = 0;
       return run.send(EVENT.TICK);
     }
-    const { sent, kind, last } = run.run(Math.min(most, this.quantum - this.runs));
+    const { sent, kind, last } = run.run(Math.min(most, this.quantum - this.runs), stops);
     this.runs += sent;
     this.is_idle = kind === KIND.IDLE;
     return last || { kind, pid: 0, number: 0, value: 0 };
   }
 
   /** What a terminal does. `ticks` says whether a tick comes by the number of Runs; else the caller sends ticks. */
-  next_of_terminal(most, ticks) {
+  next_of_terminal(most, ticks, stops = null) {
     const { run } = this;
     if (this.has_key) {
       this.is_idle = false;
@@ -287,7 +299,7 @@ export class Plan {
       return run.send(EVENT.SEND);
     }
     if (ticks && (this.is_idle || this.runs >= this.quantum)) return this.tick();
-    const { sent, kind, last } = run.run(ticks ? Math.min(most, this.quantum - this.runs) : most);
+    const { sent, kind, last } = run.run(ticks ? Math.min(most, this.quantum - this.runs) : most, stops);
     this.runs += sent;
     this.is_idle = kind === KIND.IDLE;
     return last || { kind, pid: 0, number: 0, value: 0 };

@@ -4,6 +4,7 @@ import { KIND } from "./machine.mjs";
 import { call_name } from "./calls.mjs";
 import { stuck, stuck_words } from "./stuck.mjs";
 import { type } from "./terminal.mjs";
+import { step_line } from "./c_source.mjs";
 
 /** The part of the run that the slider and the picture of turns show. */
 export const window_ = { from: 0, to: 0, whole: true };
@@ -196,12 +197,15 @@ function tell_slider() {
 // ---- keys of the page
 
 const STEPS = { s: "step", e: "event", c: "call", t: "turn" };
+const LINE_STEPS = { l: "over", i: "into", o: "out" };
 function key(event) {
   const { target } = event;
   if (event.ctrlKey || event.metaKey || event.altKey || target.closest("#screen, textarea, input, select, [role=application], dialog")) return;
   if (event.key === " " && !target.closest("button, summary, [role=tab]")) { event.preventDefault(); toggle(); return; }
   const what = STEPS[event.key.toLowerCase()];
   if (what) { event.preventDefault(); step(what, event.shiftKey); }
+  const how = LINE_STEPS[event.key.toLowerCase()];
+  if (how) { event.preventDefault(); step_line(how, event.shiftKey); }
 }
 
 function start_slider() {

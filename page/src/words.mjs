@@ -1,5 +1,4 @@
-// Words for people: registers, causes of faults, what sleepers wait for, what to write in place of a mistake.
-import { call_name } from "./calls.mjs";
+// Words for people: registers, uses of frames, what to write in place of a mistake.
 
 export const REGISTERS = ["pc", "ra", "sp", "gp", "tp", "t0", "t1", "t2", "s0", "s1", "a0", "a1", "a2", "a3", "a4", "a5", "a6", "a7", "s2", "s3", "s4", "s5", "s6", "s7", "s8", "s9", "s10", "s11", "t3", "t4", "t5", "t6"];
 export const USES = ["", "free", "trapframe", "root table", "middle table", "last table", "page", "pipe"];
@@ -17,62 +16,7 @@ export function number(value) {
   return signed >= -4096n && signed < 65536n ? String(signed) : hex(value);
 }
 
-/** A fault in words (RISC-V Privileged ISA, "scause"), of the machine as it was before. */
-export function describe_fault(pid, cause, regs, word, address) {
-  if (!regs) return `process ${pid}: fault ${cause}`;
-  const to = address === null ? hex(regs[0]) : hex(address);
-  const what = {
-    0: "jump to an address that is no multiple of 4",
-    2: `the word ${word === null ? "?" : hex(BigInt(word >>> 0))} is no instruction`,
-    3: "ebreak",
-    4: `load from ${to}, which is no multiple of its size`,
-    6: `store to ${to}, which is no multiple of its size`,
-    12: "no instruction may be fetched",
-    13: `load from ${to}, which may not be read`,
-    15: `store to ${to}, which may not be written`,
-  }[cause];
-  return `process ${pid}: ${what || `fault ${cause}`}, at pc ${hex(regs[0])}`;
-}
-
 export const KEYS_OF_TARGETS = { 1: "the console", 2: "a file", 3: "the read end of a pipe", 4: "the write end of a pipe" };
-
-/** What a sleeper waits for, and who could wake it: {what, who}. `files` are all processes' descriptors. */
-export function waits_for(process, processes, files) {
-  const { call } = process;
-  if (!call) return { what: "sleeps", who: "" };
-  const fd = Number(call.words[0] & 0xffffffffn);
-  const named = files ? files.descriptors.find((it) => it.pid === process.pid && it.fd === fd) : null;
-  const name = call_name(call.number);
-  switch (name) {
-    case "wait": {
-      const children = processes.filter((it) => it.parent === process.pid && it.lives).map((it) => it.pid);
-      return { what: "in wait, for a child to end", who: children.length ? `${list_of(children)} can end` : "it has no child" };
-    }
-    case "sleep":
-      return { what: `in sleep, until tick ${(call.since + Number(BigInt.asUintN(32, call.words[0]))) >>> 0}`, who: "the timer" };
-    case "read":
-      if (named && named.kind === 3) return { what: `in read on descriptor ${fd}, the read end of a pipe`, who: ends_text(process, named.frame, 4, files, "can write") };
-      return { what: `in read on descriptor ${fd}, the console`, who: "a line typed at the terminal" };
-    case "write":
-      if (named && named.kind === 4) return { what: `in write on descriptor ${fd}, the write end of a pipe that is full`, who: ends_text(process, named.frame, 3, files, "can read") };
-      return { what: `in write on descriptor ${fd}, the console`, who: "the terminal, when it has taken a byte" };
-    default:
-      return { what: `in ${name}`, who: "" };
-  }
-}
-
-function ends_text(process, frame, kind, files, can) {
-  const holders = [...new Set(files.descriptors.filter((it) => it.frame === frame && it.kind === kind).map((it) => it.pid))];
-  const who = kind === 4 ? "the reader" : "the writer";
-  if (!holders.length) return "nobody holds the other end";
-  if (holders.length === 1 && holders[0] === process.pid) return `only process ${process.pid} holds the other end: ${who} itself, so nobody wakes it`;
-  return `${list_of(holders)} ${can}${holders.includes(process.pid) ? `, and ${process.pid} is ${who} itself` : ""}`;
-}
-
-export function list_of(pids) {
-  if (pids.length === 1) return `process ${pids[0]}`;
-  return `processes ${pids.slice(0, -1).join(", ")} and ${pids[pids.length - 1]}`;
-}
 
 /** What to write in place of what the assembler refuses. */
 export function hint_of(kind, text) {

@@ -2,7 +2,8 @@
 import { Machine, KIND, EVENT } from "./machine.mjs";
 import { Made } from "./made.mjs";
 import { Run, Plan } from "./run.mjs";
-import { describe_fault, store_width } from "./words.mjs";
+import { store_width } from "./words.mjs";
+import { calls_of, line_step } from "./line_steps.mjs";
 import { learn_calls } from "./calls.mjs";
 import { told_event } from "./happenings.mjs";
 import { seek } from "./seeking.mjs";
@@ -44,6 +45,7 @@ function processes() {
     process.program = run.program_of(pid);
     process.size = Number(machine.size(pid) ?? 0n);
     process.made = made.of(pid);
+    if (process.lives && process.asleep) process.wait = machine.wait_text(pid);
     return process;
   });
 }
@@ -202,9 +204,8 @@ function why_of_faults() {
   for (const fault of faults) {
     if (fault.told) continue;
     fault.told = run.look(fault.at, () => {
-      const regs = machine.registers(fault.pid), word = regs ? word_at(fault.pid, regs[0]) : null;
-      return { registers: regs, program: run.program_of(fault.pid), word, text: word === null ? null : machine.instruction(word, regs[0]), address: machine.address(fault.pid), cause: fault.cause,
-        words: describe_fault(fault.pid, fault.cause, regs, word, machine.address(fault.pid)), code: regs ? code(fault.pid, regs[0]) : [] };
+      const { pid, cause } = fault;
+      return { registers: machine.registers(pid), program: run.program_of(pid), address: machine.address(pid), cause, text: machine.fault_text(cause) };
     });
   }
   return faults;
@@ -218,6 +219,15 @@ function heard(told) {
 
 function halted() {
   return run.halted;
+}
+
+const MOST_TO_STOP = 100000; // Runs up to a stop that take a slice of play
+
+/** The stops of the process that runs: {addresses, bytes}. */
+function stops_of_current() {
+  const program = run.program_of(run.current), addresses = [], bytes = [];
+  for (const it of breaks) if (it.program === null || it.program === program) ({ address: addresses, store: bytes })[it.kind]?.push(it.address);
+  return { addresses, bytes };
 }
 
 /** Whether a break point stops the machine here. The step that is next is looked at. */
@@ -271,22 +281,24 @@ function stop(why) {
   view();
 }
 
-/** One piece of play: many Runs, or one where break points look at each. Tells whether to go on. */
+/** One piece of play: many Runs, up to a break point. Tells whether to go on. */
 function piece(most) {
+  const looks = looks_at_each(), some = looks ? Math.min(most, MOST_TO_STOP) : most;
   if (run.is_past) {
-    const to = Math.min(run.end, run.at + (looks_at_each() ? 1 : Math.max(1, most))), at_call = stop_of_record(to);
-    run.replay(at_call ?? to);
-    if (at_call !== null) { stop("at a kernel call"); return false; }
+    const to = Math.min(run.end, run.at + Math.max(1, some)), at_call = stop_of_record(to);
+    const is_met = run.replay(at_call ?? to, looks ? stops_of_current : null);
+    if (!is_met && at_call !== null) { stop("at a kernel call"); return false; }
     return after_step();
   }
   if (halted()) { stop("process 1 is gone: nobody runs again"); return false; }
-  const told = settings.rounds || settings.speed ? plan.next(looks_at_each() ? 1 : most) : plan.next_of_terminal(looks_at_each() ? 1 : most, false);
+  const stops = looks ? stops_of_current() : null, told = settings.rounds || settings.speed ? plan.next(some, stops) : plan.next_of_terminal(some, false, stops);
   heard(told);
   if (stops_on(told)) { stop("at a kernel call"); return false; }
   return after_step();
 }
+/** Whether to go on after what was sent; a key or a byte that is sent leads no process to a break point at which it stands already. */
 function after_step() {
-  if (!looks_at_each()) return true;
+  if (!looks_at_each() || run.line.event[run.line.find(run.at - 1)] !== EVENT.RUN) return true;
   const why = breaks_here();
   if (why === null) return true;
   stop(why);
@@ -541,6 +553,21 @@ const obey = {
   },
   breaks({ list }) { breaks = list; },
   tell_events,
+  /** Tells a fault in the words of the report, with what is known of its program's source. */
+  explain({ at, known }) {
+    if (!run?.booted || at >= run.end) return;
+    const fault = faults.find((it) => it.at === at);
+    if (fault?.told) postMessage({ explained: { at, edits: run.edits, text: run.look(at, () => { machine.know(fault.told.program, known); return machine.fault_text(fault.cause); }) } });
+  },
+  /** Tells the calls that led to where a process stands. */
+  calls({ key, pid, frames }) { postMessage({ calls_told: { key, list: playing || !run?.booted ? [] : calls_of(machine, pid, frames) } }); },
+  /** Steps by a line of a program's source: over calls, into them, or out of the function; back too. */
+  line_step(wants) {
+    playing = false;
+    no_more();
+    stopped = line_step(run, plan, wants, heard, halted);
+    view();
+  },
   /** Looks for the last store to an address, or the last stop of a break point, before this place. */
   seek({ id, ...wants }) {
     playing = false;
@@ -598,7 +625,7 @@ function safely(action) {
   }
 }
 
-const ASIDE = new Set(["look", "assemble", "breaks", "tell_events", "record", "settings"]); // what a search goes on beside
+const ASIDE = new Set(["look", "assemble", "breaks", "tell_events", "explain", "calls", "record", "settings"]); // what a search goes on beside
 
 onmessage = ({ data }) => {
   if (!ASIDE.has(data.do) && search) { search.gone(); search = null; }

@@ -28,7 +28,7 @@ const EXIT = "  li a0, 7\n  li a7, 2\n  ecall\n";
 /** What each of the twelve slides must show: the place, if no program in C is in it, the panel, and words that stand there. */
 const SLIDES = [
   [80, "instruction", /uptime answers 2/], [3, "instruction", /Process 2/], [null, "opened", /the write end of the pipe/], [49, "why", /nobody can go on/i],
-  [1, "pages", /51 pages of 51/], [1, "translate", /Bit U refuses/], [3, "why", /jump to an address that is no multiple of 4|no multiple of its size/], [5, "pages", /3 pages of/],
+  [1, "pages", /51 pages of 51/], [1, "translate", /Bit U refuses/], [3, "why", /which is no multiple of/], [5, "pages", /3 pages of/],
   [2666, "happened", /has a turn/], [29, "opened", /2048 of 2048 bytes/], [46, "happened", /exit\(1\) ends with 1/], [81, "instruction", /sb t0, 0\(a1\)/],
 ];
 
@@ -305,7 +305,7 @@ async function manual(page) {
   const wrong = [];
   for (const name of pages) {
     await page.eval(`page.app.open_manual('${name}')`);
-    wrong.push(...(await page.eval(`[...document.querySelectorAll('#manual-body a[href^="#manual="]')].filter((it) => { const words = new URLSearchParams(it.getAttribute('href').slice(1)), page = words.get('manual'), to = words.get('to'); const html = PAGE_DATA.manual[page]; return !html || (to && !html.includes('id="' + to + '"')); }).map((it) => '${name}: ' + it.getAttribute('href'))`)));
+    wrong.push(...(await page.eval(`[...document.querySelectorAll('#manual-body a[href^="#manual="]')].filter((it) => { const words = new URLSearchParams(it.getAttribute('href').slice(1)), page = words.get('manual'), to = words.get('to'); const html = globalThis.page.manual()[page]; return !html || (to && !html.includes('id="' + to + '"')); }).map((it) => '${name}: ' + it.getAttribute('href'))`)));
   }
   holds(pages.length > 20 && wrong.length === 0, `${pages.length} pages of the manual are inside, and their links lead on: ${wrong.join(", ")}`);
   await page.eval("page.app.open_manual('page-tables', 'entries')");

@@ -22,10 +22,11 @@ const none = new Machine(compiled), MISSING = "no machine is booted";
 is(thrown(() => none.event(EVENT.RUN)), MISSING, "an event");
 is(thrown(() => none.run(5)), MISSING, "Runs");
 is(thrown(() => none.until(5, UNTIL.FAULT)), MISSING, "a search");
+is(thrown(() => none.run_to_stop(5, { addresses: [0n], bytes: [] })), MISSING, "Runs up to a stop");
 is(thrown(() => none.back(5)), MISSING, "the way back");
 for (const [what, call] of [["the facts", () => none.facts()], ["the pids", () => none.pids()], ["a process", () => none.process(1)], ["the size", () => none.size(1)], ["a register", () => none.register(1, 0)], ["a byte", () => none.byte(1, 0n)],
   ["the rights of a page", () => none.rights(1, 0)], ["the frame of a page", () => none.frame(1, 0)], ["a descriptor", () => none.descriptor(1, 0)], ["a pipe", () => none.pipe(0)], ["a pipe's bytes", () => none.pipe_bytes(0)], ["the console", () => none.console(0)],
-  ["the next address", () => none.address(1)], ["the program", () => none.program(1)], ["the use of a frame", () => none.use(0)], ["a note", () => none.note(0)]]) is(thrown(call), MISSING, `${what} of no machine`);
+  ["the next address", () => none.address(1)], ["the program", () => none.program(1)], ["the use of a frame", () => none.use(0)], ["a note", () => none.note(0)], ["why a process waits", () => none.wait_text(1)], ["a fault", () => none.fault_text(2)]]) is(thrown(call), MISSING, `${what} of no machine`);
 
 // What boot refuses.
 const machine = new Machine(compiled), config = { frames: 512, trace: 16 };
@@ -83,7 +84,8 @@ for (const kind of [4, 256, -1]) is(machine.calls.xv_page_event(machine.session,
 is(JSON.stringify(machine.facts()), before, "the machine behind them");
 
 // What is of a number that there may be, but isn't there.
-for (const [what, told] of [["process 9", machine.process(9)], ["a register of process 9", machine.register(9, 1)], ["a byte at 2^63", machine.byte(1, 2n ** 63n)], ["the frame of page 2^26 - 1", machine.frame(1, 2 ** 26 - 1)], ["descriptor 31", machine.descriptor(1, 31)], ["the pipe of frame 0", machine.pipe(0)], ["note 2^40", machine.note(2 ** 40)]]) is(told, null, what);
+for (const [what, told] of [["process 9", machine.process(9)], ["a register of process 9", machine.register(9, 1)], ["a byte at 2^63", machine.byte(1, 2n ** 63n)], ["the frame of page 2^26 - 1", machine.frame(1, 2 ** 26 - 1)], ["descriptor 31", machine.descriptor(1, 31)], ["the pipe of frame 0", machine.pipe(0)], ["note 2^40", machine.note(2 ** 40)], ["why process 0 waits", machine.wait_text(0)], ["a fault of cause 1", machine.fault_text(1)], ["a fault of cause 16", machine.fault_text(16)]]) is(told, null, what);
+is(machine.wait_text(9), "process 9 is no process", "why process 9 waits");
 is(machine.rights(1, 2 ** 26 - 1), 0, "the rights of page 2^26 - 1");
 is(machine.use(512).kind, 0, "the use of frame 512 of 512");
 
@@ -99,6 +101,13 @@ is(machine.view().getUint32(machine.at, true), 7, "a source that is no text");
 const source = machine.put(new TextEncoder().encode("  ecall\n"));
 machine.calls.xv_page_assemble(source, 8n, machine.room, 20n, machine.table, machine.told);
 is(machine.view().getUint32(machine.at, true), 8, "a file in a room of 20 bytes");
+
+// What is known of sources: nothing before it is begun, and no bytes that are no text.
+const [no_bytes, three] = [machine.put(new Uint8Array(0)), machine.put(new Uint8Array([32, 255, 10]))];
+is(machine.calls.xv_page_source(machine.sources, no_bytes, 0n, no_bytes, 0n) & 255, 4, "a source before the first table");
+is(machine.calls.xv_page_know(machine.sources, three, 3n) & 255, 4, "a table that is no text");
+is(machine.calls.xv_page_know(machine.sources, no_bytes, 0n) & 255, 0, "a table of no row");
+is(machine.calls.xv_page_source(machine.sources, three, 3n, three, 3n) & 255, 0, "a program with neither symbols nor a source");
 
 // Tables: where lines and labels lie, and the kernel's calls. Behind the last row, and without a table, there is none.
 const shown = (it) => JSON.stringify(it, (_, value) => (typeof value === "bigint" ? Number(value) : value));

@@ -77,6 +77,20 @@ for (const before of [end, 60000, 30000, births[0] + 500]) {
     holds(run.at === before, "the run stands where it stood");
   }
 }
+// Up to a stop, as one who goes through the run finds it: at the address, and before each store to a byte.
+const met = (to_stop) => {
+  const found = [];
+  run.go(0);
+  while (run.at < end) if (run.replay(end, () => (run.current === pid ? to_stop : { addresses: [], bytes: [] }))) found.push(run.at);
+  return found;
+};
+// Where a turn, or an answered call, leads to the place, no Run of the process did.
+const made = (list) => list.filter((it) => { const k = run.line.find(it - 1); return run.line.pid[k] === pid && run.line.kind[k] === KIND.STEP; });
+const [at_pc, byte] = [met({ addresses: [5n, pc], bytes: [] }), stores.filter((it) => run.line.kind[run.line.find(it.place)] === KIND.STEP)[500].from];
+const truth = made(stops), of_byte = made(stores.filter((it) => it.from <= byte && byte < it.from + it.count && run.line.kind[run.line.find(it.place)] === KIND.STEP).map((it) => it.place));
+holds(made(at_pc).join() === truth.join() && truth.length > 5, `up to a stop at an address: ${truth.length} stops`);
+holds(made(met({ addresses: [], bytes: [7n, byte] })).join() === of_byte.join() && of_byte.length > 0, `up to a stop before a store: ${of_byte.length} stops`);
+
 const place = files.findIndex((it) => it.name === "sh"), breaks = [{ kind: "address", address: pc, program: place, name: "there" }];
 for (const before of [end, 50000, 20000]) {
   run.go(before);

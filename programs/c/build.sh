@@ -5,8 +5,10 @@
 #   programs/c/build.sh --check    builds them into a folder of its own, and tells which of ../bin are others
 #   programs/c/build.sh --debug [NAME..]  leaves programs of src/ in ../debug, each with its names and lines beside it in
 #                                         NAME.debug, for debuggers. The programs of ../bin stay alone, since ../bin/* are FILEs
+#   programs/c/build.sh --tables          writes tables/NAME.lines for each program of ../bin: its functions and lines, for the page
 #   programs/c/build.sh my.c ..    programs of your own, from any folder: my.c gives the program my beside it, and
-#                                  my.debug for debuggers. What the compiler thinks strange is a warning, and no error
+#                                  my.debug for debuggers, and my.lines for the page. What the compiler thinks strange is a
+#                                  warning, and no error
 #
 # It needs a C compiler for RISC-V (Debian 12: apt-get install gcc-riscv64-unknown-elf, version 12.2 with
 # binutils 2.40). The same compiler gives the same bytes each time. Extra switches stand in CFLAGS.
@@ -31,16 +33,25 @@ build() {
         ${CFLAGS-} -I. $link -Wl,-s -o "$2" $library "../src/$1.c")
 }
 
-# Leaves program $1 of src/ in ../debug, with its names and lines beside it.
+# Leaves program $1 of src/ in the folder $2, with its names and lines beside it.
 build_debug() {
-    mkdir -p "$here/../debug"
-    file=$(readlink -f -- "$here/../debug")/$1
+    mkdir -p "$2"
+    file=$(readlink -f -- "$2")/$1
     # shellcheck disable=SC2086
     (cd "$here/lib" && "${tools}gcc" $target $language -Os -g -ffreestanding $plain $warnings ${CFLAGS-} -I. $link \
         -o "$file" $library "../src/$1.c")
     "${tools}objcopy" --only-keep-debug "$file" "$file.debug"
     "${tools}strip" "$file"
-    cmp -s "$file" "$here/../bin/$1" || echo "build.sh: $1 of ../bin is another; $1 of ../debug goes with its NAME.debug" >&2
+    cmp -s "$file" "$here/../bin/$1" || echo "build.sh: $1 of ../bin is another; the one of $2 goes with its NAME.debug" >&2
+}
+
+# Writes the tables of all programs into the folder $1.
+build_tables() {
+    for name in $(names); do
+        build_debug "$name" "$room"
+        "$here/table.sh" "$room/$name"
+        mv "$room/$name.lines" "$1/$name.lines"
+    done
 }
 
 # Builds the library into the folder $room, for programs of one's own. Its functions are weak: a program may have one of the
@@ -66,6 +77,7 @@ build_own() {
         -o "$program" $objects "$file" -lgcc)
     "${tools}objcopy" --only-keep-debug "$program" "$program.debug"
     "${tools}strip" "$program"
+    "$here/table.sh" "$program"
 }
 
 names() {
@@ -80,6 +92,9 @@ check() {
         build "$name" "$room/$name"
         cmp -s "$room/$name" "$here/../bin/$name" || { echo "$name is another"; others=1; }
     done
+    mkdir "$room/tables"
+    build_tables "$room/tables"
+    diff -rq "$room/tables" "$here/tables" || others=1
     [ "$others" = 0 ] && echo "all programs are what the sources give"
 }
 
@@ -93,12 +108,13 @@ objects=
 # shellcheck disable=SC2046
 [ $# -gt 0 ] || set -- $(names)
 [ "$1" = --check ] && { check; exit; }
+[ "$1" = --tables ] && { mkdir -p "$here/tables" && build_tables "$here/tables"; exit; }
 if [ "$1" = --debug ]; then
     shift
     # shellcheck disable=SC2046
     [ $# -gt 0 ] || set -- $(names)
     for word; do
-        build_debug "$word"
+        build_debug "$word" "$here/../debug"
     done
     exit
 fi

@@ -2,7 +2,7 @@
 use Rattle.std.specs.Prelude.{◌≡◌, ℕ, Bool, false, List, Option, None, Some}
 use Rattle.kernel_spec.specs.runs.Run as runs
 use Rattle.kernel_spec.specs.runs.Run.{bytes_out}
-use Rattle.xv_session.specs.Answers.{Sent, RunsSent, Found, WentBack}
+use Rattle.xv_session.specs.Answers.{Sent, RunsSent, Found, Stopped, WentBack}
 use Rattle.xv_session.specs.Recorded.{Recorded, IsRecorded}
 use Rattle.xv_session.specs.declared.until.Condition.{Condition}
 use Rattle.xv_page.specs.Told.{told_of, runs_told, laid}
@@ -65,6 +65,20 @@ Searched most wanted before told Unknown old new = (wanted ≡ None) × Unchange
 Searched most wanted before told Memory old new = Unchanged before told old new
 Searched most wanted before told Full old new = Unchanged before told old new
 Searched most wanted before told NotBooted old new = ⊥
+
+-- so many Runs were sent as are told, up to the first that leads to a stop, or of which no done instruction came
+pub record StopDone (most : ℕ) (addresses bytes : List ℕ) (told : RunsTold) (old new : Recorded) : Type 0 where
+  pub met : Bool
+  pub last : Option runs.Outcome
+  pub stopped : Stopped addresses bytes most told.sent met last old new
+  pub is_told : told ≡ runs_told told.sent met last
+
+abbrev pub StopSought : (most : ℕ) → (addresses bytes : List ℕ) → (before told : RunsTold) → Answer → (old new : Recorded) → Type 0
+StopSought most addresses bytes before told Done old new = StopDone most addresses bytes told old new
+StopSought most addresses bytes before told Memory old new = Unchanged before told old new
+StopSought most addresses bytes before told Full old new = Unchanged before told old new
+StopSought most addresses bytes before told NotBooted old new = ⊥
+StopSought most addresses bytes before told Unknown old new = ⊥
 
 -- the machine is the one that the first events led to, and these are all that it has got
 abbrev pub IsBack : (place : ℕ) → Answer → (old new : Recorded) → Type 0

@@ -5,3 +5,4 @@ pub mod Booting
 pub mod Calls
 pub mod Tables
 pub mod Texts
+pub mod Reports

@@ -4,6 +4,8 @@ use Rattle.xk_base.specs.declared.limits.TheConstants.{PID_MAX, VPN_END, NOFILE,
 use Rattle.console_core.specs.declared.rings.ConsoleList.{ConsoleList}
 use Rattle.console_core.specs.declared.rings.ConsoleList.TheVariants.{Committed, Uncommitted, ToSend}
 use Rattle.kernel_spec.specs.runs.Run as runs
+use Rattle.xk_base.specs.declared.access.Cause.{Cause}
+use Rattle.xk_base.specs.declared.access.Cause.TheVariants.{TargetMisaligned, IllegalInstruction, Breakpoint, LoadMisaligned, StoreMisaligned, FetchPageFault, LoadPageFault, StorePageFault}
 use Rattle.xv_session.specs.declared.until.Condition.{Condition}
 use Rattle.xv_session.specs.declared.until.Condition.TheVariants as conditions
 
@@ -71,3 +73,10 @@ abbrev pub condition_named : (kind pid number : ℕ) → Option Condition
 condition_named kind pid number =
     if nat_eq kind 0 then step_wanted (pid_named pid) else (if nat_eq kind 1 then call_named number else (if nat_eq kind 2 then place_wanted number (pid_named pid)
     else (if nat_eq kind 3 then Some conditions.Fault else (if nat_eq kind 4 then Some (conditions.StoreTo number) else (if nat_eq kind 5 then Some conditions.Exit else None)))))
+
+-- the cause of a fault, by its number in `scause`
+abbrev pub cause_named : (code : ℕ) → Option Cause
+cause_named code =
+    if nat_eq code 0 then Some TargetMisaligned else (if nat_eq code 2 then Some IllegalInstruction else (if nat_eq code 3 then Some Breakpoint
+    else (if nat_eq code 4 then Some LoadMisaligned else (if nat_eq code 6 then Some StoreMisaligned else (if nat_eq code 12 then Some FetchPageFault
+    else (if nat_eq code 13 then Some LoadPageFault else (if nat_eq code 15 then Some StorePageFault else None)))))))

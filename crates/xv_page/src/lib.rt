@@ -14,6 +14,7 @@ mod lines;
 mod named;
 mod outcomes;
 mod reading;
+mod reports;
 mod root;
 mod texts;
 mod views;

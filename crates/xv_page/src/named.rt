@@ -3,10 +3,10 @@ ghost use Rattle.std.specs.Prelude.{◌≡◌, ◌<◌, IfSome, option_map};
 ghost use Rattle.xv_machine.specs.Events.{event_of};
 ghost use Rattle.xv_page.specs.Named.{pid_named, page_named, descriptor_named, frame_named};
 ghost use Rattle.xv_page.specs.Named.{register_named, slot_named, list_named, key_named};
-ghost use Rattle.xv_page.specs.Named.{event_named, call_named, condition_named};
+ghost use Rattle.xv_page.specs.Named.{event_named, call_named, cause_named, condition_named};
 
 use xk_base::limits::{FRAMES_MAX, NOFILE, NPROC, PID_MAX, VPN_END};
-use xk_base::{Fd, Frame, Pid, Vpn};
+use xk_base::{Cause, Fd, Frame, Pid, Vpn};
 use xv_machine::{ConsoleList, Event};
 use xv_session::Condition;
 
@@ -141,6 +141,23 @@ pub(crate) fn condition_named(kind: u32, pid: u32, number: u64) -> Option<Condit
         3 => Some(Condition::Fault),
         4 => Some(Condition::StoreTo(number)),
         5 => Some(Condition::Exit),
+        _ => None,
+    }
+}
+
+/// The cause of a fault that has this number (RISC-V Privileged ISA, "scause"), if one has.
+pub(crate) fn cause_named(code: u32) -> Option<Cause>
+    ensures { result ≡ cause_named code }
+{
+    match code {
+        0 => Some(Cause::TargetMisaligned),
+        2 => Some(Cause::IllegalInstruction),
+        3 => Some(Cause::Breakpoint),
+        4 => Some(Cause::LoadMisaligned),
+        6 => Some(Cause::StoreMisaligned),
+        12 => Some(Cause::FetchPageFault),
+        13 => Some(Cause::LoadPageFault),
+        15 => Some(Cause::StorePageFault),
         _ => None,
     }
 }

@@ -8,12 +8,16 @@ use crate::reading::{
     xv_page_frame, xv_page_note, xv_page_pipe, xv_page_pipe_byte, xv_page_process, xv_page_program,
     xv_page_register, xv_page_rights, xv_page_size, xv_page_slot, xv_page_use,
 };
+use crate::reports::{xv_page_fault, xv_page_know, xv_page_source, xv_page_wait};
 use crate::texts::{Assembled, xv_page_assemble, xv_page_instruction};
 use crate::views::{Facts, descriptor_told, pipe_told, process_told, use_told, word_told};
-use crate::writing::{xv_page_back, xv_page_event, xv_page_run, xv_page_until};
+use crate::writing::{
+    xv_page_back, xv_page_event, xv_page_run, xv_page_run_to_stop, xv_page_until,
+};
 use std::alloc::Global;
 use uasm_core::SourceLines;
 use xk_base::Program;
+use xv_report::Sources;
 use xv_session::Session;
 
 /// Makes each call that changes a session.
@@ -36,6 +40,8 @@ fn change(alloc: Global, session: &mut Option<Box<Session>>, number: u32, bytes:
     xv_page_event(session, number, number, &mut told, bytes);
     xv_page_run(session, number, &mut runs);
     xv_page_until(session, number, number, number, 7, &mut runs);
+    let places = [7, 8];
+    xv_page_run_to_stop(session, number, &places, &places, &mut runs);
     xv_page_back(alloc, session, 7);
 }
 
@@ -105,6 +111,22 @@ fn read(alloc: Global, source: &[u8], number: u32, bytes: &mut [u8]) {
     xv_page_call(7, &mut call, bytes);
 }
 
+/// Makes each call that tells in words why a process ended or waits.
+fn explain(
+    alloc: Global,
+    session: &Option<Box<Session>>,
+    block: &[u8],
+    number: u32,
+    bytes: &mut [u8],
+) {
+    let mut sources: Option<Box<Sources>> = None;
+    let mut told = 0;
+    xv_page_know(alloc, &mut sources, block);
+    xv_page_source(alloc, &mut sources, block, block);
+    xv_page_wait(alloc, session, &sources, number, &mut told, bytes);
+    xv_page_fault(alloc, session, &sources, number, &mut told, bytes);
+}
+
 /// Makes each call once: so the library has them all. The host calls them by themselves, and never this one.
 #[unsafe(no_mangle)]
 pub extern "C" fn xv_page_root(alloc: Global, block: &[u8], bytes: &mut [u8]) {
@@ -113,6 +135,7 @@ pub extern "C" fn xv_page_root(alloc: Global, block: &[u8], bytes: &mut [u8]) {
     change(alloc, &mut session, number, bytes);
     look_at_process(&session, number);
     look(&session, number);
+    explain(alloc, &session, block, number, bytes);
     xv_page_drop(&mut session);
     read(alloc, block, number, bytes);
 }

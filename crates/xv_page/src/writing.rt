@@ -2,7 +2,7 @@
 ghost use Rattle.std.specs.Prelude.{◌≡◌, option_map};
 ghost use Rattle.xv_machine.specs.Events.{event_of};
 ghost use Rattle.xv_page.specs.Booting.{held};
-ghost use Rattle.xv_page.specs.Calls.{OnSession, EventSent, RunSent, Searched, IsBack};
+ghost use Rattle.xv_page.specs.Calls.{OnSession, EventSent, RunSent, Searched, StopSought, IsBack};
 ghost use Rattle.xv_page.specs.Named.{event_named, condition_named};
 
 use crate::answers::{Answer, answer_of, lay};
@@ -119,6 +119,44 @@ pub fn xv_page_until(
     match session {
         None => Answer::NotBooted,
         Some(session) => search(session, most, condition_named(kind, pid, number), told),
+    }
+}
+
+/// Sends Run up to a stop.
+fn run_to_stop(
+    session: &mut Session,
+    most: u32,
+    addresses: &[u64],
+    bytes: &[u64],
+    told: &mut RunsTold,
+) -> Answer
+    ensures { StopSought most addresses.now bytes.now told.old told.new result session.old session.new }
+{
+    match session.run_to_stop(most, addresses, bytes) {
+        Ok(went) => {
+            *told = runs_told(went.sent, went.met, &went.last);
+            Answer::Done
+        }
+        Err(error) => answer_of(error),
+    }
+}
+
+/// Sends Run as long as an instruction is done and leads to no stop, and once more, `most` times at most. The process
+/// that runs stands before a stop if its next instruction stands at one of the addresses, or stores to one of the bytes.
+#[inline(never)]
+pub fn xv_page_run_to_stop(
+    session: &mut Option<Box<Session>>,
+    most: u32,
+    addresses: &[u64],
+    bytes: &[u64],
+    told: &mut RunsTold,
+) -> Answer
+    ensures { OnSession (told.new ≡ told.old)
+        (StopSought most addresses.now bytes.now told.old told.new) result (held session.old) (held session.new) }
+{
+    match session {
+        None => Answer::NotBooted,
+        Some(session) => run_to_stop(session, most, addresses, bytes, told),
     }
 }
 

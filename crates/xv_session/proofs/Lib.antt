@@ -10,4 +10,5 @@ pub mod RunsCounted
 pub mod RunsMade
 pub mod Searches
 pub mod Spans
+pub mod Stretches
 pub mod Texts

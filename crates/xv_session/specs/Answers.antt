@@ -8,6 +8,7 @@ use Rattle.xv_session.specs.Names.{first_names}
 use Rattle.xv_session.specs.Recorded.{Recorded, running_of}
 use Rattle.xv_session.specs.Steps.{Advances, RunsMade}
 use Rattle.xv_session.specs.Until.{Searched}
+use Rattle.xv_session.specs.Stops.{WentOn}
 use Rattle.xv_session.specs.declared.names.Named.{Named}
 use Rattle.xv_session.specs.declared.until.Condition.{Condition}
 use Rattle.xv_session.specs.declared.history.TheConstants.{EVENTS_MAX}
@@ -42,6 +43,11 @@ RunsSent most sent last old new = RunsMade most sent last (running_of old) (runn
 -- Runs were sent, up to the first that is what is waited for
 abbrev pub Found : Condition → (most sent : ℕ) → (met : Bool) → (last : Option Outcome) → Recorded → Recorded → Type 0
 Found c most sent met last old new = Searched c most met last (running_of old) (running_of new) sent × (new ≡ stands old (old.events ++ replicate sent Run) new.machine new.names)
+
+-- Runs were sent, up to the first that leads to a stop, or of which no done instruction came
+abbrev pub Stopped : (addresses bytes : List ℕ) → (most sent : ℕ) → (met : Bool) → (last : Option Outcome) → Recorded → Recorded → Type 0
+Stopped addresses bytes most sent met last old new =
+    WentOn addresses bytes most met last (running_of old) (running_of new) sent × (new ≡ stands old (old.events ++ replicate sent Run) new.machine new.names)
 
 -- the machine is the one that the first events lead to, and these are all that it has got
 abbrev pub WentBack : (place : ℕ) → Recorded → Recorded → Type 0

@@ -7,5 +7,6 @@ pub mod Codes
 pub mod Answers
 pub mod Inside
 pub mod Until
+pub mod Stops
 pub mod Looking
 pub mod Again

@@ -12,6 +12,7 @@ mod names;
 mod playing;
 mod running;
 mod session;
+mod stops;
 mod until;
 
 pub use history::EVENTS_MAX;

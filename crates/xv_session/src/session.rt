@@ -5,6 +5,7 @@ ghost use Rattle.kernel_spec.specs.views.State.{named_file};
 use crate::history::History;
 use crate::names::Named;
 use crate::running::{Running, Runs};
+use crate::stops::run_to_stop;
 use crate::until::{Condition, Search, run_until};
 use std::alloc::{AllocError, Global};
 use std::marker::Model;
@@ -87,7 +88,7 @@ impl Session {
     ghost use Rattle.xv_machine.specs.Events.{event_of, outcome_of};
     ghost use Rattle.xv_machine.specs.Sound.{IsSoundMachine};
     ghost use Rattle.xv_session.specs.Recorded.{IsPlayed, IsLed, IsRecorded};
-    ghost use Rattle.xv_session.specs.Answers.{machine_of, IsNew, Sent, RunsSent, Found, WentBack, AreEqualFrom, IsReason};
+    ghost use Rattle.xv_session.specs.Answers.{machine_of, IsNew, Sent, RunsSent, Found, Stopped, WentBack, AreEqualFrom, IsReason};
     ghost use Rattle.xv_session.specs.Names.{place_in, AreLive};
     ghost use Rattle.xv_session.specs.Spans.{pair_of};
 
@@ -157,6 +158,29 @@ impl Session {
     {
         self.history.make_room(Event::Run)?;
         let found = run_until(&mut self.running, most, &condition);
+        self.history.add(found.sent);
+        Ok(found)
+    }
+
+    /// Sends Run as long as an instruction is done and leads to no stop, and once more, `most` times at most. The process
+    /// that runs stands before a stop if its next instruction stands at one of the addresses, or stores to one of the
+    /// bytes. It is told whether it does so after the last Run.
+    ///
+    /// # Errors
+    ///
+    /// As [`send`](Session::send): nothing is sent.
+    pub fn run_to_stop(
+        &mut self,
+        most: u32,
+        addresses: &[u64],
+        bytes: &[u64],
+    ) -> Result<Search, SessionError>
+        ensures stopped { IfOk result (λ s. Stopped addresses.now bytes.now most s.sent s.met (option_map outcome_of s.last) self.old self.new) }
+        ensures refused { IfErr result (λ _. self.new ≡ self.old) }
+        ensures reason { IfErr result (λ e. IsReason e (length self.old.events)) }
+    {
+        self.history.make_room(Event::Run)?;
+        let found = run_to_stop(&mut self.running, most, addresses, bytes);
         self.history.add(found.sent);
         Ok(found)
     }

@@ -101,7 +101,7 @@ fn stands_at(machine: &Machine, pid: Pid, pc: u64) -> bool
 }
 
 /// Whether an instruction was done.
-fn is_done(outcome: &Outcome) -> bool
+pub(crate) fn is_done(outcome: &Outcome) -> bool
     ensures { result ≡ is_done (outcome_of outcome.now) }
 {
     match outcome {
@@ -123,7 +123,7 @@ fn store_size(op: StoreOp) -> u64
 }
 
 /// Whether an instruction is a store, of whose bytes, from its own address on, one lies at this one.
-fn puts_at(address: u64, instr: Option<Instr>, own: Option<u64>) -> bool
+pub(crate) fn puts_at(address: u64, instr: Option<Instr>, own: Option<u64>) -> bool
     ensures { result ≡ puts_at address instr own }
 {
     let Some(Instr::Store { op, .. }) = instr else {
@@ -136,7 +136,7 @@ fn puts_at(address: u64, instr: Option<Instr>, own: Option<u64>) -> bool
 }
 
 /// The instruction that a word spells.
-fn instruction_in(word: Option<u32>) -> Option<Instr>
+pub(crate) fn instruction_in(word: Option<u32>) -> Option<Instr>
     ensures { result ≡ instruction_in word }
 {
     decode(word?)

@@ -1,0 +1,132 @@
+// Steps by lines of a program's source, in the worker: over calls, into them, out of a function; forward and back. The page tells where
+// the lines begin, {address, line}, and how calls lie on the stack, {address, size, place}, both in the order of their addresses.
+import { KIND } from "./machine.mjs";
+import { last_before } from "./sorted.mjs";
+
+const MOST = 30000000; // Runs that a step makes before it gives up
+const AT_ONCE = 1000000; // Runs up to a stop of one call
+const FIRST_PART = 20000, MOST_OF_PART = 2000000; // events that a step back looks through at once
+const MOST_IDLE = 200;
+
+/** Where a process stands: {pc, line, frame}; `frame`: where its caller's part of the stack begins. Null if it doesn't live. */
+function standing(machine, pid, { lines, frames }) {
+  const pc = machine.register(pid, 0), sp = machine.register(pid, 2);
+  if (pc === null || sp === null) return null;
+  const size = last_before(frames, pc)?.size ?? -1;
+  return { pc, line: last_before(lines, pc)?.line ?? "", frame: sp + BigInt(Math.max(0, size)) };
+}
+
+/** Whether a step of this kind ends at a place, having begun at another. */
+function ends(how, from, now) {
+  if (how === "out") return now.frame > from.frame;
+  if (now.line === "" || now.line === from.line && now.frame === from.frame) return false;
+  return how === "into" || now.frame >= from.frame;
+}
+
+/** The addresses at which a step may end. */
+function addresses_of(how, from, { lines }, returns) {
+  if (how === "out") return returns;
+  return [...new Set([...lines.filter((it) => it.line !== "" && it.line !== from.line).map((it) => it.address), ...returns])];
+}
+
+/** The caller of a function at a place: {pc, sp}, where the pc is that to which it returns; null if it isn't known. */
+function caller_of(machine, pid, { pc, sp, ra }, frames) {
+  const row = last_before(frames, pc), above = sp + BigInt(Math.max(0, row?.size ?? 0));
+  // A function without a row, as one in assembler, calls no other: what it returns to stands in ra.
+  if (!row || row.size < 0 || row.place === 0) return ra === null ? null : { pc: ra, sp: above };
+  const bytes = machine.peek(pid, above - BigInt(row.place), 8);
+  return bytes.length < 8 ? null : { pc: new DataView(bytes.buffer, bytes.byteOffset).getBigUint64(0, true), sp: above };
+}
+
+const place_of = (machine, pid) => ({ pc: machine.register(pid, 0), sp: machine.register(pid, 2), ra: machine.register(pid, 1) });
+
+/** Where the function at which a process stands returns to. */
+function returns_of(machine, pid, { frames }) {
+  const caller = caller_of(machine, pid, place_of(machine, pid), frames);
+  return caller ? [caller.pc] : [];
+}
+
+const MOST_CALLS = 64; // that are told
+
+/** The addresses of the calls that led to where a process stands, its own place first. */
+export function calls_of(machine, pid, frames) {
+  let at = place_of(machine, pid);
+  const found = [];
+  while (at.pc !== null && found.length < MOST_CALLS) {
+    // A call stands before the address to which it returns.
+    const pc = found.length ? at.pc - 4n : at.pc;
+    found.push(pc);
+    const caller = caller_of(machine, pid, { ...at, pc }, frames);
+    if (!caller || caller.pc < 4n) break;
+    at = { ...caller, ra: null };
+  }
+  return found;
+}
+
+/** Forward: plays on up to the end of the step. Answers words that say why it ended elsewhere, or nothing. */
+function forward(run, plan, { how, pid, ...known }, heard, halted) {
+  const { machine } = run, from = standing(machine, pid, known), program = run.program_of(pid);
+  if (!from) return "";
+  const addresses = addresses_of(how, from, known, returns_of(machine, pid, known)), own = { addresses, bytes: [] }, none = { addresses: [], bytes: [] };
+  const stops = () => (run.current === pid ? own : none);
+  let idle = 0;
+  plan.find();
+  for (let sent = 0; sent < MOST; ) {
+    const before = run.at;
+    let kind = KIND.STEP;
+    if (run.is_past) run.replay(Math.min(run.end, run.at + AT_ONCE), stops);
+    else {
+      if (halted()) return "process 1 is gone: nobody runs again";
+      const told = plan.next(AT_ONCE, stops());
+      heard(told);
+      kind = told.kind;
+      idle = kind === KIND.IDLE ? idle + 1 : kind === KIND.TICK || kind === KIND.NONE ? idle : 0;
+    }
+    sent += run.at - before;
+    const now = standing(machine, pid, known);
+    if (!now) return `process ${pid} has ended`;
+    if (run.program_of(pid) !== program) return `process ${pid} runs another program now`;
+    if (run.current === pid && addresses.includes(now.pc) && ends(how, from, now)) return "";
+    if (idle > MOST_IDLE) return "nobody may run: all wait, maybe for keys";
+    if (before === run.at) return "";
+  }
+  return "the line did not end in 30 million Runs";
+}
+
+/** The places within a part of the run at which a process comes to the beginning of a line: {place, line, frame}. */
+function beginnings(run, from, to, pid, known) {
+  const { machine, line } = run, found = [], own = { addresses: known.lines.filter((it) => it.line !== "").map((it) => it.address), bytes: [] };
+  const note = () => { if (run.at < to && run.current === pid) { const now = standing(machine, pid, known); if (now && last_before(known.lines, now.pc)?.address === now.pc) found.push({ place: run.at, ...now }); } };
+  run.go(from);
+  note();
+  for (let k = Math.max(0, line.find(run.at)); run.at < to && k < line.length; k++) {
+    const end = Math.min(to, line.end_of(k));
+    if (line.pid[k] !== pid || line.kind[k] !== KIND.STEP) { run.replay(end); note(); continue; }
+    while (run.at < end) { const told = machine.run_to_stop(end - run.at, own); run.at += told.sent; if (told.met) note(); }
+  }
+  return found;
+}
+
+/** Back: goes to where the line before began, or the call of the function. */
+function backward(run, { how, pid, ...known }) {
+  const born = run.names_of.get(pid)?.findLast((it) => it.at <= run.at)?.at ?? 0;
+  const here = run.at, from = standing(run.machine, pid, known) ?? { pc: 0n, line: "", frame: 0n };
+  const fits = (it) => (how === "out" ? it.frame > from.frame : how === "into" || it.frame >= from.frame);
+  let list = [];
+  for (let to = here, most = FIRST_PART; to > born; most = Math.min(MOST_OF_PART, 2 * most)) {
+    const begin = Math.max(born, to - most);
+    list = [...run.look(begin, () => beginnings(run, begin, to, pid, known)).filter(fits), ...list];
+    to = begin;
+    const last = list.at(-1);
+    let k = list.length - 1;
+    while (k > 0 && list[k - 1].line === last.line && list[k - 1].frame === last.frame) k--;
+    // All of the line's beginning is in what was looked through, if another line stands before it.
+    if (last && (k > 0 || to <= born)) { run.go(list[k].place); return ""; }
+  }
+  return "no line begins before this place";
+}
+
+/** A step by a line; answers words that say why it ended elsewhere, or nothing. */
+export function line_step(run, plan, wants, heard, halted) {
+  return wants.back ? backward(run, wants) : forward(run, plan, wants, heard, halted);
+}

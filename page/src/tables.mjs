@@ -1,0 +1,65 @@
+// What stands beside a program of C for readers of its source, as programs/c/table.sh writes it: its functions, the lines of its source,
+// and how its calls lie on the stack.
+import { unpacked } from "./unpacked.mjs";
+
+const FUNCTION = 2, SYMBOLS = 2, STRINGS = 3; // of an ELF file: STT_FUNC, SHT_SYMTAB, SHT_STRTAB
+const HEAD = 64, SYMBOL = 24; // bytes of an ELF file's header and of a section's; of a symbol
+
+let shipped = null; // what the page has inside: {tables, sources}
+const inside = () => (shipped ??= JSON.parse(unpacked(globalThis.PAGE_DATA.c)));
+
+/** The table of a program that the page has inside; nothing if it has none. */
+export const shipped_table = (name) => inside().tables[name] ?? "";
+/** A source that the page has inside; nothing if it has none. */
+export const shipped_source = (name) => inside().sources[name] ?? "";
+
+export const is_table = (text) => /^function \d+ \d+ \S+\n/.test(text ?? "");
+
+/** What a table tells: {names, lines, frames}, each in the order of addresses. `line`: as `sh.c:12`, or nothing if none is known. */
+export function read_table(text) {
+  const names = [], lines = [], frames = [];
+  let file = "";
+  for (const row of text.split("\n")) {
+    const words = row.split(" ");
+    if (words[0] === "function") names.push({ name: words[3], address: BigInt(words[1]), size: Number(words[2]) });
+    else if (words[0] === "file") file = row.slice(5);
+    else if (words[0] === "frame") frames.push({ address: BigInt(words[1]), size: Number(words[2]), place: Number(words[3]) });
+    else if (words.length === 2) lines.push({ address: BigInt(words[0]), file, number: Number(words[1]), line: words[1] === "0" ? "" : `${file}:${words[1]}` });
+  }
+  return { names, lines, frames };
+}
+
+/** The rows `ADDRESS LINE` of the lines, as `xv_report` reads them. */
+export const rows_of = (lines) => lines.map((it) => `${it.address} ${it.line}`).join("\n");
+
+/** An ELF-64 file that has the functions of a table as its symbols, and no more (ELF-64 Object File Format). */
+export function elf_of(names) {
+  const texts = new TextEncoder(), strings = [0], at = HEAD, symbols = new DataView(new ArrayBuffer(SYMBOL * (names.length + 1)));
+  names.forEach(({ name, address, size }, k) => {
+    const to = SYMBOL * (k + 1);
+    symbols.setUint32(to, strings.length, true);
+    symbols.setUint8(to + 4, FUNCTION);
+    symbols.setBigUint64(to + 8, address, true);
+    symbols.setBigUint64(to + 16, BigInt(size), true);
+    strings.push(...texts.encode(name), 0);
+  });
+  const from = at + symbols.byteLength, heads = from + strings.length, bytes = new Uint8Array(heads + 3 * HEAD), d = new DataView(bytes.buffer);
+  bytes.set([0x7f, 0x45, 0x4c, 0x46, 2, 1, 1]);
+  d.setBigUint64(40, BigInt(heads), true);
+  d.setUint16(52, HEAD, true);
+  d.setUint16(58, HEAD, true);
+  d.setUint16(60, 3, true);
+  bytes.set(new Uint8Array(symbols.buffer), at);
+  bytes.set(strings, from);
+  const section = (k, kind, place, size, link) => {
+    const to = heads + HEAD * k;
+    d.setUint32(to + 4, kind, true);
+    d.setBigUint64(to + 24, BigInt(place), true);
+    d.setBigUint64(to + 32, BigInt(size), true);
+    d.setUint32(to + 40, link, true);
+    d.setBigUint64(to + 56, BigInt(kind === SYMBOLS ? SYMBOL : 0), true);
+  };
+  section(1, SYMBOLS, at, symbols.byteLength, 2);
+  section(2, STRINGS, from, strings.length, 0);
+  return bytes;
+}
