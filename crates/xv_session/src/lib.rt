@@ -2,7 +2,7 @@
 //!
 //! A [`Session`] boots a machine and sends it events, and keeps them. So it can go back to any place of its run,
 //! by booting anew and sending the first of these events again: what a machine does is determined by its programs
-//! and its events. A contract sees a session as `Recorded` of `specs/Recorded.antt`.
+//! and its events. A [`Running`] keeps no events. A contract sees a session as `Recorded` of `specs/Recorded.antt`.
 #![tactic(auto)]
 
 mod history;
@@ -17,7 +17,7 @@ mod until;
 
 pub use history::EVENTS_MAX;
 pub use looking::{Fault, NextStep, fault_of_run, next_step};
-pub use names::Named;
-pub use running::Runs;
+pub use names::{Named, Names};
+pub use running::{Running, Runs};
 pub use session::{Session, SessionError};
 pub use until::{Condition, Search};

@@ -117,7 +117,7 @@ fn gone_on_with(value: i64, asked: Option<usize>) -> Option<usize>
 
 /// The programs of the live processes. There is room for all of them, since each has a slot of its own.
 #[derive(Drop)]
-pub(crate) struct Names {
+pub struct Names {
     held: ArrayVec<Named, NPROC>,
 }
 

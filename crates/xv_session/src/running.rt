@@ -8,9 +8,9 @@ ghost use Rattle.xv_session.specs.Steps.{Advances, IsSound, RunsMade, passed};
 use crate::names::{Names, asked_for};
 use xv_machine::{Event, Machine, Outcome};
 
-/// A machine, and which program each of its live processes runs.
+/// A machine, and which program each of its live processes runs. It keeps no events.
 #[derive(Drop)]
-pub(crate) struct Running {
+pub struct Running {
     pub machine: Machine,
     pub names: Names,
 }

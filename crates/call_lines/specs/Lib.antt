@@ -1,0 +1,4 @@
+pub mod Asked
+pub mod Line
+pub mod Memory
+pub mod Strings

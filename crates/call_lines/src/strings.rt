@@ -1,0 +1,70 @@
+//! Bytes as strings of C.
+ghost use Rattle.std.specs.Prelude.{◌≡◌, Some, flat_map, take};
+ghost use Rattle.std.specs.Fmt.{WritesOnOk};
+ghost use Rattle.call_lines.specs.Strings as meant;
+
+use std::fmt;
+
+/// The most bytes of a string that are shown.
+pub const SHOWN_MOST: usize = 32;
+
+/// Bytes between quotes, as C writes a string: at most [`SHOWN_MOST`] of them, and dots behind if there are more.
+#[derive(Clone, Copy)]
+pub struct CString<'a>(pub &'a [u8]);
+
+// One byte of them.
+fn show_byte<W: fmt::Write>(byte: u8, f: &mut fmt::Formatter<W>) -> fmt::Result
+    ensures { WritesOnOk W.write_str_gives f.old result (meant.escaped byte) f.new }
+{
+    match byte {
+        b'\n' => f.write_str("\\n"),
+        b'\t' => f.write_str("\\t"),
+        b'\r' => f.write_str("\\r"),
+        b'"' => f.write_str("\\\""),
+        b'\\' => f.write_str("\\\\"),
+        32..=126 => f.write_char(char::from(byte)),
+        _ => write!(f, "\\{byte:03o}"),
+    }
+}
+
+// The bytes, one behind another.
+fn show_bytes<W: fmt::Write>(bytes: &[u8], f: &mut fmt::Formatter<W>) -> fmt::Result
+    ensures { WritesOnOk W.write_str_gives f.old result (flat_map meant.escaped bytes.now) f.new }
+{
+    for byte in bytes {
+        show_byte(*byte, f)?;
+    }
+    Ok(())
+}
+
+// Those that are shown.
+fn shown(bytes: &[u8]) -> &[u8]
+    ensures { result.now ≡ take SHOWN_MOST bytes.now }
+{
+    if bytes.len() > SHOWN_MOST {
+        &bytes[..SHOWN_MOST]
+    } else {
+        bytes
+    }
+}
+
+// What stands behind them.
+fn ending(bytes: &[u8]) -> &'static str
+    ensures { result.now ≡ meant.ending bytes.now }
+{
+    if bytes.len() > SHOWN_MOST {
+        "\"..."
+    } else {
+        "\""
+    }
+}
+
+impl<'a> fmt::Display for CString<'a> {
+    ghost output = { λ s. Some (meant.c_string s.0.now) };
+
+    fn fmt<W: fmt::Write>(&self, f: &mut fmt::Formatter<W>) -> fmt::Result {
+        f.write_str("\"")?;
+        show_bytes(shown(self.0), f)?;
+        f.write_str(ending(self.0))
+    }
+}
