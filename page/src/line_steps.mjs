@@ -1,5 +1,6 @@
 // Steps by lines of a program's source, in the worker: over calls, into them, out of a function; forward and back. The page tells where
-// the lines begin, {address, line}, and how calls lie on the stack, {address, size, place}, both in the order of their addresses.
+// the lines begin, {address, line}, and how calls lie on the stack, {address, size, place}, both in the order of their addresses, and where
+// the function of the next instruction begins and ends.
 import { KIND } from "./machine.mjs";
 import { last_before } from "./sorted.mjs";
 
@@ -23,10 +24,11 @@ function ends(how, from, now) {
   return how === "into" || now.frame >= from.frame;
 }
 
-/** The addresses at which a step may end. */
-function addresses_of(how, from, { lines }, returns) {
+/** The addresses at which a step may end: of one over calls those of the function, and where it returns to. */
+function addresses_of(how, from, { lines, within }, returns) {
   if (how === "out") return returns;
-  return [...new Set([...lines.filter((it) => it.line !== "" && it.line !== from.line).map((it) => it.address), ...returns])];
+  const may_end = ({ address, line }) => line !== "" && line !== from.line && (how === "into" || !within || (address >= within.from && address < within.to));
+  return [...new Set([...lines.filter(may_end).map((it) => it.address), ...returns])];
 }
 
 /** The caller of a function at a place: {pc, sp}, where the pc is that to which it returns; null if it isn't known. */
