@@ -23,7 +23,7 @@ export function read_table(text) {
     const words = row.split(" ");
     if (words[0] === "function") names.push({ name: words[3], address: BigInt(words[1]), size: Number(words[2]) });
     else if (words[0] === "file") file = row.slice(5);
-    else if (words[0] === "frame") frames.push({ address: BigInt(words[1]), size: Number(words[2]), place: Number(words[3]) });
+    else if (words[0] === "frame") frames.push({ address: BigInt(words[1]), base: words[2], size: BigInt(words[3]), ra: BigInt(words[4]), s0: BigInt(words[5]) });
     else if (words.length === 2) lines.push({ address: BigInt(words[0]), file, number: Number(words[1]), line: words[1] === "0" ? "" : `${file}:${words[1]}` });
   }
   return { names, lines, frames };
