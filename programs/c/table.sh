@@ -4,7 +4,8 @@
 # (docs/manual/page.md) reads it.
 #
 # A line is one of these; all numbers are decimal:
-#   function ADDRESS BYTES NAME    a function or a label
+#   function ADDRESS BYTES NAME    a function
+#   label ADDRESS BYTES NAME       a label of assembler source, up to the next one
 #   file NAME                      the lines below are of this source
 #   ADDRESS LINE                   from here on the instructions are of this line; LINE 0: no line is known
 #   frame ADDRESS BASE SIZE RA S0  from here on the caller's part of the stack begins SIZE above BASE, which is sp or s0, or - if it
@@ -28,13 +29,13 @@ function hexadecimal(digits,    n, i) {
         n = n * 16 + index("0123456789abcdef", tolower(substr(digits, i, 1))) - 1
     return n
 }
-$4 == "FUNC" && $3 > 0 { print hexadecimal($2), $3, $8 }
-$4 == "NOTYPE" && $5 != "LOCAL" && $7 == 1 { print hexadecimal($2), 0, $8 }' | sort -n -k1,1 -k2,2r -k3,3 | awk '
+$4 == "FUNC" && $3 > 0 { print hexadecimal($2), $3, "function", $8 }
+$4 == "NOTYPE" && $5 != "LOCAL" && $7 == 1 { print hexadecimal($2), 0, "label", $8 }' | sort -n -k1,1 -k2,2r -k4,4 | awk '
 known && $1 == address { next }
 known && size == 0 { size = $1 - address }
-known { print "function", address, size, name }
-{ known = 1; address = $1; size = $2; name = $3 }
-END { if (known && size > 0) print "function", address, size, name }'
+known { print kind, address, size, name }
+{ known = 1; address = $1; size = $2; kind = $3; name = $4 }
+END { if (known && size > 0) print kind, address, size, name }'
 }
 
 # Where the lines begin: those that tell nothing new are left out.
