@@ -18,7 +18,7 @@ def read(path):
     with open(path, encoding="utf-8") as it:
         for row in it.read().splitlines():
             words = row.split(" ")
-            if words[0] == "function":
+            if words[0] in ("function", "label"):
                 addresses.update(range(int(words[1]), int(words[1]) + int(words[2]), 4))
             elif words[0] == "file":
                 source = row[5:]

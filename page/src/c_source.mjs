@@ -1,7 +1,7 @@
 // The source of a program in C: its text with the line that is next, break points beside the lines, the calls that led there, and steps
 // by lines.
 import { $, app, ask, element, on, program_name, say, tell, write } from "./app.mjs";
-import { line_at, name_at } from "./symbols.mjs";
+import { function_at, line_at, name_at } from "./symbols.mjs";
 import { program_of, symbols_of } from "./instruction.mjs";
 import { stops_in, toggle_stop } from "./breaks.mjs";
 
@@ -20,7 +20,7 @@ function places() {
 export function step_line(how, back) {
   const symbols = places();
   if (!symbols) { say("The process that is looked at runs no program whose lines in C are known"); return; }
-  ask("line_step", { how, back, pid: app.view.pid, lines: symbols.table.lines.map(({ address, line }) => ({ address, line })), frames: symbols.table.frames });
+  ask("line_step", { how, back, pid: app.view.pid, lines: symbols.table.lines.map(({ address, line }) => ({ address, line })), frames: symbols.table.frames, within: function_at(symbols, app.view.registers[0]) });
 }
 
 // ---- the text

@@ -130,8 +130,8 @@ function reveal(line) {
 
 function assemble() {
   const { file } = state;
+  state.asked++; // (what comes of a file that was open before is passed over)
   if (!is_source(file)) { state.mistake = null; said("", ""); return; }
-  state.asked++;
   ask("assemble", { text: file.text, id: state.asked });
 }
 

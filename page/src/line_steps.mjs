@@ -1,5 +1,6 @@
 // Steps by lines of a program's source, in the worker: over calls, into them, out of a function; forward and back. The page tells where
-// the lines begin, {address, line}, and how calls lie on the stack, {address, size, place}, both in the order of their addresses.
+// the lines begin, {address, line}, and how calls lie on the stack, {address, base, size, ra, s0}, both in the order of their addresses, and where
+// the function of the next instruction begins and ends.
 import { KIND } from "./machine.mjs";
 import { last_before } from "./sorted.mjs";
 
@@ -8,12 +9,22 @@ const AT_ONCE = 1000000; // Runs up to a stop of one call
 const FIRST_PART = 20000, MOST_OF_PART = 2000000; // events that a step back looks through at once
 const MOST_IDLE = 200;
 
+/** Where a process stands: its pc and the registers by which calls are followed; null if it doesn't live. */
+function place_of(machine, pid) {
+  const [pc, ra, sp, s0] = [0, 1, 2, 8].map((it) => machine.register(pid, it));
+  return pc === null ? null : { pc, ra, sp, s0 };
+}
+
+/** Where the caller's part of the stack begins, of a function at a place. */
+function above(frames, at) {
+  const row = last_before(frames, at.pc);
+  return !row || row.base === "-" ? at.sp : at[row.base] + row.size;
+}
+
 /** Where a process stands: {pc, line, frame}; `frame`: where its caller's part of the stack begins. Null if it doesn't live. */
 function standing(machine, pid, { lines, frames }) {
-  const pc = machine.register(pid, 0), sp = machine.register(pid, 2);
-  if (pc === null || sp === null) return null;
-  const size = last_before(frames, pc)?.size ?? -1;
-  return { pc, line: last_before(lines, pc)?.line ?? "", frame: sp + BigInt(Math.max(0, size)) };
+  const at = place_of(machine, pid);
+  return at && { pc: at.pc, line: last_before(lines, at.pc)?.line ?? "", frame: above(frames, at) };
 }
 
 /** Whether a step of this kind ends at a place, having begun at another. */
@@ -23,26 +34,30 @@ function ends(how, from, now) {
   return how === "into" || now.frame >= from.frame;
 }
 
-/** The addresses at which a step may end. */
-function addresses_of(how, from, { lines }, returns) {
+/** The addresses at which a step may end: of one over calls those of the function, and where it returns to. */
+function addresses_of(how, from, { lines, within }, returns) {
   if (how === "out") return returns;
-  return [...new Set([...lines.filter((it) => it.line !== "" && it.line !== from.line).map((it) => it.address), ...returns])];
+  const may_end = ({ address, line }) => line !== "" && line !== from.line && (how === "into" || !within || (address >= within.from && address < within.to));
+  return [...new Set([...lines.filter(may_end).map((it) => it.address), ...returns])];
 }
 
-/** The caller of a function at a place: {pc, sp}, where the pc is that to which it returns; null if it isn't known. */
-function caller_of(machine, pid, { pc, sp, ra }, frames) {
-  const row = last_before(frames, pc), above = sp + BigInt(Math.max(0, row?.size ?? 0));
+/** The eight bytes at an address, as a number; null where memory ends. */
+function double_at(machine, pid, address) {
+  const bytes = machine.peek(pid, BigInt.asUintN(64, address), 8);
+  return bytes.length < 8 ? null : new DataView(bytes.buffer, bytes.byteOffset).getBigUint64(0, true);
+}
+
+/** The place of the caller of a function at a place, where the pc is that to which it returns; null if it isn't known. */
+function caller_of(machine, pid, at, frames) {
+  const row = last_before(frames, at.pc), sp = above(frames, at), kept = (place, register) => (place > 0n ? double_at(machine, pid, sp - place) : register);
   // A function without a row, as one in assembler, calls no other: what it returns to stands in ra.
-  if (!row || row.size < 0 || row.place === 0) return ra === null ? null : { pc: ra, sp: above };
-  const bytes = machine.peek(pid, above - BigInt(row.place), 8);
-  return bytes.length < 8 ? null : { pc: new DataView(bytes.buffer, bytes.byteOffset).getBigUint64(0, true), sp: above };
+  const pc = kept(row?.ra ?? 0n, at.ra), s0 = kept(row?.s0 ?? 0n, at.s0);
+  return pc === null ? null : { pc, ra: null, sp, s0 };
 }
-
-const place_of = (machine, pid) => ({ pc: machine.register(pid, 0), sp: machine.register(pid, 2), ra: machine.register(pid, 1) });
 
 /** Where the function at which a process stands returns to. */
 function returns_of(machine, pid, { frames }) {
-  const caller = caller_of(machine, pid, place_of(machine, pid), frames);
+  const at = place_of(machine, pid), caller = at && caller_of(machine, pid, at, frames);
   return caller ? [caller.pc] : [];
 }
 
@@ -52,13 +67,13 @@ const MOST_CALLS = 64; // that are told
 export function calls_of(machine, pid, frames) {
   let at = place_of(machine, pid);
   const found = [];
-  while (at.pc !== null && found.length < MOST_CALLS) {
+  while (at !== null && found.length < MOST_CALLS) {
     // A call stands before the address to which it returns.
     const pc = found.length ? at.pc - 4n : at.pc;
     found.push(pc);
     const caller = caller_of(machine, pid, { ...at, pc }, frames);
     if (!caller || caller.pc < 4n) break;
-    at = { ...caller, ra: null };
+    at = caller;
   }
   return found;
 }

@@ -59,10 +59,22 @@ function functions_of(bytes) {
   return names.sort((a, b) => (a.address < b.address ? -1 : 1));
 }
 
+/** The function or label at an address; null if there is none. */
+function named_at(symbols, address) {
+  const found = symbols && last_before(symbols.names, address);
+  return !found || (found.size && address >= found.address + BigInt(found.size)) ? null : found;
+}
+
+/** Where the function at an address begins and ends; null if that isn't known. */
+export function function_at(symbols, address) {
+  const found = named_at(symbols, address);
+  return found?.size ? { from: found.address, to: found.address + BigInt(found.size) } : null;
+}
+
 /** `main+0x10`, or nothing. */
 export function name_at(symbols, address) {
-  const found = symbols && last_before(symbols.names, address);
-  if (!found || (found.size && address >= found.address + BigInt(found.size))) return "";
+  const found = named_at(symbols, address);
+  if (!found) return "";
   const offset = address - found.address;
   return offset === 0n ? found.name : `${found.name}+0x${offset.toString(16)}`;
 }

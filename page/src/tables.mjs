@@ -13,7 +13,7 @@ export const shipped_table = (name) => inside().tables[name] ?? "";
 /** A source that the page has inside; nothing if it has none. */
 export const shipped_source = (name) => inside().sources[name] ?? "";
 
-export const is_table = (text) => /^function \d+ \d+ \S+\n/.test(text ?? "");
+export const is_table = (text) => /^(function|label) \d+ \d+ \S+\n/.test(text ?? "");
 
 /** What a table tells: {names, lines, frames}, each in the order of addresses. `line`: as `sh.c:12`, or nothing if none is known. */
 export function read_table(text) {
@@ -21,9 +21,9 @@ export function read_table(text) {
   let file = "";
   for (const row of text.split("\n")) {
     const words = row.split(" ");
-    if (words[0] === "function") names.push({ name: words[3], address: BigInt(words[1]), size: Number(words[2]) });
+    if (words[0] === "function" || words[0] === "label") names.push({ name: words[3], address: BigInt(words[1]), size: Number(words[2]), is_label: words[0] === "label" });
     else if (words[0] === "file") file = row.slice(5);
-    else if (words[0] === "frame") frames.push({ address: BigInt(words[1]), size: Number(words[2]), place: Number(words[3]) });
+    else if (words[0] === "frame") frames.push({ address: BigInt(words[1]), base: words[2], size: BigInt(words[3]), ra: BigInt(words[4]), s0: BigInt(words[5]) });
     else if (words.length === 2) lines.push({ address: BigInt(words[0]), file, number: Number(words[1]), line: words[1] === "0" ? "" : `${file}:${words[1]}` });
   }
   return { names, lines, frames };
@@ -33,7 +33,8 @@ export function read_table(text) {
 export const rows_of = (lines) => lines.map((it) => `${it.address} ${it.line}`).join("\n");
 
 /** An ELF-64 file that has the functions of a table as its symbols, and no more (ELF-64 Object File Format). */
-export function elf_of(names) {
+export function elf_of(all) {
+  const names = all.filter((it) => !it.is_label);
   const texts = new TextEncoder(), strings = [0], at = HEAD, symbols = new DataView(new ArrayBuffer(SYMBOL * (names.length + 1)));
   names.forEach(({ name, address, size }, k) => {
     const to = SYMBOL * (k + 1);

@@ -2,7 +2,9 @@
 // points at lines, a dropped program with the table of its lines; the reports of Why; and how fast the machine runs beside break points.
 // It takes pictures: desktop and phone, light and dark. With names only these checks are made. The status is 1 if something isn't as
 // it should be. With BROWSER=firefox in Firefox.
-import { mkdirSync, readFileSync } from "node:fs";
+import { spawnSync } from "node:child_process";
+import { mkdirSync, mkdtempSync, readFileSync, rmSync, writeFileSync } from "node:fs";
+import { tmpdir } from "node:os";
 import { pathToFileURL } from "node:url";
 import { boot, choose, comes, example, is_booted, message, pause, text_of, type } from "./hand.mjs";
 const { open } = await import(process.env.BROWSER === "firefox" ? "./firefox.mjs" : "./browser.mjs");
@@ -70,9 +72,7 @@ async function lines(page) {
   await step(page, "out");
   holds((await where(page)).startsWith("main, wc.c:"), `out of count: ${await where(page)}`);
   const end = await at(page), back = await step(page, "out", true);
-  holds(back === "_start, start.S:5" || back.startsWith("main") || (await message(page)) !== undefined, `back out of main: ${back}`);
-  await page.eval(`page.ask('go', { place: ${end} })`);
-  await page.until(`page.app.view?.at === ${end}`);
+  holds(back.startsWith("main, wc.c:") && (await at(page)) === end && (await text_of(page, "clock")).includes("no line begins before this place"), `nothing called main: ${back}`);
   const into = await step(page, "into", true);
   holds(into.startsWith("count, wc.c:") && (await at(page)) < end, `back into the function that has returned: ${into}`);
   const call = await step(page, "out", true);
@@ -141,6 +141,7 @@ async function goes_on(page) {
   const next = await page.eval("page.app.line.end");
   await page.click("#play");
   await comes(page, `page.app.view?.playing === false && page.app.view.at > ${first}`);
+  await page.sleep(300);
   holds((await at(page)) <= next && (await text_of(page, "clock")).includes("at primes.c:59"), `and in the past: ${await at(page)}`);
   await page.eval("page.app.work.breaks = []");
 }
@@ -159,6 +160,35 @@ async function dropped(page) {
   await stopped(page, "wc\n");
   holds((await where(page)) === "count, wc.c:22", `a dropped program with its table and source: ${await where(page)}`);
   await picture(page, "dropped");
+  await page.eval("page.app.work.breaks = []");
+  await page.click("#as-shipped");
+}
+
+// ---- a program of one's own, built without -O, whose frames lie from s0 on
+
+const OWN = "#include <stdio.h>\n\nstatic int sum_to(int n)\n{\n    if (n == 0)\n        return 0;\n    int rest = sum_to(n - 1);\n    return n + rest;\n}\n\nint main(void)\n{\n    printf(\"%d\\n\", sum_to(4));\n    return 0;\n}\n";
+
+async function own(page) {
+  const room = mkdtempSync(`${tmpdir()}/own-`), from = (name) => readFileSync(`${room}/${name}`);
+  writeFileSync(`${room}/own.c`, OWN);
+  const { status } = spawnSync(`${root}programs/c/build.sh`, [`${room}/own.c`], { env: { ...process.env, CFLAGS: "-O0" }, stdio: "ignore" });
+  if (status !== 0) { console.log("   left out, a program of one's own: there is no C compiler for RISC-V"); rmSync(room, { recursive: true }); return; }
+  const [bytes, table] = [[...from("own")], from("own.lines").toString()];
+  rmSync(room, { recursive: true });
+  await shell(page);
+  await page.eval(`page.programs.take([new File([new Uint8Array(${JSON.stringify(bytes)})], "own"), new File([${JSON.stringify(table)}], "own.lines"), new File([${JSON.stringify(OWN)}], "own.c")])`);
+  await boot(page);
+  await page.until("document.getElementById('screen').textContent.includes('$ ')");
+  await stop_at(page, "own.c:6");
+  await stopped(page, "own\n");
+  const deep = await calls(page);
+  holds(deep.length === 7 && deep.filter((it) => it.startsWith("sum_to own.c:7")).length === 4 && deep[5] === "main own.c:13", `a function that calls itself, with all its callers: ${deep.join(", ")}`);
+  await picture(page, "own");
+  const seen = [];
+  for (const how of ["out", "over", "out", "over"]) seen.push(await step(page, how));
+  holds(seen.join() === "sum_to, own.c:7,sum_to, own.c:8,sum_to, own.c:7,sum_to, own.c:8" && (await calls(page)).length === 5, `out of it, and over a line: ${seen.join("; ")}`);
+  const back = await step(page, "over", true);
+  holds(back === "sum_to, own.c:7" && (await calls(page)).length === 5, `back over the call, in the same one of them: ${back}`);
   await page.eval("page.app.work.breaks = []");
   await page.click("#as-shipped");
 }
@@ -205,7 +235,7 @@ async function speed(page) {
 
 // ---- all of it
 
-const PARTS = { lines, stops, goes_on, dropped, why, speed };
+const PARTS = { lines, stops, goes_on, dropped, own, why, speed };
 for (const [name, how] of [["light", { width: 1400, height: 950 }], ["dark", { width: 1400, height: 950, dark: true }], ["phone", { width: 420, height: 860, mobile: true }], ["phone-dark", { width: 420, height: 860, mobile: true, dark: true }]]) {
   const page = await open(url, how);
   try {

@@ -1,28 +1,48 @@
-// why.mjs MODULE.wasm PROGRAMS REPORTS: whether the page's module tells the very words of xv_why: of each program in assembler of the
-// folder REPORTS (checks/why) the report of its fault and of who sleeps, as they are stored beside it. The status is 1 if not.
-import { readFileSync, readdirSync } from "node:fs";
+// why.mjs MODULE.wasm PROGRAMS REPORTS: whether the page's module tells the very words of xv_why: of each program of the folder REPORTS
+// (checks/why) the report of its fault and of who sleeps, as they are stored beside it. Those in C are left out if there is no compiler
+// of the version with which they were stored. The status is 1 if a report is another.
+import { spawnSync } from "node:child_process";
+import { copyFileSync, mkdtempSync, readFileSync, readdirSync, rmSync } from "node:fs";
+import { tmpdir } from "node:os";
 import { Machine, KIND } from "../src/machine.mjs";
 import { learn_calls } from "../src/calls.mjs";
 import { Plan, Run } from "../src/run.mjs";
+import { elf_of, read_table, rows_of } from "../src/tables.mjs";
 
 const [module, folder, reports] = process.argv.slice(2), machine = new Machine(new WebAssembly.Module(readFileSync(module))), run = new Run(machine);
 const QUANTUM = 1000, ROUNDS = 2000;
 learn_calls([...machine.kernel_calls]);
 let bad = 0, count = 0;
 
-for (const source of readdirSync(reports).filter((it) => it.endsWith(".s"))) {
-  const name = source.slice(0, -2), text = readFileSync(`${reports}/${source}`, "utf8"), { file } = machine.assemble(text);
-  run.boot({ frames: 4096, trace: 0 }, [...["init", "sh"].map((it) => ({ name: it, bytes: new Uint8Array(readFileSync(`${folder}/${it}`)) })), { name, bytes: file }]);
+/** Plays a program from the shell, and compares what is told of it. `known`: what the module is told of its source. */
+function compare(name, bytes, known, stored_in) {
+  run.boot({ frames: 4096, trace: 0 }, [...["init", "sh"].map((it) => ({ name: it, bytes: new Uint8Array(readFileSync(`${folder}/${it}`)) })), { name, bytes }]);
   const plan = new Plan(run, { rounds: true, quantum: QUANTUM }, [...new TextEncoder().encode(`${name}\n`)]), told = [];
   for (let ticks = 0; ticks < ROUNDS && !run.halted; ) {
     const it = plan.next(QUANTUM);
     if (it.kind === KIND.TICK) ticks++;
-    if (it.kind === KIND.FAULT) told.push(run.look(run.at - 1, () => { machine.know(2, { source: text }); return machine.fault_text(it.number); }));
+    if (it.kind === KIND.FAULT) told.push(run.look(run.at - 1, () => { machine.know(2, known); return machine.fault_text(it.number); }));
   }
   for (const pid of machine.pids()) if (machine.process(pid).lives) told.push(machine.wait_text(pid));
-  const stored = readFileSync(`${reports}/${source}.txt`, "utf8").replace(/xv_why: .*\n$/, ""), is = `${told.join("\n")}\n` === stored;
+  const stored = readFileSync(stored_in, "utf8").replace(/xv_why: .*\n$/, ""), is = `${told.join("\n")}\n` === stored;
   count++;
   if (!is) { console.log(`NOT ${name}: the module tells\n${told.join("\n")}\nand xv_why\n${stored}`); bad++; }
+}
+
+for (const source of readdirSync(reports).filter((it) => it.endsWith(".s"))) {
+  const text = readFileSync(`${reports}/${source}`, "utf8");
+  compare(source.slice(0, -2), machine.assemble(text).file, { source: text }, `${reports}/${source}.txt`);
+}
+if (/^12\.2\./.test(spawnSync("riscv64-unknown-elf-gcc", ["-dumpfullversion"]).stdout ?? "")) {
+  const room = mkdtempSync(`${tmpdir()}/why-`), build = new URL("../../programs/c/build.sh", import.meta.url).pathname;
+  for (const source of readdirSync(reports).filter((it) => it.endsWith(".c"))) {
+    const name = source.slice(0, -2);
+    copyFileSync(`${reports}/${source}`, `${room}/${source}`);
+    spawnSync(build, [`${room}/${source}`], { env: { ...process.env, CFLAGS: "-fno-omit-frame-pointer -Wno-infinite-recursion -Wno-unused-variable" } });
+    const { names, lines } = read_table(readFileSync(`${room}/${name}.lines`, "utf8"));
+    compare(name, new Uint8Array(readFileSync(`${room}/${name}`)), { table: rows_of(lines), symbols: elf_of(names) }, `${reports}/${source}.txt`);
+  }
+  rmSync(room, { recursive: true });
 }
 console.log(bad ? `why: ${bad} of ${count} reports are others` : `why: the ${count} reports are those of xv_why`);
 process.exit(bad ? 1 : 0);

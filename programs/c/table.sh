@@ -4,11 +4,12 @@
 # (docs/manual/page.md) reads it.
 #
 # A line is one of these; all numbers are decimal:
-#   function ADDRESS BYTES NAME    a function or a label
+#   function ADDRESS BYTES NAME    a function
+#   label ADDRESS BYTES NAME       a label of assembler source, up to the next one
 #   file NAME                      the lines below are of this source
 #   ADDRESS LINE                   from here on the instructions are of this line; LINE 0: no line is known
-#   frame ADDRESS SIZE PLACE       from here on the caller's frame begins SIZE above sp, and the return address lies PLACE below
-#                                  that; PLACE 0: it is in ra. SIZE -1: it isn't known
+#   frame ADDRESS BASE SIZE RA S0  from here on the caller's part of the stack begins SIZE above BASE, which is sp or s0, or - if it
+#                                  isn't known; the return address lies RA below that, and the caller's s0 S0; 0: in the register
 set -eu
 here=$(dirname "$(readlink -f -- "$0")")
 tool=:
@@ -28,13 +29,13 @@ function hexadecimal(digits,    n, i) {
         n = n * 16 + index("0123456789abcdef", tolower(substr(digits, i, 1))) - 1
     return n
 }
-$4 == "FUNC" && $3 > 0 { print hexadecimal($2), $3, $8 }
-$4 == "NOTYPE" && $5 == "GLOBAL" && $7 == 1 { print hexadecimal($2), 0, $8 }' | sort -n -k1,1 -k2,2r -k3,3 | awk '
+$4 == "FUNC" && $3 > 0 { print hexadecimal($2), $3, "function", $8 }
+$4 == "NOTYPE" && $5 != "LOCAL" && $7 == 1 { print hexadecimal($2), 0, "label", $8 }' | sort -n -k1,1 -k2,2r -k4,4 | awk '
 known && $1 == address { next }
 known && size == 0 { size = $1 - address }
-known { print "function", address, size, name }
-{ known = 1; address = $1; size = $2; name = $3 }
-END { if (known && size > 0) print "function", address, size, name }'
+known { print kind, address, size, name }
+{ known = 1; address = $1; size = $2; kind = $3; name = $4 }
+END { if (known && size > 0) print kind, address, size, name }'
 }
 
 # Where the lines begin: those that tell nothing new are left out.
@@ -68,32 +69,32 @@ function hexadecimal(digits,    n, i) {
         n = n * 16 + index("0123456789abcdef", tolower(substr(digits, i, 1))) - 1
     return n
 }
-function tell(address, size, place) { print address, "frame", address, size, place }
-/ CIE / { column = 0; is_description = 0 }
+function tell(address, base, size, ra, s0) { print address, base, size, ra, s0 }
+function place(column) { return column > 2 && $column ~ /^c-/ ? substr($column, 3) : 0 }
+/ CIE / { is_description = 0 }
 / FDE / {
-    column = 0
+    ra = s0 = 0
     match($0, /pc=[0-9a-f]+\.\.[0-9a-f]+/)
     split(substr($0, RSTART + 3, RLENGTH - 3), ends, /\.\./)
     from = hexadecimal(ends[1]); to = hexadecimal(ends[2])
     is_description = to > from && (from > 0 || ends[1] ~ /^0+$/ && to > 0)
-    if (is_description) { tell(from, 0, 0); tell(to, -1, 0) }
+    if (is_description) { tell(from, "sp", 0, 0, 0); tell(to, "-", 0, 0, 0) }
     next
 }
-$1 == "LOC" { for (column = NF; column > 2 && $column != "ra"; column--); next }
+$1 == "LOC" { for (k = 3; k <= NF; k++) { if ($k == "ra") ra = k; if ($k == "s0") s0 = k }; next }
 is_description && $1 ~ /^[0-9a-f]+$/ && NF >= 2 {
-    size = $2 ~ /^sp\+/ ? substr($2, 4) : -1
-    place = column > 2 && $column ~ /^c-/ ? substr($column, 3) : 0
-    tell(hexadecimal($1), size, place)
+    base = $2 ~ /^(sp|s0)\+/ ? substr($2, 1, 2) : "-"
+    tell(hexadecimal($1), base, base == "-" ? 0 : substr($2, 4), place(ra), place(s0))
 }' | sort -s -n -k1,1 | awk '
-{ rows[NR] = $2 " " $3 " " $4 " " $5; address[NR] = $1; size[NR] = $4; place[NR] = $5 }
+{ address[NR] = $1; base[NR] = $2; rest[NR] = $2 " " $3 " " $4 " " $5 }
 END {
     for (i = 1; i <= NR; i++) {
         # Of several rows for an address the last one counts, unless it only ends a function.
         later = 0
-        for (k = i + 1; k <= NR && address[k] == address[i]; k++) if (size[k] >= 0 || size[i] < 0) later = 1
-        if (later || (size[i] < 0 && i > 1 && address[i - 1] == address[i])) continue
-        if (told != size[i] " " place[i]) print rows[i]
-        told = size[i] " " place[i]
+        for (k = i + 1; k <= NR && address[k] == address[i]; k++) if (base[k] != "-" || base[i] == "-") later = 1
+        if (later || (base[i] == "-" && i > 1 && address[i - 1] == address[i])) continue
+        if (told != rest[i]) print "frame", address[i], rest[i]
+        told = rest[i]
     }
 }'
 }
