@@ -5,6 +5,6 @@
 #   checks/labs.sh --refusals
 #
 # --play plays alone, --prove proves alone; --wrong-too also sees that no wrong body is proved; -v shows the cases. --refusals
-# hands in 69 answers of all sorts, most of which are to be refused, and proves nothing: seconds, without a kit. All else needs
+# hands in 86 answers of all sorts, most of which are to be refused, and proves nothing: seconds, without a kit. All else needs
 # python3, the Rattle kit, and what ./lab prepare builds. The status is 0 if all is so, 1 if not, 2 if it can't be tried.
 exec python3 -B "$(dirname "$0")/../labs/tools/try_labs.py" "$@"

@@ -6,7 +6,7 @@ import os
 import re
 import stat
 
-from source import BEGIN, END, Lab, LabError
+from source import BEGIN, END, TOP, Lab, LabError
 
 MOST_BYTES = 65536
 ANSWER = "answer.rs"
@@ -171,9 +171,13 @@ def lab_of(text):
 def handed_out(lab):
     """The files that are handed out to be read, by their names in the folder."""
     yield f"read/{lab.file.removeprefix('src/').replace('/', '_')}", lab.with_body(f"{lab.cut.indent}    // your body")[0]
-    for file in sorted((lab.crate_home / "specs").glob("*.antt")):
-        if file.name != "Lib.antt":
-            yield f"read/specs/{file.name}", file.read_text(encoding="utf-8")
+    for file in sorted((lab.crate_home / "specs").glob("*.antt*")):
+        name = file.name.removesuffix(".txt")
+        is_asked = name.removesuffix(".antt") in lab.said.get("specs", [name.removesuffix(".antt")])
+        if is_asked and name != "Lib.antt" and f"specs/{name}" != lab.said.get("row"):
+            yield f"read/specs/{name}", file.read_text(encoding="utf-8")
+    for name in lab.said.get("read", []):
+        yield f"read/{name.split('/')[-1]}", (TOP / "crates" / name).read_text(encoding="utf-8")
 
 
 def sum_of(path):

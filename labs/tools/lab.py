@@ -8,7 +8,9 @@ import subprocess
 import sys
 
 import bodies
+import laws
 import rooms
+import rows
 import verdicts
 from bodies import Refused
 from prover import PROVED, REFUSED
@@ -29,7 +31,8 @@ proved, 1 if one isn't, 2 if the words or the host won't do."""
 
 # How long a crate takes the first time, in seconds, on a host of 4 processors that does nothing else.
 SECONDS = {"xk_base": 50, "phys_ram": 30, "frame_list": 30, "file_table": 60, "pipe_core": 45, "console_core": 50,
-           "sv39_core": 70, "proc_table": 180, "rv64i_core": 380}
+           "sv39_core": 70, "proc_table": 180, "rv64i_core": 380, "elf_image": 30, "addr_space": 80, "exec_core": 90,
+           "user_copy": 60, "hart_core": 200, "kernel_spec": 300, "kcall_core": 560}
 
 
 def say(text):
@@ -69,10 +72,12 @@ def make_folder(name, folder=None):
     lab = Lab(name)
     (home / "read" / "specs").mkdir(parents=True)
     shutil.copy(lab.home / "README.md", home / "README.md")
-    (home / bodies.ANSWER).write_text(lab.sheet(), encoding="utf-8")
-    for file, text in bodies.handed_out(lab):
+    place = laws.NAME if laws.is_one(name) else bodies.ANSWER
+    files = laws.files_of(lab) if laws.is_one(name) else [(place, lab.sheet()), *bodies.handed_out(lab)]
+    files = [*files, *([(rows.NAME, rows.text_with(lab, ""))] if rows.is_one(name) else [])]
+    for file, text in files:
         (home / file).write_text(text, encoding="utf-8")
-    print(f"{home}/README.md is the page of the lab, {home}/{bodies.ANSWER} the place for your body.")
+    print(f"{home}/README.md is the page of the lab, {home}/{place} the place for your answer.")
     print(f"Then: lab check {home}")
     if missing(lab):
         say(missing(lab))
@@ -90,10 +95,15 @@ def missing(lab):
     )
 
 
+def built_by(lab):
+    """The crate whose check builds what a lab needs: its own, or what its own stands on."""
+    return lab.deps()[-1] if lab.is_own else lab.crate
+
+
 def prepare(names):
     """Proves what lies below labs, and their own crates."""
     need_kit()
-    for crate in dict.fromkeys(Lab(it).crate for it in names or all_labs()):
+    for crate in dict.fromkeys(built_by(Lab(it)) for it in names or all_labs()):
         say(f"proving {crate} and what lies below it, some {SECONDS.get(crate, 60)} seconds and what is missing below")
         how = {"cwd": TOP / "crates" / crate, "stdout": subprocess.PIPE, "stderr": subprocess.STDOUT}
         done = subprocess.run(["rt", "check"], check=False, **how)
@@ -106,9 +116,9 @@ def prepare(names):
 def kept_work():
     """What labs need of what `rt` keeps: the libraries below, and the work of the labs' own crates."""
     labs = [Lab(it) for it in all_labs()]
-    for name in dict.fromkeys(it for lab in labs for it in [*lab.below(), lab.crate]):
+    for name in dict.fromkeys(it for lab in labs for it in [*lab.below(), built_by(lab)]):
         yield f"crates/{name}/out/rlib"
-    for name in dict.fromkeys(lab.crate for lab in labs):
+    for name in dict.fromkeys(built_by(lab) for lab in labs):
         yield f"crates/{name}/out/incremental"
 
 
@@ -134,19 +144,38 @@ def unpack(file):
 def name_of(folder):
     """The name of the lab that a folder is of, by the first line of its answer; nothing if that doesn't tell."""
     try:
+        if has_laws(folder):
+            return laws.read_answer(bodies.text_of(os.path.join(folder, laws.NAME), laws.NAME)).lab.name
         return bodies.lab_of(bodies.text_of(os.path.join(folder, bodies.ANSWER), bodies.ANSWER)).name
     except Refused:
         return ""
 
 
+def has_laws(folder):
+    """Whether a folder has the answer of a lab on laws."""
+    return os.path.lexists(os.path.join(folder, laws.NAME)) and not os.path.lexists(os.path.join(folder, bodies.ANSWER))
+
+
+def read_all(folder):
+    """The answer in a folder, and the row beside it if its lab asks for one."""
+    if has_laws(folder):
+        return laws.read_answer(bodies.text_of(os.path.join(folder, laws.NAME), laws.NAME)), None
+    answer = bodies.read_answer(folder)
+    return answer, rows.read_row(answer.lab, folder) if rows.is_one(answer.lab.name) else None
+
+
 def judged(folder, tell=lambda text: None):
-    """The lab's name of a folder, and the verdict on its body."""
+    """The lab's name of a folder, and the verdict on its body, or on the law and the case that it names."""
     try:
-        answer = bodies.read_answer(folder)
+        answer, row = read_all(folder)
     except Refused as refused:
         return name_of(folder), Verdict(REFUSED, (str(refused),))
     if missing(answer.lab):
         raise LabError(missing(answer.lab))
+    if has_laws(folder):
+        return answer.lab.name, laws.judge(answer)
+    if row is not None:
+        return answer.lab.name, rows.judge(answer.lab, answer.body, answer.line, row, tell)
     return answer.lab.name, verdicts.judge(answer.lab, answer.body, answer.line, tell)
 
 
@@ -156,7 +185,7 @@ def check(folder):
     if not os.path.isdir(folder):
         raise LabError(f"there is no folder {folder}: `lab NAME` makes one")
     _, verdict = judged(folder, say)
-    print(verdicts.MESSAGES[verdict.word])
+    print((laws.MESSAGES if has_laws(folder) else verdicts.MESSAGES)[verdict.word])
     for line in verdict.lines:
         print(f"    {line}")
     return 0 if verdict.word == PROVED else 1
@@ -173,7 +202,7 @@ def graded(folder):
     """A line of CSV for a folder: its name, lab, verdict and reason."""
     name, verdict = judged(folder) if os.path.isdir(folder) else ("", Verdict(REFUSED, ("it is no folder",)))
     reason = verdict.reason()
-    if verdict.word == PROVED and is_as_shipped(folder):
+    if verdict.word == PROVED and not has_laws(folder) and is_as_shipped(folder):
         reason = "it is the body of this repository, word for word"
     shown = os.fsencode(folder).decode(errors="backslashreplace")
     return [shown, name, verdict.word, reason]
@@ -196,10 +225,14 @@ def grade(folders, jobs=1):
 def run(folder, words):
     """Runs programs on the kernel with a folder's body in it."""
     need_kit()
+    if has_laws(folder):
+        raise LabError("this lab is on laws: it has no body that could run")
     try:
         answer = bodies.read_answer(folder)
     except Refused as refused:
         raise LabError(f"refused: {refused}") from refused
+    if answer.lab.is_own:
+        raise LabError("the call of this lab isn't built into the kernel, so there is nothing to run")
     home = rooms.whole_room(answer.lab)
     text, _ = answer.lab.with_body(answer.body)
     rooms.write_if_changed(home / "crates" / answer.lab.crate / answer.lab.file, text)

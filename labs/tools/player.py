@@ -21,7 +21,10 @@ class Play:
 
 def module_of(lab, name):
     """The module that plays the function of this name, from the lab's play.rs."""
-    text = (LABS / "tools" / "dice.rs").read_text(encoding="utf-8") + (lab.home / "play.rs").read_text(encoding="utf-8")
+    files = [LABS / "tools" / "dice.rs", lab.home / "play.rs"]
+    if "scene" in lab.said:
+        files.insert(1, LABS / "tools" / lab.said["scene"])
+    text = "".join(it.read_text(encoding="utf-8") for it in files)
     return f"\n#[cfg(test)]\nmod {name}_play {{\n" + text.replace("STUDENT", name) + "}\n"
 
 

@@ -72,9 +72,10 @@ def next_turn(lab, tried, goals):
     return any(tried.get(goal, 0) < len(terms_for(lab, goal)) for goal in goals if goal)
 
 
-def prove(lab, room, names, jobs=1):
+def prove(lab, room, names, jobs=1, is_over=lambda text: False):
     """Proves the functions of these names, which stand in the room's file: a Proof for each. The first check is without an
-    answer. Each further one has, for the goals that were open, the next of the lab's terms."""
+    answer. Each further one has, for the goals that were open, the next of the lab's terms; there is none if it is over by
+    what a check said."""
     tried = {name: {} for name in names}
     while True:
         status, text = checked(room, jobs)
@@ -87,7 +88,8 @@ def prove(lab, room, names, jobs=1):
         if status == 0 and "\nlogic=proved " in text:
             return {name: Proof(PROVED, text=text) for name in names}
         goals = {name: open_goals(lab, text, name) for name in names}
-        more = [name for name in names if goals[name] and next_turn(lab, tried[name], goals[name])]
+        names_left = [] if is_over(text) else names
+        more = [name for name in names_left if goals[name] and next_turn(lab, tried[name], goals[name])]
         if not more:
             break
         for name in more:

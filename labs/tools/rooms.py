@@ -59,6 +59,7 @@ class Room:
         shutil.copy(TOP / "HANDLES", self.home / "HANDLES")
         rows = (TOP / "crates.txt").read_text(encoding="utf-8").split("\n")
         wanted = [it for it in rows if it.partition(":")[0].split()[:1] in [[name] for name in names]]
+        wanted += [f"{lab.crate}: {lab.said['deps']}"] if lab.is_own else []
         (self.home / "crates.txt").write_text("\n".join(wanted) + "\n", encoding="utf-8")
         for name in lab.below():
             self.take_library(name, kind)
@@ -81,6 +82,8 @@ class Room:
             shutil.rmtree(self.crate / part, ignore_errors=True)
             if (old / part).is_dir():
                 shutil.copytree(old / part, self.crate / part)
+        if self.lab.is_own:
+            self.give_names()
         kept = self.crate / "out" / "incremental"
         if kind == "proof" and not kept.is_dir() and (old / "out" / "incremental").is_dir():
             kept.parent.mkdir(parents=True, exist_ok=True)
@@ -92,6 +95,12 @@ class Room:
                 shutil.copy(file, self.crate / "proofs" / f"{name}.antt")
                 with open(self.crate / "proofs" / "Lib.antt", "a", encoding="utf-8") as lib:
                     lib.write(f"pub mod {name}\n")
+
+    def give_names(self):
+        """The files of a lab's own crate get the names by which rt knows them: in the clone each such file is a crate's."""
+        for ending, real in ((".rs", ".rt"), (".antt.txt", ".antt")):
+            for file in [*self.crate.rglob(f"*{ending}")]:
+                file.rename(file.with_name(file.name.removesuffix(ending) + real))
 
     def proofs_of(self, name):
         """The folder of the proof of one function of the lab's file."""

@@ -63,13 +63,23 @@ class Lab:
             self.said = json.loads((self.home / "lab.json").read_text(encoding="utf-8"))
         except (OSError, ValueError) as error:
             raise LabError(f"there is no lab {name} ({error}); ./lab lists them") from error
-        self.crate, self.file, self.function = self.said["crate"], self.said["file"], self.said["function"]
-        self.crate_home = TOP / "crates" / self.crate
+        self.crate, self.file, self.function = (self.said.get(it, "") for it in ("crate", "file", "function"))
+        self.crate_home = self.home / "crate" if self.is_own else TOP / "crates" / self.crate
+
+    @property
+    def is_own(self):
+        """Whether its crate is one of its own, over crates of the repository."""
+        return "deps" in self.said
+
+    def deps(self):
+        """What a crate of its own stands on, the highest last."""
+        return self.said["deps"].split()
 
     @functools.cached_property
     def cut(self):
         """Its file of the clone, cut at its function."""
-        return cut_at((self.crate_home / self.file).read_text(encoding="utf-8"), self.said["item"])
+        file = self.file.replace(".rt", ".rs") if self.is_own else self.file
+        return cut_at((self.crate_home / file).read_text(encoding="utf-8"), self.said["item"])
 
     @property
     def path(self):
@@ -78,7 +88,9 @@ class Lab:
 
     @property
     def module(self):
-        """The modules that its file is: none for src/lib.rt."""
+        """The modules by whose names its proofs are filed: those that its file is, or those of its type's file."""
+        if "module" in self.said:
+            return self.said["module"].split("::")
         inside = self.file.removeprefix("src/").removesuffix(".rt")
         return [] if inside == "lib" else inside.split("/")
 
@@ -114,8 +126,9 @@ class Lab:
         """What a student gets: the function with its contract, and a place for the body."""
         cut, inside = self.cut, self.cut.indent + "    "
         owner = f" of `{self.said['owner']}`" if self.said.get("owner") else ""
+        place = f"labs/{self.name}/crate" if self.is_own else f"crates/{self.crate}"
         return (
-            f"// Lab {self.name}: the body of `{self.function}`{owner}, in crates/{self.crate}/{self.file}; "
+            f"// Lab {self.name}: the body of `{self.function}`{owner}, in {place}/{self.file}; "
             "README.md says what it is to do.\n"
             "// Write it between the two lines of signs, and change nothing else. Then: lab check\n\n"
             f"{cut.comment}\n{cut.head}\n{cut.indent}{{\n{inside}{BEGIN}\n{body}\n{inside}{END}\n{cut.indent}}}\n"
@@ -128,6 +141,8 @@ class Lab:
             name, colon, deps = line.partition(":")
             if colon and not line.startswith("#"):
                 known[name.split()[0]] = deps.split()
+        if self.is_own:
+            known[self.crate] = self.deps()
         found = []
 
         def add(name):

@@ -3,8 +3,10 @@ checks/labs.sh."""
 import sys
 import time
 
+import laws
 import player
 import prover
+import rows
 import try_refusals
 from player import SAME, UNTRIED, WRONG
 from prover import PROVED
@@ -47,9 +49,43 @@ def proved(lab, right, wrong):
             yield f"{name} is {it.verdict}: {', '.join(map(str, it.goals or it.errors))}"
 
 
+def try_laws(lab):
+    """Tries a lab on laws; whether all is as it is to be."""
+    start, amiss, counts = time.time(), [], []
+    for kind, wanted in (("right", PROVED), ("wrong", WRONG)):
+        answers = laws.variants(lab, kind)
+        counts.append(len(answers))
+        for name, answer in answers.items():
+            verdict = laws.judge(answer)
+            if verdict.word != wanted:
+                amiss.append(f"{name} is {verdict.word}: {verdict.reason()}")
+            elif "-v" in sys.argv:
+                print(f"    {name}: {verdict.word} {verdict.reason()}")
+    if counts[0] < LEAST_RIGHT or counts[1] < LEAST_WRONG:
+        amiss.append(f"there are {counts[0]} right and {counts[1]} wrong answers, and {LEAST_RIGHT} and {LEAST_WRONG} are wanted")
+    print(f"{lab.name}: {counts[0]} right, {counts[1]} wrong; proved in {time.time() - start:.0f} s"
+          f"{'' if amiss else ', and all is as it is to be'}", flush=True)
+    for it in amiss:
+        print(f"    {it[:600]}", flush=True)
+    return not amiss
+
+
+def tried_rows(lab):
+    """What is amiss when all stored rows of a lab are judged, each with the body of the lab's own crate."""
+    for kind, wanted in (("right", PROVED), ("wrong", WRONG)):
+        for name, row in rows.variants(lab, kind).items():
+            verdict = rows.judge(lab, lab.cut.body, 0, row)
+            if verdict.word != wanted:
+                yield f"the row {name} is {verdict.word}: {verdict.reason()}"
+            elif "-v" in sys.argv:
+                print(f"    the row {name}: {verdict.word} {verdict.reason()}")
+
+
 def try_lab(name, words):
     """Tries a lab; whether all is as it is to be."""
     lab = Lab(name)
+    if laws.is_one(name):
+        return try_laws(lab)
     right, wrong = names_of("right", lab.variants("right")), names_of("wrong", lab.variants("wrong"))
     amiss = []
     if len(right) < LEAST_RIGHT or len(wrong) < LEAST_WRONG:
@@ -61,6 +97,7 @@ def try_lab(name, words):
     amiss += [] if "--prove" in words else played(lab, right, wrong)
     middle = time.time()
     amiss += [] if "--play" in words else proved(lab, right, wrong if "--wrong-too" in words else {})
+    amiss += tried_rows(lab) if rows.is_one(name) and "--play" not in words else []
     print(f"{name}: {len(right)} right, {len(wrong)} wrong; played in {middle - start:.0f} s, proved in {time.time() - middle:.0f} s"
           f"{'' if amiss else ', and all is as it is to be'}", flush=True)
     for it in amiss:

@@ -6,6 +6,8 @@ import sys
 import tempfile
 
 import bodies
+import laws
+import rows
 from source import BEGIN, END, Lab
 
 NAME = "fileclose"
@@ -124,16 +126,57 @@ def reason_for(make):
     return ""
 
 
+GOOD_CASE = "Lab lostwakeup: ..\nlaw: no_lost_wake_up\nprocess: 1\ncall: 5\nargument: 0\ntyped: 0\nto send: 0\nevent: key 10\n"
+CASES = [
+    (GOOD_CASE, ""),
+    (GOOD_CASE.replace("Lab lostwakeup", "Lab fdalloc"), "doesn't begin"),
+    (GOOD_CASE.replace("Lab lostwakeup", "Lab ../x"), "doesn't begin"),
+    (GOOD_CASE + "law: never_lost\n", "once each"),
+    (GOOD_CASE + "proof: refl\n", "none of these"),
+    (GOOD_CASE.replace("call: 5", "call:"), "nothing stands"),
+    (GOOD_CASE.replace("call: 5", "call: 5 refl"), "is a number"),
+    (GOOD_CASE.replace("to send: 0", "to send: 33"), "from 0 to 32"),
+    (GOOD_CASE.replace("key 10", "key 256"), "event"),
+    (GOOD_CASE.replace("key 10", "run"), "event"),
+]
+ROWS = [
+    ("    done c (pos 0) a.view", ""),
+    ("    -- a comment alone", "is empty"),
+    ("done c (pos 0) a.view", "four blanks"),
+    ("    search rules", "`search`"),
+    ("    getppid c a", "`getppid`"),
+    ("    done c (pos 0) a.view\n    use Rattle.std.specs.Prelude.{ℕ}", "`use`"),
+    ("\n".join(["    done c (pos 0) a.view"] * 61), "more than 60 lines"),
+]
+
+
+def reason_of(test, text):
+    """Why a text is refused; nothing if it isn't."""
+    try:
+        test(text)
+    except bodies.Refused as refused:
+        return str(refused)
+    return ""
+
+
+def meanings():
+    """What is handed in to the labs of meaning: each text with what has to be said of it, and what is."""
+    for text, word in CASES:
+        yield f"case {text!r}", word, reason_of(laws.read_answer, text)
+    for text, word in ROWS:
+        yield f"row {text!r}", word, reason_of(lambda it: rows.test_row(it.split("\n")), text)
+
+
 def main():
     """Hands in all of it."""
     cases = [(f"body {body!r}", lambda home, b=body: (home / "answer.rs").write_text(with_body(b), encoding="utf-8"), word) for body, word in BODIES]
     amiss = 0
-    for name, make, word in [*cases, *files()]:
-        said = reason_for(make)
+    told = [*((name, word, reason_for(make)) for name, make, word in [*cases, *files()]), *meanings()]
+    for name, word, said in told:
         if bool(said) != bool(word) or word not in said:
             amiss += 1
             print(f"{name}: wanted {word or 'no refusal'!r}, and it is {said or 'not refused'!r}")
-    print(f"{len(BODIES) + len([*files()])} answers handed in, {amiss} not judged as they are to be")
+    print(f"{len(told)} answers handed in, {amiss} not judged as they are to be")
     return 1 if amiss else 0
 
 

@@ -1,0 +1,13 @@
+        let end = self.line_length();
+        match self.byte(end) {
+            None => self.take(buf, end, false),
+            Some(NEW_LINE) => self.take(buf, end + 1, true),
+            Some(_) if done == 0 && end == 0 => {
+                self.committed.pop_front();
+                Pull {
+                    taken: 0,
+                    ended: true,
+                }
+            }
+            Some(_) => self.take(buf, end, true),
+        }

@@ -1,0 +1,6 @@
+        let end = self.line_length();
+        match self.byte(end) {
+            _ if buf.len() <= end => self.take(buf, buf.len(), true),
+            None => self.take(buf, end, false),
+            Some(_) => self.take(buf, end + 1, true),
+        }

@@ -1,0 +1,11 @@
+        let end = self.line_length();
+        match self.byte(end) {
+            _ if buf.len() <= end => self.take(buf, buf.len(), true),
+            None => self.take(buf, end, false),
+            Some(NEW_LINE) => self.take(buf, end + 1, true),
+            Some(_) => {
+                let pull = self.take(buf, end, true);
+                self.committed.pop_front();
+                pull
+            }
+        }

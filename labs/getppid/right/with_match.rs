@@ -1,0 +1,4 @@
+    match table.parent(slot) {
+        None => 0,
+        Some(pid) => i64::from(pid.number()),
+    }

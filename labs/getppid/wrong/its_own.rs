@@ -1,0 +1,1 @@
+    i64::from(table.pid(slot).number())

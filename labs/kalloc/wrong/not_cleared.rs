@@ -1,0 +1,7 @@
+        let f = self.first?;
+        let rest = linked(ram.read_u64(f, 0));
+        *self = Pool {
+            first: rest,
+            count: self.count - 1,
+        };
+        Some(f)

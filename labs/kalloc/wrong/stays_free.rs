@@ -1,0 +1,3 @@
+        let f = self.first?;
+        ram.zero_frame(f);
+        Some(f)

@@ -1,0 +1,5 @@
+        let Some(pid) = asked_pid(c_int(call.a0)) else {
+            return self.done(hart, -1);
+        };
+        self.table.mark(pid);
+        self.done(hart, 0)

@@ -1,0 +1,7 @@
+        let Some(pid) = asked_pid(c_int(call.a0)) else {
+            return self.done(hart, -1);
+        };
+        if self.table.find(pid).is_none() {
+            return self.done(hart, -1);
+        }
+        self.done(hart, 0)
