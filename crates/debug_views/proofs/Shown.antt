@@ -1,14 +1,15 @@
 -- What is written of a machine, line by line.
-use Rattle.std.proofs.Common.{◌≡◌, ℕ, zero, suc, ◌+◌, ◌-◌, ◌^◌, ◌<◌, ◌≤◌, ◌⊎◌, inl, inr, min, List, [], ◌++◌, length, take, drop, Option, None, Some, Result, OnOk, refl, sym, ◌∙◌, ap, subst}
+use Rattle.std.proofs.Common.{◌≡◌, ℕ, zero, suc, ◌+◌, ◌-◌, ◌^◌, ◌<◌, ◌≤◌, ◌⊎◌, inl, inr, min, List, [], ◌++◌, length, take, drop, replicate, Option, None, Some, Result, OnOk, refl, sym, ◌∙◌, ap, subst}
 use Rattle.std.proofs.Common.{arith, append-nil, eq-eqb, ne_eqb, lt-ltb, le-ltb, length-take, length-drop}
-use Rattle.std.proofs.lemmas.List.{length-replicate}
+use Rattle.std.proofs.Math.Seq.{take-append-add}
+use Rattle.std.proofs.lemmas.List.{drop-drop, length-replicate, replicate-append-replicate, take-append-drop}
 use Rattle.std.proofs.lemmas.Result.{on_ok_weaker}
 use Rattle.kernel_spec.specs.runs.Run.{Event}
 use Rattle.kernel_spec.specs.views.State.{State}
 use Rattle.kcall_core.specs.declared.kernel.observers.frame_uses.FrameUse.{FrameUse}
 use Rattle.xv_session.specs.Recorded.{Recorded}
 use Rattle.xv_session.specs.Answers.{AreEqualFrom}
-use Rattle.debug_views.specs.EventText.{AreEvents, equal_text, more_events}
+use Rattle.debug_views.specs.EventText.{AreAlike, AreEvents, equal_text, more_events}
 use Rattle.debug_views.specs.Focus.{IsLeastFrom}
 use Rattle.debug_views.specs.FrameText.{AreShares, more_text, share_text}
 use Rattle.debug_views.specs.MemoryText.{memory_line, memory_lines}
@@ -98,6 +99,16 @@ equal-within list place count e are =
     let some = length-take count (drop place list) in
     let rest = length-drop place list in
     omega (arith, long, some, rest, are.0)
+
+-- equal ones, and those right behind them
+alike-joined : (a b : ℕ) (e : Event) (xs : List Event) → take a xs ≡ replicate a e → take b (drop a xs) ≡ replicate b e → take (a + b) xs ≡ replicate (a + b) e
+alike-joined a b e xs first more =
+    ap (take (a + b)) (sym (take-append-drop a xs)) ∙ ap (λ (t : List Event). take (a + b) (t ++ drop a xs)) first
+    ∙ ap (λ (k : ℕ). take (k + b) (replicate a e ++ drop a xs)) (sym (length-replicate a e)) ∙ take-append-add (replicate a e) (drop a xs) b
+    ∙ ap (λ (t : List Event). replicate a e ++ t) more ∙ replicate-append-replicate a b e
+
+pub equal-joined : (list : List Event) (place a b : ℕ) (e : Event) → AreEqualFrom list place (Some (e, a)) → AreAlike list (place + a) e b → AreEqualFrom list place (Some (e, a + b))
+equal-joined list place a b e are more = (omega (arith, are.0), alike-joined a b e (drop place list) are.1 (ap (take b) (drop-drop a place list) ∙ more))
 
 -- so many lines were written
 pub no-lines-left : (list : List Event) (lines place : ℕ) → lines ≡ 0 → AreEvents list lines place (more_events (length list) place)

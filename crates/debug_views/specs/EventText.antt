@@ -1,5 +1,5 @@
 -- The events of a session, as they are shown.
-use Rattle.std.specs.Prelude.{◌≡◌, ◌⊎◌, ℕ, zero, suc, ◌+◌, ◌-◌, ◌≤◌, nat_lt, if◌then◌else◌, List, [], ◌∷◌, ◌++◌, length, codes, decimal, Option, None, Some}
+use Rattle.std.specs.Prelude.{◌≡◌, ◌⊎◌, ℕ, zero, suc, ◌+◌, ◌-◌, ◌≤◌, nat_lt, if◌then◌else◌, List, [], ◌∷◌, ◌++◌, take, drop, length, replicate, codes, decimal, Option, None, Some}
 use Rattle.kernel_spec.specs.runs.Run.{Event, Run, Tick, Key, Send}
 use Rattle.xv_session.specs.Answers.{AreEqualFrom}
 use Rattle.xv_session.specs.Recorded.{Recorded}
@@ -18,6 +18,10 @@ equal_text place count e = at_right 15 (grouped place) ++ codes "  " ++ at_right
 -- the place from which on there are more, if there are
 abbrev pub more_events : (all place : ℕ) → List ℕ
 more_events all place = if nat_lt place all then codes "there are more: events " ++ decimal place ++ codes " goes on\n" else []
+
+-- so many events from a place on are this one
+abbrev pub AreAlike : List Event → (place : ℕ) → Event → (count : ℕ) → Type 0
+AreAlike list place e count = take count (drop place list) ≡ replicate count e
 
 -- Lines of equal events from a place on, one behind another, so many at most; and whether there are more
 abbrev pub AreEvents : List Event → (lines place : ℕ) → List ℕ → Type 0

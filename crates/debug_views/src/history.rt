@@ -3,7 +3,7 @@ ghost use Rattle.std.specs.Prelude.{◌≡◌, [], Some, OnOk, length, option_ma
 ghost use Rattle.xv_machine.specs.Events.{event_of};
 ghost use Rattle.xv_session.specs.Answers.{AreEqualFrom};
 ghost use Rattle.debug_views.specs.declared.history.Equal.{Equal};
-ghost use Rattle.debug_views.specs.EventText.{AreEvents, IsEventsText, equal_text, event_text};
+ghost use Rattle.debug_views.specs.EventText.{AreAlike, AreEvents, IsEventsText, equal_text, event_text};
 ghost use Rattle.debug_views.specs.EventText.{first_place, more_events, no_notes};
 ghost use Rattle.debug_views.specs.Written.{Writes, Appends};
 
@@ -15,6 +15,9 @@ use xv_session::Session;
 
 /// The most lines of events that are shown.
 const LINES_MOST: u32 = 20;
+
+/// The most parts of equal events that are joined in a line.
+const JOINS_MOST: u32 = 10_000;
 
 /// The events of a round of `run`.
 const ROUND_EVENTS: u64 = 1033;
@@ -47,12 +50,47 @@ struct Equal {
     count: u64,
 }
 
+/// How many events from a place on are equal to this one, and are kept together.
+fn alike_from(session: &Session, place: u64, event: Event) -> u64
+    ensures { AreAlike session.now.events place (event_of event) result }
+{
+    match session.events_from(place) {
+        Some((next, count)) if next == event => count,
+        _ => 0,
+    }
+}
+
+/// Equal events from a place on, with those right behind them that are equal too: where a word went back, they are kept
+/// apart.
+fn joined(session: &Session, place: u64, equal: Equal) -> Equal
+    requires { AreEqualFrom session.now.events place (Some (event_of equal.event, equal.count)) }
+    ensures { AreEqualFrom session.now.events place (Some (event_of result.event, result.count)) }
+{
+    let _all = session.at();
+    let mut count = equal.count;
+    for joins in 0..JOINS_MOST {
+        let _ = joins;
+        let more = alike_from(session, place.saturating_add(count), equal.event);
+        if more == 0 {
+            return Equal {
+                event: equal.event,
+                count,
+            };
+        }
+        count = count.saturating_add(more);
+    }
+    Equal {
+        event: equal.event,
+        count,
+    }
+}
+
 /// The events from a place on that are equal to the one there, if there is one.
 fn equal_from(session: &Session, place: u64) -> Option<Equal>
     ensures { AreEqualFrom session.now.events place (option_map (λ (e : Equal). (event_of e.event, e.count)) result) }
 {
     match session.events_from(place) {
-        Some((event, count)) => Some(Equal { event, count }),
+        Some((event, count)) => Some(joined(session, place, Equal { event, count })),
         None => None,
     }
 }

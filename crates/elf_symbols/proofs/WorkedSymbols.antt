@@ -1,7 +1,7 @@
 -- Worked symbols: which addresses a symbol has, and where a name ends.
 use Rattle.std.proofs.Common.{◌≡◌, ℕ, true, false, Some, None, [], ◌∷◌, codes, ◌++◌, refl}
 use Rattle.elf_symbols.specs.declared.symbol.Symbol.{Symbol}
-use Rattle.elf_symbols.specs.Symbols.{covers, name_in}
+use Rattle.elf_symbols.specs.Symbols.{covers, has_name, name_in}
 
 -- a symbol with this type and binding, at 0x10 with 32 bytes
 abbrev at_16 : ℕ → Symbol
@@ -46,3 +46,13 @@ no_end = refl
 
 no_name : name_in [] ≡ None
 no_name = refl
+
+-- a name is the whole of it
+whole_name : has_name (codes "main") (Some (codes "main")) ≡ true
+whole_name = refl
+
+begun_name : has_name (codes "main") (Some (codes "main2")) ≡ false
+begun_name = refl
+
+unnamed : has_name (codes "main") None ≡ false
+unnamed = refl

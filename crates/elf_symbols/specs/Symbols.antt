@@ -1,6 +1,6 @@
 -- The functions of an ELF-64 file by its symbol table (ELF-64 Object File Format, "Sections", "Symbol Table" and
 -- "String Table"). All numbers are little-endian.
-use Rattle.std.specs.Prelude.{ℕ, ◌+◌, ◌*◌, ◌/◌, ◌%◌, Bool, ◌&&◌, ◌==◌, nat_lt, nat_le, if◌then◌else◌, List, length, take, drop, position, Option, Some, None, option_map}
+use Rattle.std.specs.Prelude.{ℕ, ◌+◌, ◌*◌, ◌/◌, ◌%◌, Bool, false, ◌&&◌, ◌==◌, nat_lt, nat_le, bytes_eq, if◌then◌else◌, List, length, take, drop, position, Option, Some, None, option_map}
 use Rattle.xk_base.specs.Words.{least_below}
 use Rattle.xk_base.specs.ProgramFile.{number_at, is_elf}
 use Rattle.elf_symbols.specs.declared.section.Section.{Section}
@@ -112,3 +112,39 @@ start_in file address None = None
 abbrev pub function_start : List ℕ → ℕ → Option ℕ
 function_start file address =
     if has_sections file then start_in file address (symbol_table file (sections_place file) (section_count file)) else None
+
+-- From a name to its address.
+
+-- the name is there, and is this one
+abbrev pub has_name : List ℕ → Option (List ℕ) → Bool
+has_name name (Some own) = bytes_eq own name
+has_name name None = false
+
+-- the symbol stands for an address, so its type is none, data or a function, and it has this name
+abbrev pub is_named : List ℕ → Section → List ℕ → Symbol → Bool
+is_named file strings name s = nat_le (s.info % 16) 2 && has_name name (name_at file strings s.name)
+
+-- symbol i is such a symbol
+abbrev pub is_named_at : List ℕ → Section → Section → List ℕ → ℕ → Bool
+is_named_at file table strings name i = is_named file strings name (symbol file table i)
+
+-- the first such symbol of a table
+abbrev pub first_named : List ℕ → Section → Section → List ℕ → Option Symbol
+first_named file table strings name = option_map (symbol file table) (least_below (is_named_at file table strings name) (table.size / 24))
+
+-- its address, by a symbol table and its string table: none if one of them isn't wholly in the file
+abbrev pub address_by : List ℕ → Section → Section → List ℕ → Option ℕ
+address_by file table strings name =
+    if is_within file table && (is_within file strings && (strings.kind == 3))
+    then start_of (first_named file table strings name) else None
+
+abbrev pub address_in : List ℕ → List ℕ → Option Section → Option ℕ
+address_in file name (Some table) =
+    if nat_lt table.link (section_count file)
+    then address_by file table (section file (sections_place file) table.link) name else None
+address_in file name None = None
+
+-- by the first symbol table of the file: where its first symbol stands that has the name
+abbrev pub address_of : List ℕ → List ℕ → Option ℕ
+address_of file name =
+    if has_sections file then address_in file name (symbol_table file (sections_place file) (section_count file)) else None

@@ -21,6 +21,9 @@ const SIZE: usize = 16;
 /// The type of a function (`STT_FUNC`).
 const FUNCTION: u8 = 2;
 
+/// The types of what has an address: none is told, data, a function (`STT_NOTYPE`, `STT_OBJECT`, `STT_FUNC`).
+const PLACED_LAST: u8 = FUNCTION;
+
 /// What a symbol says.
 #[derive(Clone, Copy)]
 pub(crate) struct Symbol {
@@ -53,6 +56,41 @@ impl Symbol {
             && self.value <= address
             && u128::from(address) < u128::from(self.value) + u128::from(self.size)
     }
+}
+
+/// Whether a symbol stands for an address, and has this name in a string table.
+fn is_named(file: &[u8], strings: &Section, symbol: &Symbol, name: &[u8]) -> bool
+    requires { strings.now.off + strings.now.size ≤ length file.now }
+    ensures { result ≡ meant.is_named file.now strings.now name.now symbol.now }
+{
+    if symbol.info % 16 > PLACED_LAST {
+        return false;
+    }
+    match name_at(file, strings, symbol.name) {
+        Some(own) => own == name,
+        None => false,
+    }
+}
+
+/// The first symbol of a table that stands for an address and has this name.
+pub(crate) fn first_named(
+    file: &[u8],
+    table: &Section,
+    strings: &Section,
+    name: &[u8],
+) -> Option<Symbol>
+    requires symbols { table.now.off + table.now.size ≤ length file.now }
+    requires names { strings.now.off + strings.now.size ≤ length file.now }
+    ensures { result ≡ meant.first_named file.now table.now strings.now name.now }
+{
+    let count = table.size as usize / SYMBOL_BYTES;
+    for i in 0..count {
+        let symbol = symbol_at(file, table.off as usize + SYMBOL_BYTES * i);
+        if is_named(file, strings, &symbol, name) {
+            return Some(symbol);
+        }
+    }
+    None
 }
 
 /// The first symbol of a table whose function has the address.

@@ -5,7 +5,7 @@ ghost use Rattle.xk_base.specs.ProgramFile.{is_elf as elf};
 ghost use Rattle.elf_symbols.specs.Symbols as meant;
 
 use crate::section::{STRING_TABLE, Section, read_section, symbol_table};
-use crate::symbol::{first_function, name_at};
+use crate::symbol::{first_function, first_named, name_at};
 use xk_base::file_number::{u16_at, u64_at};
 
 /// Bytes of a file header (ELF-64 Object File Format, "ELF Header": `Elf64_Ehdr`).
@@ -81,6 +81,34 @@ fn start_by(file: &[u8], table: &Section, address: u64) -> Option<u64>
     }
     let symbol = first_function(file, table, address)?;
     Some(symbol.value)
+}
+
+/// The address of the symbol of this name, by a symbol table and its string table.
+fn address_by(file: &[u8], table: &Section, strings: &Section, name: &[u8]) -> Option<u64>
+    ensures { result ≡ meant.address_by file.now table.now strings.now name.now }
+{
+    if !table.is_within(file) || !strings.is_within(file) || strings.kind != STRING_TABLE {
+        return None;
+    }
+    let symbol = first_named(file, table, strings, name)?;
+    Some(symbol.value)
+}
+
+/// The address of a name: the value of the first symbol, in the file's first symbol table, that has the name and is a
+/// function, data or of no type that is told.
+///
+/// There is none if no symbol has the name, and if the file has no symbol table, or its section headers, that table or
+/// its string table aren't wholly in the file. It doesn't panic, whatever the bytes are, and takes no memory.
+pub fn address_of(file: &[u8], name: &[u8]) -> Option<u64>
+    ensures { result ≡ meant.address_of file.now name.now }
+{
+    let headers = read_headers(file)?;
+    let table = symbol_table(file, headers.place, headers.count)?;
+    if table.link >= u32::from(headers.count) {
+        return None;
+    }
+    let strings = read_section(file, headers.place, table.link as u16);
+    address_by(file, &table, &strings, name)
 }
 
 /// The address at which the function at an address begins: that of the first function, in the file's first symbol

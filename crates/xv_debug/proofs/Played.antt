@@ -13,9 +13,9 @@ use Rattle.xv_session.specs.Recorded.{Recorded}
 use Rattle.xv_session.specs.Until.{faults}
 use Rattle.xv_debug.specs.motion.Sent.{Plays, Sends, last_outcome, any_fault}
 use Rattle.xv_debug.specs.motion.Shown.{KeepsShown}
-use Rattle.xv_debug.specs.motion.Rounds.{PlaysTelling, PlaysPart, events_of, rounds_of}
+use Rattle.xv_debug.specs.motion.Rounds.{PlaysTelling, PlaysPart, rounds_of}
 use Rattle.xv_debug.specs.declared.motion.output.Output.{Output}
-use Rattle.xv_debug.specs.declared.motion.rounds.Round.{Round}
+use Rattle.kernel_spec.specs.runs.Rounds.{round}
 use Rattle.xv_debug.proofs.Reached.{adds-none, adds-join}
 
 -- ---- lists of events and outcomes
@@ -90,12 +90,6 @@ pushed-counted xs ys b a m count all p counted room =
     let long : length ys ≡ length xs + 1 = ap (length {A = ℕ}) all ∙ length-append xs (b ∷ []) in
     let first : m.count ≡ a.count + length xs = p.counted (omega (arith, room, long)) in
     omega (arith, room, long, first, counted)
-
--- ---- what a call that failed leaves
-
-pub if-err : {A E : Type 0} {P : Type 0} (r : Result A E) → P → IfErr r (λ _. P)
-if-err (Ok a) p = tt
-if-err (Err e) p = p
 
 -- ---- events that are played
 
@@ -194,32 +188,26 @@ pub telling-one : (e : Event) (o : Outcome) (old new : Recorded) (had has : Outp
 unfolding plays-one
 telling-one e o old new had has one shown = record { plays = plays-one e o old new had has one shown; told = λ is. true-or (faults o) false is }
 
--- and these behind them, which tell nothing
-pub telling-more : (xs ys : List Event) (f : Bool) (a b c : Recorded) (i j k : Output) → PlaysTelling xs f a b i j → Plays ys b c j k → PlaysTelling (xs ++ ys) f a c i k
-unfolding plays-join
-telling-more xs ys f a b c i j k p q = record {
-  plays = plays-join xs ys a b c i j k p.plays q;
-  told = λ is. faults-join p.plays.list q.list ∙ true-or (any_fault p.plays.list) (any_fault q.list) (p.told is);
-}
-
 pub telling-those : (xs ys : List Event) (f g : Bool) (old new : Recorded) (had has : Output) → xs ≡ ys → f ≡ g → PlaysTelling xs f old new had has → PlaysTelling ys g old new had has
 telling-those xs ys f g old new had has same is p = subst (λ (b : Bool). PlaysTelling ys b old new had has) is (subst (λ (es : List Event). PlaysTelling es f old new had has) same p)
 
 -- ---- rounds
 
-pub rounds-more : (r : Round) (n : ℕ) → rounds_of r n ++ events_of r ≡ rounds_of r (n + 1)
-rounds-more r n = ap (rounds_of r) (sym (add-one n))
+pub rounds-more : (quantum n : ℕ) → rounds_of quantum n ++ round quantum [] ≡ rounds_of quantum (n + 1)
+rounds-more quantum n = ap (rounds_of quantum) (sym (add-one n))
 
 -- rounds up to one among them, and those behind
-pub rounds-begin : (r : Round) (n more : ℕ) → (rest : List Event) × (rounds_of r n ++ rest ≡ rounds_of r (n + more))
-rounds-begin r n zero = let same : n ≡ n + 0 = omega arith in ([], append-nil (rounds_of r n) ∙ ap (rounds_of r) same)
-rounds-begin r n (suc more) =
-    let before = rounds-begin r n more in
-    let same : suc (n + more) ≡ n + suc more = omega arith in
-    (before.0 ++ events_of r, sym (append_assoc (rounds_of r n) before.0 (events_of r)) ∙ ap (λ (es : List Event). es ++ events_of r) before.1 ∙ ap (rounds_of r) same)
+pub rounds-begin : (quantum n more : ℕ) → (rest : List Event) × (rounds_of quantum n ++ rest ≡ rounds_of quantum (n + more))
+rounds-begin quantum n zero = let same : n ≡ n + 0 = omega arith in ([], append-nil (rounds_of quantum n) ∙ ap (rounds_of quantum) same)
+rounds-begin quantum n (suc more) =
+    let before = rounds-begin quantum n more in
+    let same : suc (n + more) ≡ n + suc more = omega arith in (
+      before.0 ++ round quantum [],
+      sym (append_assoc (rounds_of quantum n) before.0 (round quantum [])) ∙ ap (λ (es : List Event). es ++ round quantum []) before.1 ∙ ap (rounds_of quantum) same,
+    )
 
-pub rounds-part : (r : Round) (n all : ℕ) (old new : Recorded) (had has : Output) → n ≤ all → PlaysPart (rounds_of r n) old new had has → PlaysPart (rounds_of r all) old new had has
-rounds-part r n all old new had has within p =
-    let behind = rounds-begin r n (all - n) in
+pub rounds-part : (quantum n all : ℕ) (old new : Recorded) (had has : Output) → n ≤ all → PlaysPart (rounds_of quantum n) old new had has → PlaysPart (rounds_of quantum all) old new had has
+rounds-part quantum n all old new had has within p =
+    let behind = rounds-begin quantum n (all - n) in
     let same : n + (all - n) ≡ all = omega (arith, within) in
-    part-those (rounds_of r n ++ behind.0) (rounds_of r all) old new had has (behind.1 ∙ ap (rounds_of r) same) (part-more (rounds_of r n) behind.0 old new had has p)
+    part-those (rounds_of quantum n ++ behind.0) (rounds_of quantum all) old new had has (behind.1 ∙ ap (rounds_of quantum) same) (part-more (rounds_of quantum n) behind.0 old new had has p)

@@ -96,7 +96,7 @@ pub record Plays (most : ℕ) (old new : Recorded) : Type 0 where
   pub stop : Stop
   pub had : Output
   pub has : Output
-  pub leaves : RoundsLeave (record { steps = 1000; sends = 32 }) most stop old new had has
+  pub leaves : RoundsLeave 1000 most stop old new had has
 
 -- It has gone back by so many events, to the boot where there were fewer; or it is as it was, where the host had too little memory
 abbrev pub GoesBack : (count : ℕ) → Recorded → Recorded → Type 0

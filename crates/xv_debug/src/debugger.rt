@@ -4,7 +4,7 @@ ghost use Rattle.xv_debug.specs.Effects.{next_of};
 ghost use Rattle.xv_debug.specs.WhereText.{nobody};
 
 use crate::focus::{last_seen, running_or};
-use crate::motion::{self, Journey, Output, Round};
+use crate::motion::{self, Journey, Output};
 use crate::pipes::show_pipes;
 use crate::processes::{show_processes, show_where};
 use crate::shown_output::show_output;
@@ -24,11 +24,8 @@ use xv_session::{Condition, Session};
 /// The instructions that `where` lists.
 const INSTRUCTIONS: u32 = 8;
 
-/// The rounds of `run`: those of `xv_run`.
-const ROUND: Round = Round {
-    steps: 1000,
-    sends: 32,
-};
+/// The Runs in a round of `run`: as many as in one of `xv_run`.
+const QUANTUM: u32 = 1000;
 
 /// What comes behind an answer.
 #[derive(Clone, Copy, PartialEq, Eq)]
@@ -373,7 +370,7 @@ impl Debugger {
         ensures failed { IfErr result (λ _. (session.new ≡ session.old) ⊎ Plays rounds session.old session.new) }
     {
         let mut output = Output::new(alloc)?;
-        let journey = motion::play_rounds(session, &ROUND, rounds, &mut output);
+        let journey = motion::play_rounds(session, QUANTUM, rounds, &mut output);
         self.tell_shown(alloc, session, word, &journey, &output, answer)
     }
 

@@ -17,6 +17,6 @@ mod stretches;
 
 pub(crate) use journey::{Journey, Stop};
 pub(crate) use output::Output;
-pub(crate) use rounds::{Round, play_rounds};
+pub(crate) use rounds::play_rounds;
 pub(crate) use running::{next, step, until};
 pub(crate) use sending::{go_back, send_often, type_keys};

@@ -1,6 +1,7 @@
 pub mod Waits
 pub mod Wakers
 pub mod Names
+pub mod Places
 pub mod Jumps
 pub mod Callers
 pub mod Reports

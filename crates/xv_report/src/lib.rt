@@ -7,7 +7,8 @@
 //! (`specs/Callers.antt`), and [`report_at`] tells a fault of the machine as it was before that step
 //! (`specs/Reports.antt`). [`program_name`] and [`call_name`] have the names that belong to these
 //! (`specs/Names.antt`). [`Sources`] is what is known of the sources of programs: symbols, the lines of those that were
-//! assembled, and a table of the lines of others, in which a line is found by `specs/Lines.antt`. What is printed
+//! assembled, and a table of the lines of others, in which a line is found by `specs/Lines.antt`, and a name's or a
+//! line's address by `specs/Places.antt`. What is printed
 //! of all this, by the `Display` of the types in [`text`], is compared with stored reports (`checks/why`).
 #![tactic(auto)]
 
@@ -16,6 +17,7 @@ mod fault;
 mod jumps;
 mod lines;
 mod names;
+mod places;
 mod sources;
 mod symbols;
 pub mod text;
@@ -27,6 +29,7 @@ pub use fault::{FaultReport, report_at, report_of_run};
 pub use jumps::jump_target;
 pub use lines::Lines;
 pub use names::{call_name, program_name};
+pub use places::LineNamed;
 pub use sources::{ProgramLines, ProgramSource, Sources, source_of};
 pub use waits::{EndsHeld, Wait, could_wake, ends_held, waits_for};
 pub use waking::wakers;

@@ -1,5 +1,6 @@
 //! The lines of sources, by a table of rows.
 ghost use Rattle.std.specs.Prelude.{◌≡◌, ◌+◌, ◌<◌, length};
+ghost use Rattle.xv_report.specs.Places.{is_told, line_told};
 ghost use Rattle.xv_report.specs.Lines.{IsNearest, IsNearestBelow, begins_before};
 
 use std::alloc::{AllocError, Global};
@@ -86,6 +87,27 @@ fn nearest(rows: &[LineRow], program: u64, address: u64) -> Option<usize>
     nearest
 }
 
+/// Whether a row is of the program, and this text is told of its line.
+fn is_told(texts: &[String], row: &LineRow, program: u64, text: &str) -> bool
+    ensures { result ≡ is_told texts.now program text.now row.now }
+{
+    if row.program != program {
+        return false;
+    }
+    match texts.get(row.text) {
+        Some(told) => told.as_str() == text,
+        None => false,
+    }
+}
+
+/// Where the first row of the program begins of which this text is told.
+fn first_told(rows: &[LineRow], texts: &[String], program: u64, text: &str) -> Option<u64>
+    ensures { result ≡ line_told texts.now program text.now rows.now }
+{
+    let row = rows.iter().find(|row| is_told(texts, row, program, text))?;
+    Some(row.address)
+}
+
 impl Lines {
     /// A table that has no row.
     pub fn new(alloc: Global) -> Lines {
@@ -122,6 +144,16 @@ impl Lines {
         })?;
         self.texts.push(text)?;
         Ok(())
+    }
+
+    /// Where the instructions begin of the line of the program at a place of which this is told.
+    pub(crate) fn start(&self, program: usize, text: &str) -> Option<u64> {
+        first_told(
+            self.rows.as_slice(),
+            self.texts.as_slice(),
+            program as u64,
+            text,
+        )
     }
 
     /// What is told of the line of an address of the program at a place; `None` if no line is known.

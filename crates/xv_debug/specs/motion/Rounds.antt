@@ -1,22 +1,17 @@
--- Rounds: so many Runs, a Tick, so many Sends.
-use Rattle.std.specs.Prelude.{◌≡◌, ℕ, zero, suc, ◌≤◌, Bool, true, List, [], ◌∷◌, ◌++◌, replicate, IsSome}
-use Rattle.kernel_spec.specs.runs.Run as runs
+-- Rounds in which no key is typed.
+use Rattle.std.specs.Prelude.{◌≡◌, ℕ, zero, suc, ◌≤◌, Bool, true, List, [], ◌++◌, IsSome}
+use Rattle.kernel_spec.specs.runs.Rounds.{round}
 use Rattle.kernel_spec.specs.runs.Run.{Event}
 use Rattle.xv_session.specs.Recorded.{Recorded}
 use Rattle.xv_debug.specs.motion.Sent.{Plays, any_fault}
 use Rattle.xv_debug.specs.declared.motion.output.Output.{Output}
 use Rattle.xv_debug.specs.declared.motion.journey.Stop.{Stop}
 use Rattle.xv_debug.specs.declared.motion.journey.Stop.TheVariants.{Done, Met, Asleep, Halted, Refused}
-use Rattle.xv_debug.specs.declared.motion.rounds.Round.{Round}
 
--- the events of a round
-abbrev pub events_of : Round → List Event
-events_of r = replicate r.steps runs.Run ++ (runs.Tick ∷ replicate r.sends runs.Send)
-
--- so many rounds, one behind another
-abbrev pub rounds_of : Round → ℕ → List Event
-rounds_of r zero = []
-rounds_of r (suc n) = rounds_of r n ++ events_of r
+-- so many rounds without a key, one behind another
+abbrev pub rounds_of : (quantum count : ℕ) → List Event
+rounds_of quantum zero = []
+rounds_of quantum (suc n) = rounds_of quantum n ++ round quantum []
 
 -- These were played; and where `faulted` says so, a process faulted by one of them
 pub record PlaysTelling (wanted : List Event) (faulted : Bool) (old new : Recorded) (had has : Output) : Type 0 where
@@ -31,22 +26,22 @@ pub record PlaysPart (wanted : List Event) (old new : Recorded) (had has : Outpu
   pub plays : Plays part old new had has
 
 -- Whole rounds were played, so many at most, of which the last had a fault
-pub record PlaysToFault (r : Round) (most : ℕ) (old new : Recorded) (had has : Output) : Type 0 where
+pub record PlaysToFault (quantum most : ℕ) (old new : Recorded) (had has : Output) : Type 0 where
   pub whole : ℕ
   pub within : whole ≤ most
-  pub tells : PlaysTelling (rounds_of r whole) true old new had has
+  pub tells : PlaysTelling (rounds_of quantum whole) true old new had has
 
 -- Whole rounds were played, so many at most, and then the machine has halted
-pub record PlaysToEnd (r : Round) (most : ℕ) (old new : Recorded) (had has : Output) : Type 0 where
+pub record PlaysToEnd (quantum most : ℕ) (old new : Recorded) (had has : Output) : Type 0 where
   pub whole : ℕ
   pub within : whole ≤ most
-  pub plays : Plays (rounds_of r whole) old new had has
+  pub plays : Plays (rounds_of quantum whole) old new had has
   pub halted : IsSome new.machine.world.turns.halted
 
 -- What rounds leave, by why there were no more: all of them were played; or fewer, up to a fault or to the machine's end; or the first of their events
-abbrev pub RoundsLeave : Round → (most : ℕ) → Stop → (old new : Recorded) → (had has : Output) → Type 0
-RoundsLeave r most Done old new had has = Plays (rounds_of r most) old new had has
-RoundsLeave r most Met old new had has = PlaysToFault r most old new had has
-RoundsLeave r most Halted old new had has = PlaysToEnd r most old new had has
-RoundsLeave r most (Refused error) old new had has = PlaysPart (rounds_of r most) old new had has
-RoundsLeave r most Asleep old new had has = ⊥
+abbrev pub RoundsLeave : (quantum most : ℕ) → Stop → (old new : Recorded) → (had has : Output) → Type 0
+RoundsLeave quantum most Done old new had has = Plays (rounds_of quantum most) old new had has
+RoundsLeave quantum most Met old new had has = PlaysToFault quantum most old new had has
+RoundsLeave quantum most Halted old new had has = PlaysToEnd quantum most old new had has
+RoundsLeave quantum most (Refused error) old new had has = PlaysPart (rounds_of quantum most) old new had has
+RoundsLeave quantum most Asleep old new had has = ⊥

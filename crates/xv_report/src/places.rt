@@ -1,0 +1,76 @@
+//! From names and lines to addresses.
+ghost use Rattle.std.specs.Prelude.{◌≡◌};
+ghost use Rattle.xv_report.specs.Places.{label_named, line_start};
+
+use crate::sources::{ProgramLines, ProgramSource};
+use elf_symbols::address_of;
+use uasm_core::{CodeLine, LabelAddress};
+
+/// The address of the first label of this name.
+fn label_named(labels: &[LabelAddress], name: &[u8]) -> Option<u64>
+    ensures { result ≡ label_named name.now labels.now }
+{
+    let label = labels.iter().find(|label| label.name.as_slice() == name)?;
+    Some(label.address)
+}
+
+/// Where the instructions begin of the first line that makes some and has this number, or a greater one.
+fn line_start(code: &[CodeLine], number: usize) -> Option<u64>
+    ensures { result ≡ line_start number code.now }
+{
+    let row = code.iter().find(|row| row.line >= number)?;
+    Some(row.start)
+}
+
+/// A line of a source: `wc.c:12` is line 12 of `wc.c`.
+#[derive(Clone, Copy)]
+pub struct LineNamed<'a> {
+    pub text: &'a str,
+    pub file: &'a str,
+    pub number: usize,
+}
+
+impl<'a> LineNamed<'a> {
+    /// The line that a text names.
+    pub fn of(text: &'a str) -> Option<LineNamed<'a>> {
+        let (file, digits) = text.rsplit_once(':')?;
+        let number = digits.parse::<usize>().ok()?;
+        Some(LineNamed { text, file, number })
+    }
+
+    /// Whether it is of the source that the program of this name was assembled of.
+    fn is_of(&self, program: &[u8]) -> bool {
+        match self.file.strip_suffix(".s") {
+            Some(name) => name.as_bytes() == program,
+            None => false,
+        }
+    }
+}
+
+impl<'a> ProgramSource<'a> {
+    /// The address of a label or a symbol of this name, if the program has one.
+    pub fn address_named(&self, name: &[u8]) -> Option<u64> {
+        if let ProgramLines::Source { lines, .. } = self.lines {
+            return match label_named(lines.labels.as_slice(), name) {
+                Some(address) => Some(address),
+                None => address_of(self.symbols, name),
+            };
+        }
+        address_of(self.symbols, name)
+    }
+
+    /// Where the instructions of a line begin, if it is one of the program's.
+    pub fn line_start(&self, line: &LineNamed<'_>) -> Option<u64> {
+        match self.lines {
+            ProgramLines::Unknown => None,
+            ProgramLines::Table { lines, place } => lines.start(place, line.text),
+            ProgramLines::Source { lines, name } => {
+                if line.is_of(name) {
+                    line_start(lines.code.as_slice(), line.number)
+                } else {
+                    None
+                }
+            }
+        }
+    }
+}
