@@ -6,6 +6,7 @@ pub mod Focus
 pub mod FrameLists
 pub mod FrameText
 pub mod MemoryText
+pub mod NumberText
 pub mod PageRuns
 pub mod PagesText
 pub mod RegisterText

@@ -20,7 +20,7 @@ const LINE_BYTES: u32 = 16;
 const LINES_MOST: u32 = 16;
 
 /// The byte so far behind an address; `None` where it isn't there, and behind 2^64.
-fn byte_behind(machine: &Machine, pid: Pid, address: u64, place: u32) -> Option<u8>
+pub(crate) fn byte_behind(machine: &Machine, pid: Pid, address: u64, place: u32) -> Option<u8>
     ensures { result ≡ byte_behind machine.now.world.state pid address place }
 {
     machine.peek(pid, address.checked_add(u64::from(place))?)

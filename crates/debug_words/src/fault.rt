@@ -7,7 +7,7 @@ use std::fmt::{self, Display};
 pub enum WordErrorKind<'a> {
     /// It begins with no word of the debugger's.
     Unknown(&'a str),
-    /// This is no number.
+    /// This is no number, and no name that is known.
     NotANumber(&'a str),
     /// This number isn't in its range.
     OutOfRange {
@@ -43,7 +43,7 @@ impl<'a> WordErrorKind<'a> {
     fn around(self) -> (&'static str, &'static str) {
         match self {
             WordErrorKind::Unknown(_) => ("there is no word \"", "\""),
-            WordErrorKind::NotANumber(_) => ("\"", "\" is no number"),
+            WordErrorKind::NotANumber(_) => ("\"", "\" is no number, and no name that is known"),
             WordErrorKind::TooMuch(_) => ("\"", "\" is too much"),
             WordErrorKind::Missing(_) => ("", " is missing"),
             _ => ("\"", "\" stands for no key: \\n \\b \\t \\s \\\\ \\xHH do"),

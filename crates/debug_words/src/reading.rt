@@ -1,14 +1,19 @@
 //! Reading a line: what it asks for, or why it asks for nothing.
 ghost use Rattle.std.specs.Prelude.{◌≡◌, IfOk};
 ghost use Rattle.debug_words.specs.Counted.{most_of};
-ghost use Rattle.debug_words.specs.Ranges.{UpTo, IsInRange};
+ghost use Rattle.debug_words.specs.Ranges.{UpTo, IsFormInRange, IsInRange};
 
 use crate::fault::{WordError, WordErrorKind};
+use crate::forms::{Form, form_of};
 use crate::keys::keys_of;
+use crate::names::{Names, Spot};
 use crate::numbers::{number_in, number_of};
 use crate::tokens::Tokens;
 use crate::topics::Topic;
-use crate::vocabulary::{BYTES_MOST, EVENTS_MOST, Goal, NOTES_MOST, OFTEN_MOST, ROUNDS_MOST, Word};
+use crate::vocabulary::{
+    BYTES_MOST, EVENTS_MOST, Goal, LISTED_MOST, Mark, NOTES_MOST, OFTEN_MOST, ROUNDS_MOST, Size,
+    Word,
+};
 use kernel_calls::KernelCall;
 use xk_base::limits::{FRAMES_MAX, PID_MAX};
 use xk_base::{Frame, Pid};
@@ -18,6 +23,9 @@ const CALLS_LAST: u64 = 2_147_483_647;
 
 /// How many bytes of memory are shown where no number is given.
 const BYTES_USUAL: u32 = 64;
+
+/// How many instructions are listed where no number is given.
+const LISTED_USUAL: u32 = 16;
 
 /// How many notes of the trace are shown where no number is given.
 const NOTES_USUAL: u32 = 20;
@@ -85,11 +93,58 @@ fn owner_ended<'a>(
     }
 }
 
+/// A name, and the number that stands behind it and a `+`: 0 if none does.
+fn with_offset(text: &str) -> (&str, u64) {
+    let Some((name, digits)) = text.rsplit_once('+') else {
+        return (text, 0);
+    };
+    match number_of(digits) {
+        Ok(offset) => (name, offset),
+        Err(_) => (text, 0),
+    }
+}
+
+/// The number that a text writes, or the one that it is a name of, in the process of this pid, or in the one that words
+/// look at.
+fn named_number<'a, N: Names>(
+    text: &'a str,
+    names: &N,
+    pid: &Option<Pid>,
+) -> Result<u64, WordErrorKind<'a>> {
+    if let Ok(number) = number_of(text) {
+        return Ok(number);
+    }
+    let (name, offset) = with_offset(text);
+    match names.number(name, pid) {
+        Some(number) => Ok(number.wrapping_add(offset)),
+        None => Err(WordErrorKind::NotANumber(text)),
+    }
+}
+
+/// The address that a text writes, or the one that it is a name of, with its program.
+fn named_spot<N: Names>(text: &str, names: &N) -> Option<Spot> {
+    if let Ok(address) = number_of(text) {
+        let program = names.program()?;
+        return Some(Spot { program, address });
+    }
+    let (name, offset) = with_offset(text);
+    let spot = names.spot(name)?;
+    Some(Spot {
+        program: spot.program,
+        address: spot.address.wrapping_add(offset),
+    })
+}
+
 /// The address at a place, which has to be there.
-fn address<'a>(tokens: &Tokens<'a>, place: usize) -> Result<u64, WordErrorKind<'a>> {
+fn address<'a, N: Names>(
+    tokens: &Tokens<'a>,
+    place: usize,
+    names: &N,
+    pid: &Option<Pid>,
+) -> Result<u64, WordErrorKind<'a>> {
     match tokens.get(place) {
-        None => Err(WordErrorKind::Missing("an address")),
-        Some(text) => number_of(text),
+        None => Err(WordErrorKind::Missing("an address or a name")),
+        Some(text) => named_number(text, names, pid),
     }
 }
 
@@ -108,28 +163,50 @@ fn call_of<'a>(text: &'a str) -> Result<i32, WordErrorKind<'a>> {
     }
 }
 
-/// `call CALL`.
-fn goal_call<'a>(tokens: &Tokens<'a>) -> Result<Goal, WordErrorKind<'a>> {
-    let Some(text) = tokens.get(2) else {
+/// `call CALL`, where the first of these stands at a place.
+fn goal_call<'a>(tokens: &Tokens<'a>, place: usize) -> Result<Goal, WordErrorKind<'a>> {
+    let Some(text) = tokens.get(place.saturating_add(1)) else {
         return Err(WordErrorKind::Missing("a call's name or number"));
     };
     let number = call_of(text)?;
-    goal_ended(tokens, 3, Goal::Call(number))
+    goal_ended(tokens, place.saturating_add(2), Goal::Call(number))
 }
 
-/// `pc ADDRESS [of P]`.
-fn goal_pc<'a>(tokens: &Tokens<'a>) -> Result<Goal, WordErrorKind<'a>> {
-    let address = address(tokens, 2)?;
-    match owner(tokens, 3) {
-        Ok(pid) => Ok(Goal::Pc { address, pid }),
+/// The address at a place, of this process, as a goal.
+fn goal_at<'a, N: Names>(
+    tokens: &Tokens<'a>,
+    place: usize,
+    names: &N,
+    pid: Option<Pid>,
+) -> Result<Goal, WordErrorKind<'a>> {
+    match address(tokens, place, names, &pid) {
+        Ok(address) => Ok(Goal::Pc { address, pid }),
         Err(kind) => Err(kind),
     }
 }
 
-/// `store ADDRESS`.
-fn goal_store<'a>(tokens: &Tokens<'a>) -> Result<Goal, WordErrorKind<'a>> {
-    let address = address(tokens, 2)?;
-    goal_ended(tokens, 3, Goal::Store(address))
+/// `pc PLACE [of P]`, where the first of these stands at a place.
+fn goal_pc<'a, N: Names>(
+    tokens: &Tokens<'a>,
+    place: usize,
+    names: &N,
+) -> Result<Goal, WordErrorKind<'a>> {
+    match owner(tokens, place.saturating_add(2)) {
+        Ok(pid) => goal_at(tokens, place.saturating_add(1), names, pid),
+        Err(kind) => Err(kind),
+    }
+}
+
+/// `store PLACE`, where the first of these stands at a place.
+fn goal_store<'a, N: Names>(
+    tokens: &Tokens<'a>,
+    place: usize,
+    names: &N,
+) -> Result<Goal, WordErrorKind<'a>> {
+    match address(tokens, place.saturating_add(1), names, &None) {
+        Ok(address) => goal_ended(tokens, place.saturating_add(2), Goal::Store(address)),
+        Err(kind) => Err(kind),
+    }
 }
 
 /// This goal, if nothing stands at a place.
@@ -144,17 +221,21 @@ fn goal_ended<'a>(
     }
 }
 
-/// What `until` waits for.
-fn goal<'a>(tokens: &Tokens<'a>) -> Result<Goal, WordErrorKind<'a>> {
-    let Some(text) = tokens.get(1) else {
+/// The goal that begins at a place.
+fn goal<'a, N: Names>(
+    tokens: &Tokens<'a>,
+    place: usize,
+    names: &N,
+) -> Result<Goal, WordErrorKind<'a>> {
+    let Some(text) = tokens.get(place) else {
         return Err(WordErrorKind::Missing("call, pc, store, fault or exit"));
     };
     match text {
-        "call" => goal_call(tokens),
-        "pc" => goal_pc(tokens),
-        "store" => goal_store(tokens),
-        "fault" => goal_ended(tokens, 2, Goal::Fault),
-        "exit" => goal_ended(tokens, 2, Goal::Exit),
+        "call" => goal_call(tokens, place),
+        "pc" => goal_pc(tokens, place, names),
+        "store" => goal_store(tokens, place, names),
+        "fault" => goal_ended(tokens, place.saturating_add(1), Goal::Fault),
+        "exit" => goal_ended(tokens, place.saturating_add(1), Goal::Exit),
         _ => Err(WordErrorKind::NotThis {
             text,
             wanted: "call, pc, store, fault or exit",
@@ -170,18 +251,60 @@ fn number_at<'a>(tokens: &Tokens<'a>, place: usize) -> Option<&'a str> {
     }
 }
 
-/// So many bytes of memory from an address on, of the process that is named at a place.
-fn memory_of<'a>(
+/// Where `of P` may stand, behind a place of so many things at most that may be left out.
+fn owner_place(tokens: &Tokens<'_>, from: usize, most: usize) -> usize {
+    let mut place = from;
+    for _ in 0..most {
+        if number_at(tokens, place).is_some() {
+            place = place.saturating_add(1);
+        }
+    }
+    place
+}
+
+/// The address at a place, of a process, which may be left out.
+fn if_address<'a, N: Names>(
     tokens: &Tokens<'a>,
     place: usize,
+    names: &N,
+    pid: &Option<Pid>,
+) -> Result<Option<u64>, WordErrorKind<'a>> {
+    let Some(text) = number_at(tokens, place) else {
+        return Ok(None);
+    };
+    match named_number(text, names, pid) {
+        Ok(address) => Ok(Some(address)),
+        Err(kind) => Err(kind),
+    }
+}
+
+/// The number at a place, in a range, which may be left out.
+fn if_count<'a>(
+    tokens: &Tokens<'a>,
+    place: usize,
+    usual: u32,
+    most: u32,
+) -> Result<u32, WordErrorKind<'a>>
+    requires { UpTo most usual }
+    ensures { IfOk result (λ n. UpTo most n) }
+{
+    match number_at(tokens, place) {
+        Some(text) => count_of(text, most),
+        None => Ok(usual),
+    }
+}
+
+/// So many bytes of memory, from an address on, as a word.
+fn memory_from<'a>(
     address: Option<u64>,
-    count: u32,
+    count: Result<u32, WordErrorKind<'a>>,
+    pid: Option<Pid>,
 ) -> Result<Word, WordErrorKind<'a>>
-    requires { UpTo BYTES_MOST count }
+    requires { IfOk count (λ n. UpTo BYTES_MOST n) }
     ensures { IfOk result IsInRange }
 {
-    match owner(tokens, place) {
-        Ok(pid) => Ok(Word::Memory {
+    match count {
+        Ok(count) => Ok(Word::Memory {
             address,
             count,
             pid,
@@ -190,40 +313,264 @@ fn memory_of<'a>(
     }
 }
 
-/// What is asked of memory.
-fn memory<'a>(tokens: &Tokens<'a>) -> Result<Word, WordErrorKind<'a>>
+/// What is asked of memory of this process.
+fn memory_of<'a, N: Names>(
+    tokens: &Tokens<'a>,
+    names: &N,
+    pid: Option<Pid>,
+) -> Result<Word, WordErrorKind<'a>>
     ensures { IfOk result IsInRange }
 {
-    let Some(first) = number_at(tokens, 1) else {
-        return memory_of(tokens, 1, None, BYTES_USUAL);
-    };
-    let address = number_of(first)?;
-    let Some(second) = number_at(tokens, 2) else {
-        return memory_of(tokens, 2, Some(address), BYTES_USUAL);
-    };
-    let count = count_of(second, BYTES_MOST)?;
-    memory_of(tokens, 3, Some(address), count)
+    match if_address(tokens, 1, names, &pid) {
+        Ok(address) => memory_from(address, if_count(tokens, 2, BYTES_USUAL, BYTES_MOST), pid),
+        Err(kind) => Err(kind),
+    }
 }
 
-/// The pages from an address on, of the process that is named at a place.
-fn pages_of<'a>(tokens: &Tokens<'a>, place: usize, from: u64) -> Result<Word, WordErrorKind<'a>>
+/// What is asked of memory.
+fn memory<'a, N: Names>(tokens: &Tokens<'a>, names: &N) -> Result<Word, WordErrorKind<'a>>
     ensures { IfOk result IsInRange }
 {
-    match owner(tokens, place) {
-        Ok(pid) => Ok(Word::Pages { from, pid }),
+    match owner(tokens, owner_place(tokens, 1, 2)) {
+        Ok(pid) => memory_of(tokens, names, pid),
+        Err(kind) => Err(kind),
+    }
+}
+
+/// What is asked of pages of this process.
+fn pages_of<'a, N: Names>(
+    tokens: &Tokens<'a>,
+    names: &N,
+    pid: Option<Pid>,
+) -> Result<Word, WordErrorKind<'a>>
+    ensures { IfOk result IsInRange }
+{
+    match if_address(tokens, 1, names, &pid) {
+        Ok(address) => Ok(Word::Pages {
+            from: address.unwrap_or(0),
+            pid,
+        }),
         Err(kind) => Err(kind),
     }
 }
 
 /// What is asked of pages.
-fn pages<'a>(tokens: &Tokens<'a>) -> Result<Word, WordErrorKind<'a>>
+fn pages<'a, N: Names>(tokens: &Tokens<'a>, names: &N) -> Result<Word, WordErrorKind<'a>>
     ensures { IfOk result IsInRange }
 {
-    let Some(text) = number_at(tokens, 1) else {
-        return pages_of(tokens, 1, 0);
+    match owner(tokens, owner_place(tokens, 1, 1)) {
+        Ok(pid) => pages_of(tokens, names, pid),
+        Err(kind) => Err(kind),
+    }
+}
+
+/// So many instructions, from an address on, as a word.
+fn listing_from<'a>(
+    from: u64,
+    count: Result<u32, WordErrorKind<'a>>,
+    pid: Option<Pid>,
+) -> Result<Word, WordErrorKind<'a>>
+    requires { IfOk count (λ n. UpTo LISTED_MOST n) }
+    ensures { IfOk result IsInRange }
+{
+    match count {
+        Ok(count) => Ok(Word::Listing { from, count, pid }),
+        Err(kind) => Err(kind),
+    }
+}
+
+/// What is asked of instructions of this process: from the pc on, if no address is given.
+fn listing_of<'a, N: Names>(
+    tokens: &Tokens<'a>,
+    names: &N,
+    pid: Option<Pid>,
+) -> Result<Word, WordErrorKind<'a>>
+    ensures { IfOk result IsInRange }
+{
+    match named_number(number_at(tokens, 1).unwrap_or("$pc"), names, &pid) {
+        Ok(from) => listing_from(from, if_count(tokens, 2, LISTED_USUAL, LISTED_MOST), pid),
+        Err(kind) => Err(kind),
+    }
+}
+
+/// What is asked of instructions.
+fn listing<'a, N: Names>(tokens: &Tokens<'a>, names: &N) -> Result<Word, WordErrorKind<'a>>
+    ensures { IfOk result IsInRange }
+{
+    match owner(tokens, owner_place(tokens, 1, 2)) {
+        Ok(pid) => listing_of(tokens, names, pid),
+        Err(kind) => Err(kind),
+    }
+}
+
+/// What is asked of memory from an address on, in a form.
+fn formed(form: Form, from: u64, pid: Option<Pid>) -> Word
+    requires { IsFormInRange form }
+    ensures { IsInRange result }
+{
+    match form {
+        Form::Numbers { count, size } => Word::Numbers {
+            from,
+            count,
+            size,
+            pid,
+        },
+        Form::Instructions { count } => Word::Listing { from, count, pid },
+    }
+}
+
+/// What is asked of memory of this process, in a form.
+fn numbers_of<'a, N: Names>(
+    form: Form,
+    tokens: &Tokens<'a>,
+    names: &N,
+    pid: Option<Pid>,
+) -> Result<Word, WordErrorKind<'a>>
+    requires { IsFormInRange form }
+    ensures { IfOk result IsInRange }
+{
+    match address(tokens, 1, names, &pid) {
+        Ok(from) => Ok(formed(form, from, pid)),
+        Err(kind) => Err(kind),
+    }
+}
+
+/// What is asked of memory in a form.
+fn numbers_in<'a, N: Names>(
+    form: Form,
+    tokens: &Tokens<'a>,
+    names: &N,
+) -> Result<Word, WordErrorKind<'a>>
+    requires { IsFormInRange form }
+    ensures { IfOk result IsInRange }
+{
+    match owner(tokens, 2) {
+        Ok(pid) => numbers_of(form, tokens, names, pid),
+        Err(kind) => Err(kind),
+    }
+}
+
+/// What is asked of numbers in memory, or of instructions, in a form as `8gx` or `4i`.
+fn numbers<'a, N: Names>(
+    form: &'a str,
+    tokens: &Tokens<'a>,
+    names: &N,
+) -> Result<Word, WordErrorKind<'a>>
+    ensures { IfOk result IsInRange }
+{
+    match form_of(form) {
+        Ok(form) => numbers_in(form, tokens, names),
+        Err(kind) => Err(kind),
+    }
+}
+
+/// The number of eight bytes at a name's address, or behind a `*`.
+fn number_there<'a, N: Names>(text: &'a str, names: &N) -> Result<Word, WordErrorKind<'a>>
+    ensures { IfOk result IsInRange }
+{
+    match named_number(text.strip_prefix('*').unwrap_or(text), names, &None) {
+        Ok(from) => Ok(Word::Numbers {
+            from,
+            count: 1,
+            size: Size::Giant,
+            pid: None,
+        }),
+        Err(kind) => Err(kind),
+    }
+}
+
+/// A number, a register or a name's address.
+fn value<'a, N: Names>(text: &'a str, names: &N) -> Result<Word, WordErrorKind<'a>>
+    ensures { IfOk result IsInRange }
+{
+    match named_number(text.strip_prefix('&').unwrap_or(text), names, &None) {
+        Ok(number) => Ok(Word::Value(number)),
+        Err(kind) => Err(kind),
+    }
+}
+
+/// What `print` asks for.
+fn print<'a, N: Names>(tokens: &Tokens<'a>, names: &N) -> Result<Word, WordErrorKind<'a>>
+    ensures { IfOk result IsInRange }
+{
+    let Some(text) = tokens.get(1) else {
+        return Err(WordErrorKind::Missing("a register, a name or a number"));
     };
-    let from = number_of(text)?;
-    pages_of(tokens, 2, from)
+    if let Err(kind) = tokens.end(2) {
+        return Err(kind);
+    }
+    if text.starts_with('$') || text.starts_with('&') || number_of(text).is_ok() {
+        value(text, names)
+    } else {
+        number_there(text, names)
+    }
+}
+
+/// The mark of a process at a text's address.
+fn spot_mark<'a>(text: &'a str, spot: Option<Spot>) -> Result<Mark, WordErrorKind<'a>> {
+    match spot {
+        Some(spot) => Ok(Mark::At {
+            program: spot.program,
+            address: spot.address,
+        }),
+        None => Err(WordErrorKind::NotANumber(text)),
+    }
+}
+
+/// What `break` and `tbreak` ask for.
+fn marked<'a, N: Names>(
+    once: bool,
+    tokens: &Tokens<'a>,
+    names: &N,
+) -> Result<Word, WordErrorKind<'a>>
+    ensures { IfOk result IsInRange }
+{
+    let Some(text) = tokens.get(1) else {
+        return Ok(Word::Marks);
+    };
+    match spot_mark(
+        text,
+        named_spot(text.strip_prefix('*').unwrap_or(text), names),
+    ) {
+        Ok(mark) => ended(tokens, 2, Word::Mark { mark, once }),
+        Err(kind) => Err(kind),
+    }
+}
+
+/// What `watch` asks for.
+fn watched<'a, N: Names>(tokens: &Tokens<'a>, names: &N) -> Result<Word, WordErrorKind<'a>>
+    ensures { IfOk result IsInRange }
+{
+    match address(tokens, 1, names, &None) {
+        Ok(address) => ended(
+            tokens,
+            2,
+            Word::Mark {
+                mark: Mark::Store(address),
+                once: false,
+            },
+        ),
+        Err(kind) => Err(kind),
+    }
+}
+
+/// What `delete` asks for.
+fn deleted<'a>(tokens: &Tokens<'a>) -> Result<Word, WordErrorKind<'a>>
+    ensures { IfOk result IsInRange }
+{
+    let Some(text) = tokens.get(1) else {
+        return Ok(Word::Delete { number: None });
+    };
+    match count_of(text, u32::MAX) {
+        Ok(number) => ended(
+            tokens,
+            2,
+            Word::Delete {
+                number: Some(number),
+            },
+        ),
+        Err(kind) => Err(kind),
+    }
 }
 
 /// What is asked of frames.
@@ -285,10 +632,10 @@ fn ended<'a>(tokens: &Tokens<'a>, place: usize, word: Word) -> Result<Word, Word
 }
 
 /// What `until` asks for.
-fn until<'a>(tokens: &Tokens<'a>) -> Result<Word, WordErrorKind<'a>>
+fn until<'a, N: Names>(tokens: &Tokens<'a>, names: &N) -> Result<Word, WordErrorKind<'a>>
     ensures { IfOk result IsInRange }
 {
-    match goal(tokens) {
+    match goal(tokens, 1, names) {
         Ok(goal) => Ok(Word::Until(goal)),
         Err(kind) => Err(kind),
     }
@@ -353,6 +700,7 @@ fn looking(topic: Topic, pid: Option<Pid>) -> Word
     match topic {
         Topic::Where => Word::Where { pid },
         Topic::Registers => Word::Registers { pid },
+        Topic::Callers => Word::Callers { pid },
         _ => Word::Descriptors { pid },
     }
 }
@@ -367,6 +715,29 @@ fn owned<'a>(topic: Topic, tokens: &Tokens<'a>) -> Result<Word, WordErrorKind<'a
     }
 }
 
+/// What a word asks for behind which names may stand.
+fn named<'a, N: Names>(
+    topic: Topic,
+    form: &'a str,
+    tokens: &Tokens<'a>,
+    names: &N,
+) -> Result<Word, WordErrorKind<'a>>
+    ensures { IfOk result IsInRange }
+{
+    match topic {
+        Topic::Until => until(tokens, names),
+        Topic::Memory => memory(tokens, names),
+        Topic::Pages => pages(tokens, names),
+        Topic::Listing => listing(tokens, names),
+        Topic::Numbers => numbers(form, tokens, names),
+        Topic::Print => print(tokens, names),
+        Topic::Break => marked(false, tokens, names),
+        Topic::BreakOnce => marked(true, tokens, names),
+        Topic::Watch => watched(tokens, names),
+        _ => asked(topic, tokens),
+    }
+}
+
 /// What a word asks for, with what stands behind it.
 fn asked<'a>(topic: Topic, tokens: &Tokens<'a>) -> Result<Word, WordErrorKind<'a>>
     ensures { IfOk result IsInRange }
@@ -378,20 +749,21 @@ fn asked<'a>(topic: Topic, tokens: &Tokens<'a>) -> Result<Word, WordErrorKind<'a
         Topic::Send => numbered(Counted::Send, 1, tokens),
         Topic::Processes => numbered(Counted::Processes, 1, tokens),
         Topic::Trace => numbered(Counted::Trace, NOTES_USUAL, tokens),
-        Topic::Where | Topic::Registers | Topic::Descriptors => owned(topic, tokens),
+        Topic::Where | Topic::Registers | Topic::Descriptors | Topic::Callers => {
+            owned(topic, tokens)
+        }
         Topic::Back => back(tokens),
-        Topic::Until => until(tokens),
-        Topic::Memory => memory(tokens),
-        Topic::Pages => pages(tokens),
+        Topic::Delete => deleted(tokens),
         Topic::Frames => frames(tokens),
         Topic::Events => events(tokens),
         Topic::Next => ended(tokens, 1, Word::Next),
+        Topic::Finish => ended(tokens, 1, Word::Finish),
         Topic::Continue => ended(tokens, 1, Word::Continue),
         Topic::Quit => ended(tokens, 1, Word::Quit),
         Topic::Pipe => ended(tokens, 1, Word::Pipe),
         Topic::Console => ended(tokens, 1, Word::Console),
         Topic::At => ended(tokens, 1, Word::At),
-        Topic::Help | Topic::Key => help(tokens),
+        _ => help(tokens),
     }
 }
 
@@ -404,13 +776,19 @@ fn behind_first(line: &str) -> &str {
     }
 }
 
-/// What a line asks for that begins with this word.
-fn read<'a>(topic: Topic, line: &'a str, tokens: &Tokens<'a>) -> Result<Word, WordErrorKind<'a>>
+/// What a line asks for that begins with this word, behind which a form may stand.
+fn read<'a, N: Names>(
+    topic: Topic,
+    form: &'a str,
+    line: &'a str,
+    tokens: &Tokens<'a>,
+    names: &N,
+) -> Result<Word, WordErrorKind<'a>>
     ensures { IfOk result IsInRange }
 {
     match topic {
         Topic::Key => keyed(behind_first(line)),
-        _ => asked(topic, tokens),
+        _ => named(topic, form, tokens, names),
     }
 }
 
@@ -433,7 +811,7 @@ impl Word {
     /// # Errors
     ///
     /// What is wrong with the line, if it is none of the forms that `help` lists.
-    pub fn of<'a>(line: &'a str) -> Result<Word, WordError<'a>>
+    pub fn of<'a, N: Names>(line: &'a str, names: &N) -> Result<Word, WordError<'a>>
         ensures { IfOk result IsInRange }
     {
         let tokens = Tokens::of(line);
@@ -443,13 +821,14 @@ impl Word {
         if first.starts_with('#') {
             return Ok(Word::Nothing);
         }
-        let Some(topic) = Topic::named(first) else {
+        let (name, form) = first.split_once('/').unwrap_or((first, ""));
+        let Some(topic) = Topic::with_form(name, form) else {
             return Err(WordError {
                 kind: WordErrorKind::Unknown(first),
                 topic: None,
             });
         };
-        match read(topic, line, &tokens) {
+        match read(topic, form, line, &tokens, names) {
             Ok(word) => Ok(word),
             Err(kind) => Err(WordError {
                 kind,

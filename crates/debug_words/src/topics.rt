@@ -7,11 +7,20 @@ pub enum Topic {
     Next,
     Back,
     Until,
+    Finish,
+    Break,
+    BreakOnce,
+    Watch,
+    Delete,
     Run,
     Tick,
     Key,
     Send,
     Where,
+    Callers,
+    Listing,
+    Print,
+    Numbers,
     Registers,
     Memory,
     Pages,
@@ -29,16 +38,26 @@ pub enum Topic {
 }
 
 /// All topics, in the order in which help shows them.
-pub(crate) const TOPICS: [Topic; 23] = [
+pub(crate) const TOPICS: [Topic; 32] = [
     Topic::Step,
     Topic::Next,
     Topic::Back,
     Topic::Until,
+    Topic::Finish,
+    Topic::Break,
+    Topic::BreakOnce,
+    Topic::Watch,
+    Topic::Delete,
+    Topic::Continue,
     Topic::Run,
     Topic::Tick,
     Topic::Key,
     Topic::Send,
     Topic::Where,
+    Topic::Callers,
+    Topic::Listing,
+    Topic::Print,
+    Topic::Numbers,
     Topic::Registers,
     Topic::Memory,
     Topic::Pages,
@@ -51,7 +70,6 @@ pub(crate) const TOPICS: [Topic; 23] = [
     Topic::Events,
     Topic::Trace,
     Topic::Help,
-    Topic::Continue,
     Topic::Quit,
 ];
 
@@ -74,15 +92,27 @@ impl Topic {
         None
     }
 
+    /// The topic of this name, behind which a form stands, if it may.
+    pub(crate) fn with_form(name: &str, form: &str) -> Option<Topic> {
+        let topic = Topic::named(name)?;
+        match topic {
+            Topic::Numbers | Topic::Print => Some(topic),
+            _ if form.is_empty() => Some(topic),
+            _ => None,
+        }
+    }
+
     /// Whether this is one of its names.
     fn is_named(self, name: &str) -> bool {
         if self.name() == name {
             return true;
         }
-        match self.other_name() {
-            Some(other) => other == name,
-            None => false,
+        for other in self.other_names().split_whitespace() {
+            if other == name {
+                return true;
+            }
         }
+        false
     }
 
     /// Its name.
@@ -90,23 +120,30 @@ impl Topic {
         parted(self.usage(), ' ').0
     }
 
-    /// Its other name, if it has one.
-    fn other_name(self) -> Option<&'static str> {
-        let name = match self {
-            Topic::Step => "s",
-            Topic::Next => "n",
-            Topic::Back => "b",
+    /// Its other names, if it has some: shorter ones, and gdb's.
+    fn other_names(self) -> &'static str {
+        match self {
+            Topic::Step => "s si stepi",
+            Topic::Next => "n ni nexti",
+            Topic::Back => "rsi reverse-stepi",
             Topic::Until => "u",
+            Topic::Finish => "fin",
+            Topic::Break => "b",
+            Topic::BreakOnce => "tb",
+            Topic::Delete => "d",
             Topic::Run => "r",
             Topic::Key => "k",
             Topic::Where => "w",
+            Topic::Callers => "backtrace",
+            Topic::Listing => "disassemble",
+            Topic::Print => "p",
+            Topic::Numbers => "x",
             Topic::Memory => "m",
             Topic::Help => "h",
             Topic::Continue => "continue",
             Topic::Quit => "q",
-            _ => return None,
-        };
-        Some(name)
+            _ => "",
+        }
     }
 
     /// How it is written.
@@ -133,7 +170,7 @@ impl Topic {
 step [N]
 send N Runs: N steps of whoever runs
 send N events Run: N steps, 1 if N is left out.
-Also: s.
+Also: s, si, stepi.
 A Run is an instruction or a step of a call of the process that runs; where nobody runs,
 the next process has its turn. It stops early where all processes sleep.
 N is 1 to 100000000.",
@@ -141,7 +178,7 @@ N is 1 to 100000000.",
 next
 an instruction, over the call that it makes
 one instruction, over the whole function or kernel call that it calls.
-Also: n.
+Also: n, ni, nexti.
 A jump that keeps its return address in ra is a call of a function: it is over where the
 process is back behind the jump, with the stack pointer not below. An ecall is over where the kernel
 has answered. Other processes may run meanwhile. At most 100000000 events are sent.",
@@ -149,7 +186,7 @@ has answered. Other processes may run meanwhile. At most 100000000 events are se
 back [N]
 go back by N events
 go back by N events, of whatever kind; 1 if N is left out.
-Also: b.
+Also: rsi, reverse-stepi.
 The session is then as it was, exactly. The events behind that place are forgotten.
 If there were fewer events, it goes back to the boot.",
             Topic::Until => "\
@@ -158,11 +195,41 @@ send Runs up to a goal: help until lists them
 send Runs up to the first that is the goal.
 Also: u.
 until call CALL         a step of this kernel call, by its name or number: until call write
-until pc ADDRESS [of P] process P runs, and its next instruction stands at ADDRESS
-until store ADDRESS     an instruction has stored to this address, of whatever process
+until pc PLACE [of P]   process P runs, and its next instruction stands at PLACE
+until store PLACE       an instruction has stored to this address, of whatever process
 until fault             a process is gone by a fault
 until exit              a process is gone, by a call, a kill or a fault
+help print tells what a PLACE may be.
 One Run is sent at least, 100000000 at most. It stops early where all processes sleep.",
+            Topic::Finish => "\
+finish
+send Runs up to the end of the function that runs
+send Runs up to the end of the function in which the process that runs is.
+Also: fin.
+It is over where the process is back at the return address, with the stack pointer not below: the
+address in ra, if that lies in another function, or else the one that the frame of s0 has.
+A program without frame pointers (most are) has no such frame. At most 100000000 events are sent.",
+            Topic::Break => "\
+break [PLACE]
+stop c at PLACE; the marks that c stops at
+let c stop before the instruction at PLACE; without PLACE, list the marks that c stops at.
+Also: b.
+PLACE is a function, a label, a line as wc.c:12, PROGRAM:NAME, or an address; help print tells more.
+It is a place of its program, whichever process runs that. There are 16 marks at most.",
+            Topic::BreakOnce => "\
+tbreak PLACE
+the same, once
+let c stop before the instruction at PLACE, for once.
+Also: tb.",
+            Topic::Watch => "\
+watch PLACE
+stop c behind a store to PLACE
+let c stop behind an instruction that stores to this address, of whatever process.",
+            Topic::Delete => "\
+delete [N]
+forget mark N, or all marks
+forget mark N of those that break lists; without N all of them.
+Also: d.",
             Topic::Run => "\
 run [N]
 play N rounds of 1,000 Runs, a Tick, 32 Sends
@@ -197,22 +264,49 @@ Also: w.
 => marks the instruction that is next. An instruction is told with its function and its line, if
 they are known: of a C program by NAME.debug beside its file, of an assembler source by its labels
 and lines. Of any other file its function is told, if it has a symbol table.",
+            Topic::Callers => "\
+bt [of P]
+the calls that led to where the process is
+the calls that led to where the process is, from the last one on.
+Also: backtrace.
+By the frames of s0, for a program with frame pointers; else by ra alone, which an earlier call
+may have left.",
+            Topic::Listing => "\
+disas [PLACE [N]] [of P]
+N instructions from PLACE on
+N instructions from PLACE on; 16 without N, from the pc on without PLACE.
+Also: disassemble.
+=> marks the instruction that is next. N is 1 to 100.",
+            Topic::Print => "\
+print WHAT
+a number, a register or the word at a name
+a number, a register, or the eight bytes at a name.
+Also: p.
+A PLACE may be a number; a register, as $a0 or $pc; a function, a label or data by its name; a line,
+as wc.c:12; PROGRAM:NAME; and each of these with +N behind it. Names are of the program which the
+process runs. print &NAME tells the address, print *PLACE the eight bytes there.",
+            Topic::Numbers => "\
+x/FORM PLACE [of P]
+memory as numbers, as gdb's x: x/8gx $sp
+memory from PLACE on, as numbers or instructions.
+FORM is how many, then a letter: b, h, w, g for 1, 2, 4, 8 bytes, or i for instructions. The numbers
+are hexadecimal. -- is one of which a byte isn't there. 256 bytes or 100 instructions at most.",
             Topic::Registers => "\
 regs [of P]
 the registers
 the registers, in hexadecimal.
 The pc, and x1 to x31 by their names in programs.",
             Topic::Memory => "\
-mem [ADDRESS [N]] [of P]
-N bytes of memory from ADDRESS on
-N bytes of a process's memory from ADDRESS on.
+mem [PLACE [N]] [of P]
+N bytes of memory from PLACE on
+N bytes of a process's memory from PLACE on.
 Also: m.
--- is a byte that isn't there. N is 1 to 256, and 64 if it is left out. Without ADDRESS
+-- is a byte that isn't there. N is 1 to 256, and 64 if it is left out. Without PLACE
 it goes on behind the bytes that were shown last.",
             Topic::Pages => "\
-pages [ADDRESS] [of P]
+pages [PLACE] [of P]
 the tables and pages, as a tree
-the tables and pages of a process's memory from ADDRESS on, as a tree.
+the tables and pages of a process's memory from PLACE on, as a tree.
 Sv39 has three levels: a root table, upper tables for 1 GiB each, lower tables for
 2 MiB each, and in them pages of 4 KiB. r, w, x: the page may be read, written, executed;
 u: by the program itself. Pages one behind another that are alike take a line.",
@@ -267,10 +361,11 @@ pid; without it, the words look at the process that runs, or, where nobody runs,
 one that made the last step.",
             Topic::Continue => "\
 c
-leave the debugger, and let the machine go on
-leave the debugger, and let the machine go on.
+go on to the next mark; without a mark leave
+send Runs up to the first that meets a mark, or by which a process is gone by a fault.
 Also: continue.
-The machine goes on at the prompt that Ctrl-C opened. A debugger that was started alone ends.",
+100000000 at most. It stops early where all processes sleep. If there is no mark, it leaves the
+debugger: the machine goes on at the prompt that Ctrl-C opened; a debugger that stands alone ends.",
             Topic::Quit => "\
 quit
 end the debugger and the machine

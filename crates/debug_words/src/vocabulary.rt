@@ -21,8 +21,42 @@ pub const KEYS_MOST: usize = 128;
 /// The most notes of the trace that a word shows.
 pub const NOTES_MOST: u32 = 100;
 
+/// The most instructions that a word lists.
+pub const LISTED_MOST: u32 = 100;
+
+/// The most marks that are kept.
+pub const MARKS_MOST: usize = 16;
+
 /// The bytes of keys.
 pub type Keys = ArrayVec<u8, KEYS_MOST>;
+
+/// What a run that goes on stops at.
+#[derive(Clone, Copy)]
+pub enum Mark {
+    /// A process that runs the program at this place runs, and its next instruction stands at this address.
+    At { program: usize, address: u64 },
+    /// An instruction has stored to this address, of whatever process.
+    Store(u64),
+}
+
+// What a list of marks has in places that are free.
+impl Default for Mark {
+    fn default() -> Mark {
+        Mark::Store(0)
+    }
+}
+
+/// Marks, in the order in which they were made.
+pub type Marks = ArrayVec<Mark, MARKS_MOST>;
+
+/// How many bytes a number has that is shown of memory.
+#[derive(Clone, Copy)]
+pub enum Size {
+    Byte,
+    Half,
+    Word,
+    Giant,
+}
 
 /// What a search among Runs waits for.
 #[derive(Clone, Copy)]
@@ -110,6 +144,40 @@ pub enum Word {
     Trace {
         count: u32,
     },
+    /// The calls that led the process to where it is.
+    Callers {
+        pid: Option<Pid>,
+    },
+    /// So many instructions, 1 to [`LISTED_MOST`], from this address on.
+    Listing {
+        from: u64,
+        count: u32,
+        pid: Option<Pid>,
+    },
+    /// So many numbers of memory, of this many bytes each, from this address on; [`BYTES_MOST`] bytes at most.
+    Numbers {
+        from: u64,
+        count: u32,
+        size: Size,
+        pid: Option<Pid>,
+    },
+    /// What this number is.
+    Value(u64),
+    /// The marks that are kept.
+    Marks,
+    /// A mark that is kept from now on; up to the first time that it is met, if it is for once.
+    Mark {
+        mark: Mark,
+        once: bool,
+    },
+    /// No mark of this number is kept any more, or none at all.
+    Delete {
+        number: Option<u32>,
+    },
+    /// Runs, up to the first that meets one of these marks, or by which a process is gone by a fault.
+    ToMark(Marks),
+    /// Runs, up to the end of the function in which the process is.
+    Finish,
     Help {
         topic: Option<Topic>,
     },

@@ -2,7 +2,6 @@
 use Rattle.std.proofs.Common.{◌≡◌, ℕ, zero, suc, Bool, true, false, Option, Some, ◌+◌, List, [], ◌++◌, replicate, sym, ap, ◌∙◌, subst, append_assoc, add-one, arith}
 use Rattle.std.proofs.lemmas.List.{append-nil, replicate-append-replicate}
 use Rattle.kernel_spec.specs.runs.Run.{Event, Run, Outcome}
-use Rattle.xv_machine.specs.Meaning.{Meaning}
 use Rattle.xv_session.specs.Answers.{stands, Found}
 use Rattle.xv_session.specs.Recorded.{Recorded, running_of}
 use Rattle.xv_session.specs.Steps.{Advances}
@@ -27,12 +26,12 @@ adds-more count more e old mid new one two =
 
 -- ---- Runs, one by one
 
-pub none-more : (test : Meaning → Outcome → Meaning → Bool) (n : ℕ) (o : Outcome) (before last : Option Outcome) (old mid new : Running) → NoneMet test n before old mid
-    → Advances mid Run o new → test mid.machine o new.machine ≡ false → last ≡ Some o → NoneMet test (n + 1) last old new
+pub none-more : (test : Running → Outcome → Running → Bool) (n : ℕ) (o : Outcome) (before last : Option Outcome) (old mid new : Running) → NoneMet test n before old mid
+    → Advances mid Run o new → test mid o new ≡ false → last ≡ Some o → NoneMet test (n + 1) last old new
 none-more test n o before last old mid new none one unmet is = subst (λ k. NoneMet test k last old new) (sym (add-one n)) (mid, o, before, none, one, unmet, is)
 
-pub last-met : (test : Meaning → Outcome → Meaning → Bool) (n : ℕ) (o : Outcome) (before last : Option Outcome) (old mid new : Running) → NoneMet test n before old mid
-    → Advances mid Run o new → test mid.machine o new.machine ≡ true → last ≡ Some o → LastMet test (n + 1) last old new
+pub last-met : (test : Running → Outcome → Running → Bool) (n : ℕ) (o : Outcome) (before last : Option Outcome) (old mid new : Running) → NoneMet test n before old mid
+    → Advances mid Run o new → test mid o new ≡ true → last ≡ Some o → LastMet test (n + 1) last old new
 last-met test n o before last old mid new none one met is = subst (λ k. LastMet test k last old new) (sym (add-one n)) (mid, o, before, none, one, met, is)
 
 -- ---- a search of one Run

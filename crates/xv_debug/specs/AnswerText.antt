@@ -1,27 +1,29 @@
 -- What the answer to a word tells: what the word did, and where the run is then; or what it looks at.
-use Rattle.std.specs.Prelude.{◌≡◌, ◌⊎◌, ◌-◌, ℕ, Bool, List, [], ◌++◌, map, take, length, min, replicate, Option, None, Some}
+use Rattle.std.specs.Prelude.{◌≡◌, ◌⊎◌, ◌-◌, ℕ, Bool, List, [], ◌++◌, map, take, length, min, replicate, Option, None, Some, IfSome}
 use Rattle.circular_buffer.specs.Buffer.{buffer}
 use Rattle.kernel_spec.specs.runs.Run as runs
 use Rattle.kernel_spec.specs.runs.Run.{Event, Outcome}
-use Rattle.xv_machine.specs.Meaning.{Meaning}
 use Rattle.xv_session.specs.Answers.{WentBack}
 use Rattle.xv_session.specs.Recorded.{Recorded}
-use Rattle.xv_session.specs.Until.{meets}
+use Rattle.xv_session.specs.declared.running.Running.{Running}
 use Rattle.xv_session.specs.declared.session.SessionError.TheVariants.{Memory as TooLittle}
 use Rattle.xv_session.specs.declared.until.Condition.{Condition}
 use Rattle.debug_words.specs.declared.vocabulary.Goal.{Goal}
 use Rattle.debug_words.specs.declared.vocabulary.Word.{Word}
-use Rattle.debug_words.specs.declared.vocabulary.Word.TheVariants.{Step, Next, Back, Until, Run, Tick, Key, Send}
+use Rattle.debug_words.specs.declared.vocabulary.Word.TheVariants.{Step, Next, Back, Until, Run, Tick, Key, Send, ToMark, Finish}
 use Rattle.debug_views.specs.Written.{Writes}
 use Rattle.xv_debug.specs.motion.Aims.{aim_in}
-use Rattle.xv_debug.specs.motion.Reaching.{meets_aim}
+use Rattle.xv_debug.specs.motion.Finishing.{IsFinishAim}
+use Rattle.xv_debug.specs.motion.Marks.{meets_marks}
+use Rattle.xv_debug.specs.declared.motion.aiming.Aim.{Aim}
+use Rattle.xv_debug.specs.motion.Reaching.{meets_aim, meets_condition}
 use Rattle.xv_debug.specs.declared.motion.journey.Stop.{Stop}
 use Rattle.xv_debug.specs.declared.motion.output.Output.{Output}
 use Rattle.xv_debug.specs.Effects.{IsConditionOf, Plays, Searches, SendsFirst, Steps}
 use Rattle.xv_debug.specs.Focus.{last_seen}
 use Rattle.xv_debug.specs.LookText.{Shows}
 use Rattle.xv_debug.specs.OutputText.{output_text}
-use Rattle.xv_debug.specs.StopText.{back_text, journey_text, refusal_text}
+use Rattle.xv_debug.specs.StopText.{back_text, journey_text, no_return, refusal_text}
 use Rattle.xv_debug.specs.WhereText.{IsWhereOf, nobody}
 
 -- ---- words that send events: `last` is the process that was seen last before, and `seen` the one after
@@ -34,16 +36,24 @@ IsSentText last seen word s sent stop o shown text =
 abbrev pub StepTells : (last seen : Option ℕ) → Word → (count : ℕ) → (old new : Recorded) → (before after : List ℕ) → Type 0
 StepTells last seen word count old new before after = (d : Steps count old new) × Writes before after (IsSentText last seen word new d.sent d.stop d.last [])
 
-abbrev pub SearchTells : (last seen : Option ℕ) → Word → (Meaning → Outcome → Meaning → Bool) → (old new : Recorded) → (before after : List ℕ) → Type 0
+abbrev pub SearchTells : (last seen : Option ℕ) → Word → (Running → Outcome → Running → Bool) → (old new : Recorded) → (before after : List ℕ) → Type 0
 SearchTells last seen word test old new before after = (d : Searches test old new) × Writes before after (IsSentText last seen word new d.sent d.stop d.last [])
 
 -- where there is no process of which it is asked, none is sent
 abbrev pub ConditionTells : (last seen : Option ℕ) → Word → Option Condition → (old new : Recorded) → (before after : List ℕ) → Type 0
 ConditionTells last seen word None old new before after = (new ≡ old) × (after ≡ before ++ nobody)
-ConditionTells last seen word (Some c) old new before after = SearchTells last seen word (meets c) old new before after
+ConditionTells last seen word (Some c) old new before after = SearchTells last seen word (meets_condition c) old new before after
 
 abbrev pub GoalTells : (last seen : Option ℕ) → Word → Goal → (old new : Recorded) → (before after : List ℕ) → Type 0
 GoalTells last seen word goal old new before after = (c : Option Condition) × IsConditionOf last goal old.machine.world c × ConditionTells last seen word c old new before after
+
+-- where it isn't known where the function ends, none is sent
+abbrev pub AimTells : (last seen : Option ℕ) → Word → Option Aim → (old new : Recorded) → (before after : List ℕ) → Type 0
+AimTells last seen word None old new before after = (new ≡ old) × (after ≡ before ++ no_return)
+AimTells last seen word (Some aim) old new before after = SearchTells last seen word (meets_aim aim) old new before after
+
+abbrev pub FinishTells : (last seen : Option ℕ) → Word → (old new : Recorded) → (before after : List ℕ) → Type 0
+FinishTells last seen word old new before after = (aim : Option Aim) × IfSome aim (IsFinishAim old.machine.world) × AimTells last seen word aim old new before after
 
 -- nothing was shown yet
 abbrev pub IsEmpty : Output → Type 0
@@ -82,5 +92,7 @@ Answers last seen shown (Run rounds) old new before after = RoundsTell last seen
 Answers last seen shown (Tick count) old new before after = SendsTell last seen (Tick count) (λ n. replicate n runs.Tick) count old new before after
 Answers last seen shown (Send count) old new before after = SendsTell last seen (Send count) (λ n. replicate n runs.Send) count old new before after
 Answers last seen shown (Key keys) old new before after = SendsTell last seen (Key keys) (λ n. map runs.Key (take n keys.items)) (length keys.items) old new before after
+Answers last seen shown (ToMark marks) old new before after = SearchTells last seen (ToMark marks) (meets_marks marks.items) old new before after
+Answers last seen shown Finish old new before after = FinishTells last seen Finish old new before after
 Answers last seen shown (Back count) old new before after = BackTells last count old new before after
 Answers last seen shown word old new before after = Shows last shown old word before after

@@ -1,23 +1,25 @@
 -- What the words do to a session: words that look leave it as it was; the others send events, or go back.
-use Rattle.std.specs.Prelude.{◌≡◌, ◌≢◌, ◌⊎◌, ◌≤◌, ◌-◌, ℕ, Bool, List, map, take, length, replicate, Option, None, Some}
+use Rattle.std.specs.Prelude.{◌≡◌, ◌≢◌, ◌⊎◌, ◌≤◌, ◌-◌, ℕ, Bool, List, map, take, length, replicate, Option, None, Some, IfSome}
 use Rattle.kernel_spec.specs.runs.Run as runs
 use Rattle.kernel_spec.specs.runs.Run.{Event, Outcome, World}
-use Rattle.xv_machine.specs.Meaning.{Meaning}
 use Rattle.xv_session.specs.Answers.{WentBack}
 use Rattle.xv_session.specs.Recorded.{Recorded, running_of}
-use Rattle.xv_session.specs.Until.{meets}
+use Rattle.xv_session.specs.declared.running.Running.{Running}
 use Rattle.xv_session.specs.declared.until.Condition.{Condition}
 use Rattle.xv_session.specs.declared.until.Condition.TheVariants as waits_for
 use Rattle.debug_words.specs.declared.vocabulary.TheConstants.{EVENTS_MOST}
 use Rattle.debug_words.specs.declared.vocabulary.Goal.{Goal}
 use Rattle.debug_words.specs.declared.vocabulary.Goal.TheVariants.{Call, Pc, Store, Fault, Exit}
 use Rattle.debug_words.specs.declared.vocabulary.Word as words
-use Rattle.debug_words.specs.declared.vocabulary.Word.TheVariants.{Step, Next, Back, Until, Run, Tick, Key, Send, Continue, Quit}
+use Rattle.debug_words.specs.declared.vocabulary.Word.TheVariants.{Step, Next, Back, Until, Run, Tick, Key, Send, ToMark, Finish, Continue, Quit}
 use Rattle.debug_words.specs.Ranges.{IsInRange}
 use Rattle.xv_debug.specs.motion.Aims.{aim_in}
+use Rattle.xv_debug.specs.motion.Finishing.{IsFinishAim}
+use Rattle.xv_debug.specs.motion.Marks.{meets_marks}
+use Rattle.xv_debug.specs.declared.motion.aiming.Aim.{Aim}
 use Rattle.xv_debug.specs.motion.Effects.{AddsRuns}
 use Rattle.xv_debug.specs.motion.Ran.{Ran}
-use Rattle.xv_debug.specs.motion.Reaching.{Reaches, IsRefusal, IsRefusedBy, meets_aim}
+use Rattle.xv_debug.specs.motion.Reaching.{Reaches, IsRefusal, IsRefusedBy, meets_aim, meets_condition}
 use Rattle.xv_debug.specs.motion.Resting.{RestsIf}
 use Rattle.xv_debug.specs.motion.Rounds.{RoundsLeave}
 use Rattle.xv_debug.specs.motion.Sent.{Sends}
@@ -56,7 +58,7 @@ pub record Steps (count : ℕ) (old new : Recorded) : Type 0 where
   pub reason : IsRefusedBy stop new
 
 -- Runs were sent up to the first that is what is waited for; or fewer than that, where nobody may run, the session keeps no more events, or all that a word may send were sent
-pub record Searches (test : Meaning → Outcome → Meaning → Bool) (old new : Recorded) : Type 0 where
+pub record Searches (test : Running → Outcome → Running → Bool) (old new : Recorded) : Type 0 where
   pub stop : Stop
   pub sent : ℕ
   pub last : Option Outcome
@@ -70,13 +72,24 @@ pub record Searches (test : Meaning → Outcome → Meaning → Bool) (old new :
 -- up to this condition; where there is none, all stays
 abbrev pub SearchesFor : Option Condition → Recorded → Recorded → Type 0
 SearchesFor None old new = new ≡ old
-SearchesFor (Some c) old new = Searches (meets c) old new
+SearchesFor (Some c) old new = Searches (meets_condition c) old new
 
 -- up to a goal
 pub record SearchesGoal (last : Option ℕ) (goal : Goal) (old new : Recorded) : Type 0 where
   pub condition : Option Condition
   pub is : IsConditionOf last goal old.machine.world condition
   pub searches : SearchesFor condition old new
+
+-- up to this aim; where there is none, all stays
+abbrev pub SearchesAim : Option Aim → Recorded → Recorded → Type 0
+SearchesAim None old new = new ≡ old
+SearchesAim (Some aim) old new = Searches (meets_aim aim) old new
+
+-- up to the end of the function in which the process that runs is, if it is known where that is
+pub record Finishes (old new : Recorded) : Type 0 where
+  pub aim : Option Aim
+  pub is : IfSome aim (IsFinishAim old.machine.world)
+  pub searches : SearchesAim aim old new
 
 -- These events were sent, or the first of them, where the session keeps no more
 pub record SendsFirst (wanted : ℕ → List Event) (all : ℕ) (old new : Recorded) : Type 0 where
@@ -112,6 +125,8 @@ Does last (Tick count) old new = SendsFirst (λ n. replicate n runs.Tick) count 
 Does last (Send count) old new = SendsFirst (λ n. replicate n runs.Send) count old new
 Does last (Key keys) old new = SendsFirst (λ n. map runs.Key (take n keys.items)) (length keys.items) old new
 Does last (Back count) old new = GoesBack count old new
+Does last (ToMark marks) old new = Searches (meets_marks marks.items) old new
+Does last Finish old new = Finishes old new
 Does last _ old new = new ≡ old
 
 -- Where the host had too little memory for its answer, it may have done nothing

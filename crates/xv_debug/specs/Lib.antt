@@ -3,6 +3,7 @@ pub mod Conversations
 pub mod Effects
 pub mod Focus
 pub mod Instructions
+pub mod Kept
 pub mod LookText
 pub mod motion
 pub mod OutcomeText

@@ -7,7 +7,7 @@ use Rattle.xv_session.specs.declared.session.SessionError.TheVariants.{Memory, F
 use Rattle.debug_words.specs.Texts.{many}
 use Rattle.debug_words.specs.declared.vocabulary.TheConstants.{EVENTS_MOST}
 use Rattle.debug_words.specs.declared.vocabulary.Word.{Word}
-use Rattle.debug_words.specs.declared.vocabulary.Word.TheVariants.{Next, Until, Run}
+use Rattle.debug_words.specs.declared.vocabulary.Word.TheVariants.{Next, Until, Run, Finish, ToMark}
 use Rattle.xv_debug.specs.declared.motion.journey.Journey.{Journey}
 use Rattle.xv_debug.specs.declared.motion.journey.Stop.{Stop}
 use Rattle.xv_debug.specs.declared.motion.journey.Stop.TheVariants.{Done, Met, Asleep, Halted, Refused}
@@ -30,6 +30,8 @@ not_yet = codes "it has not come yet; a word sends " ++ decimal EVENTS_MOST ++ c
 abbrev pub done_text : Word → List ℕ
 done_text (Until goal) = not_yet
 done_text Next = not_yet
+done_text Finish = not_yet
+done_text (ToMark marks) = not_yet
 done_text _ = []
 
 -- why a word sent no more
@@ -51,6 +53,10 @@ journey_text word sent stop last = many sent (codes "event") ++ last_text last +
 -- and so of a journey
 abbrev pub told_journey : Word → Journey → List ℕ
 told_journey word j = journey_text word j.sent j.stop (option_map outcome_of j.last)
+
+-- where it isn't known where a function ends
+abbrev pub no_return : List ℕ
+no_return = codes "no process runs whose function has a known return address: bt tells more\n"
 
 -- how many events were taken back
 abbrev pub back_text : (taken : ℕ) → List ℕ

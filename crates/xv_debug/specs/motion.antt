@@ -1,5 +1,7 @@
 pub mod Aims
 pub mod Effects
+pub mod Finishing
+pub mod Marks
 pub mod Ran
 pub mod Reaching
 pub mod Resting

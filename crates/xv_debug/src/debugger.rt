@@ -1,20 +1,25 @@
 //! The debugger: a line goes in, its answer comes out.
 ghost use Rattle.std.specs.Prelude.{◌≡◌, ◌++◌, OnOk, string_bytes};
 ghost use Rattle.xv_debug.specs.Effects.{next_of};
+ghost use Rattle.xv_debug.specs.StopText.{no_return};
 ghost use Rattle.xv_debug.specs.WhereText.{nobody};
 
+use crate::callers::told_calls;
 use crate::focus::{last_seen, running_or};
-use crate::motion::{self, Journey, Output};
+use crate::instruction::listed_from;
+use crate::kept::KeptMarks;
+use crate::motion::{self, Aim, Journey, Output};
+use crate::names::Known;
 use crate::pipes::show_pipes;
-use crate::processes::{show_processes, show_where};
+use crate::processes::{show_process, show_processes, show_where};
 use crate::shown_output::show_output;
 use crate::stops::{show_refusal, show_sent};
 use debug_views::{
-    show_console, show_descriptors, show_events, show_frames, show_memory, show_pages,
-    show_registers, show_trace,
+    show_console, show_descriptors, show_events, show_frames, show_memory, show_numbers,
+    show_pages, show_registers, show_trace, show_value,
 };
 use debug_words::texts::Many;
-use debug_words::{EVENTS_MOST, Goal, Keys, Word, show_help};
+use debug_words::{EVENTS_MOST, Goal, Keys, Marks, Size, Word, WordError, show_help};
 use std::alloc::{AllocError, Global};
 use xk_base::Pid;
 use xv_machine::Event;
@@ -47,6 +52,8 @@ pub struct Debugger {
     shown: u64,
     /// What is known of the sources of the session's programs, if anything is.
     sources: Option<Sources>,
+    /// The marks at which `c` stops.
+    marks: KeptMarks,
 }
 
 /// What comes behind the answer to a word.
@@ -58,6 +65,41 @@ fn next_of(word: &Word) -> Next
         Word::Quit => Next::Ends,
         _ => Next::Stays,
     }
+}
+
+/// Keeps a mark, forgets some, or lists them, as the word asks.
+fn see_to_marks<'a>(
+    marks: &mut KeptMarks,
+    session: &'a Session,
+    sources: Option<&'a Sources>,
+    word: &Word,
+    answer: &mut String,
+) -> Result<(), AllocError> {
+    let known = Known {
+        session,
+        sources,
+        focus: None,
+    };
+    match word {
+        Word::Mark { mark, once } => marks.keep(&known, *mark, *once, answer),
+        Word::Delete { number } => marks.delete(&known, *number, answer),
+        _ => marks.show(&known, answer),
+    }
+}
+
+/// Whether it is the word that lets the machine go on.
+fn goes_on(word: &Word) -> bool {
+    match word {
+        Word::Continue => true,
+        _ => false,
+    }
+}
+
+/// Writes that it isn't known where a function ends.
+fn show_no_return(answer: &mut String) -> Result<(), AllocError>
+    ensures { OnOk result (string_bytes answer.new ≡ string_bytes answer.old ++ no_return) }
+{
+    answer.push_str("no process runs whose function has a known return address: bt tells more\n")
 }
 
 /// Writes that there is no process.
@@ -72,19 +114,23 @@ impl Debugger {
     ghost use Rattle.kernel_spec.specs.runs.Run as runs;
     ghost use Rattle.xv_machine.specs.Events.{event_of, outcome_of};
     ghost use Rattle.xv_debug.specs.motion.Aims.{aim_in};
+    ghost use Rattle.kcall_core.specs.Observers.{process_at};
+    ghost use Rattle.debug_words.specs.Ranges.{IsInRange};
+    ghost use Rattle.xv_debug.specs.motion.Marks.{meets_marks};
     ghost use Rattle.xv_debug.specs.motion.Reaching.{meets_aim};
     ghost use Rattle.debug_views.specs.DescriptorText.{descriptors_shown};
     ghost use Rattle.debug_views.specs.MemoryText.{memory_shown};
+    ghost use Rattle.debug_views.specs.NumberText.{numbers_shown};
     ghost use Rattle.debug_views.specs.PagesText.{IsPagesText};
     ghost use Rattle.debug_views.specs.RegisterText.{registers_shown};
     ghost use Rattle.debug_views.specs.Written.{Writes};
-    ghost use Rattle.xv_debug.specs.AnswerText.{Answers, BackTells, ConditionTells, GoalTells, IsBackText};
+    ghost use Rattle.xv_debug.specs.AnswerText.{AimTells, Answers, BackTells, ConditionTells, FinishTells, GoalTells, IsBackText};
     ghost use Rattle.xv_debug.specs.AnswerText.{IsSentText, RoundsTell, SearchTells, SendsTell, StepTells};
-    ghost use Rattle.xv_debug.specs.Effects.{Does, DoesOrStays, DoesSome, GoesBack, IsConditionOf, Obeys, Plays, Searches, SearchesFor, SearchesGoal, SendsFirst, Steps, next_of};
+    ghost use Rattle.xv_debug.specs.Effects.{Does, DoesOrStays, DoesSome, Finishes, GoesBack, IsConditionOf, Obeys, Plays, Searches, SearchesAim, SearchesFor, SearchesGoal, SendsFirst, Steps, next_of};
     ghost use Rattle.xv_debug.specs.Focus.{IsFocus};
     ghost use Rattle.xv_debug.specs.LookText.{IsOfFocus, Shows};
     ghost use Rattle.xv_debug.specs.OutputText.{output_text};
-    ghost use Rattle.xv_debug.specs.WhereText.{IsWhereOf};
+    ghost use Rattle.xv_debug.specs.WhereText.{IsProcessText, IsWhereOf};
 
     /// A debugger that has seen nothing. The names of functions come from the programs' own symbols, and no line is
     /// known.
@@ -97,6 +143,7 @@ impl Debugger {
             last: None,
             shown: 0,
             sources: None,
+            marks: KeptMarks::new(),
         }
     }
 
@@ -110,6 +157,7 @@ impl Debugger {
             last: None,
             shown: 0,
             sources: Some(sources),
+            marks: KeptMarks::new(),
         }
     }
 
@@ -156,13 +204,81 @@ impl Debugger {
         ensures done { IfOk result (λ next. Obeys self.old.last session.old session.new next) }
         ensures failed { IfErr result (λ _. (session.new ≡ session.old) ⊎ DoesSome self.old.last session.old session.new) }
     {
-        match Word::of(line) {
-            Ok(word) => self.answer(alloc, session, &word, answer),
+        match self.read(session, line) {
+            Ok(word) => self.answer_marked(alloc, session, word, answer),
             Err(error) => {
                 writeln!(answer, "{error}")?;
                 Ok(Next::Stays)
             }
         }
+    }
+
+    /// The word of a line.
+    fn read<'a>(&self, session: &Session, line: &'a str) -> Result<Word, WordError<'a>>
+        ensures { IfOk result IsInRange }
+    {
+        let sources: Option<&Sources> = self.sources.as_ref();
+        let focus = self.focus(session, None);
+        let known = Known {
+            session,
+            sources,
+            focus,
+        };
+        Word::of(line, &known)
+    }
+
+    /// The word, with the marks to which `c` goes on, if there are some.
+    fn with_marks(&self, word: Word) -> Word
+        requires { IsInRange word }
+        ensures { IsInRange result }
+    {
+        if self.marks.is_empty() || !goes_on(&word) {
+            return word;
+        }
+        Word::ToMark(self.marks.marks())
+    }
+
+    /// Does what a word of a line asks for, and writes its answer. Behind it the marks for once that are met are
+    /// forgotten.
+    fn answer_marked(
+        &mut self,
+        alloc: Global,
+        session: &mut Session,
+        word: Word,
+        answer: &mut String,
+    ) -> Result<Next, AllocError>
+        requires { IsInRange word }
+        ensures done { IfOk result (λ next. Obeys self.old.last session.old session.new next) }
+        ensures failed { IfErr result (λ _. (session.new ≡ session.old) ⊎ DoesSome self.old.last session.old session.new) }
+    {
+        let word = self.with_marks(word);
+        let next = self.obey_word(alloc, session, &word, answer);
+        self.forget_met(session, &word);
+        next
+    }
+
+    /// Forgets the marks for once that are met where the session is, behind the word that goes on to them.
+    fn forget_met(&mut self, session: &Session, word: &Word)
+        ensures { self.new.last ≡ self.old.last }
+    {
+        if let Word::ToMark(_) = word {
+            self.marks.forget_met(session);
+        }
+    }
+
+    /// Obeys a word.
+    fn obey_word(
+        &mut self,
+        alloc: Global,
+        session: &mut Session,
+        word: &Word,
+        answer: &mut String,
+    ) -> Result<Next, AllocError>
+        requires { IsInRange word.now }
+        ensures done { IfOk result (λ next. Obeys self.old.last session.old session.new next) }
+        ensures failed { IfErr result (λ _. (session.new ≡ session.old) ⊎ DoesSome self.old.last session.old session.new) }
+    {
+        self.answer(alloc, session, word, answer)
     }
 
     /// Does what a word asks for, and writes its answer.
@@ -225,7 +341,16 @@ impl Debugger {
                 answer,
             ),
             Word::Key(keys) => self.type_in(alloc, session, word, keys, answer),
+            Word::ToMark(marks) => self.go_on(alloc, session, word, marks, answer),
+            Word::Finish => self.finish(alloc, session, word, answer),
             Word::Nothing
+            | Word::Callers { .. }
+            | Word::Listing { .. }
+            | Word::Numbers { .. }
+            | Word::Value(_)
+            | Word::Marks
+            | Word::Mark { .. }
+            | Word::Delete { .. }
             | Word::Where { .. }
             | Word::Registers { .. }
             | Word::Memory { .. }
@@ -312,6 +437,62 @@ impl Debugger {
             session.old session.new (string_bytes answer.old) (string_bytes answer.new)) }
     {
         let journey = motion::next(session, EVENTS_MOST);
+        self.tell(alloc, session, word, &journey, answer)
+    }
+
+    /// Sends Runs up to the first that meets one of these marks.
+    fn go_on(
+        &mut self,
+        alloc: Global,
+        session: &mut Session,
+        word: &Word,
+        marks: &Marks,
+        answer: &mut String,
+    ) -> Result<(), AllocError>
+        ensures done { Searches (meets_marks marks.now.items) session.old session.new }
+        ensures told { OnOk result
+            (SearchTells self.old.last self.new.last word.now (meets_marks marks.now.items)
+            session.old session.new (string_bytes answer.old) (string_bytes answer.new)) }
+    {
+        let journey = motion::to_mark(session, EVENTS_MOST, marks);
+        self.tell(alloc, session, word, &journey, answer)
+    }
+
+    /// Sends Runs up to the end of the function in which the process that runs is.
+    fn finish(
+        &mut self,
+        alloc: Global,
+        session: &mut Session,
+        word: &Word,
+        answer: &mut String,
+    ) -> Result<(), AllocError>
+        ensures done { Finishes session.old session.new }
+        ensures told { OnOk result
+            (FinishTells self.old.last self.new.last word.now session.old session.new
+            (string_bytes answer.old) (string_bytes answer.new)) }
+    {
+        let aim = motion::finish_aim(session, self.sources.as_ref());
+        self.leave(alloc, session, word, aim, answer)
+    }
+
+    /// Sends Runs up to an aim; none where there is none, since it isn't known.
+    fn leave(
+        &mut self,
+        alloc: Global,
+        session: &mut Session,
+        word: &Word,
+        aim: Option<Aim>,
+        answer: &mut String,
+    ) -> Result<(), AllocError>
+        ensures done { SearchesAim aim session.old session.new }
+        ensures told { OnOk result
+            (AimTells self.old.last self.new.last word.now aim session.old session.new
+            (string_bytes answer.old) (string_bytes answer.new)) }
+    {
+        let Some(aim) = aim else {
+            return show_no_return(answer);
+        };
+        let journey = motion::run_to(session, EVENTS_MOST, &aim);
         self.tell(alloc, session, word, &journey, answer)
     }
 
@@ -490,6 +671,7 @@ impl Debugger {
             Word::Frames { frame } => show_frames(alloc, session, *frame, answer),
             Word::Pipe => show_pipes(session, answer),
             Word::Console => show_console(session, answer),
+            Word::Value(value) => show_value(*value, answer),
             Word::Events { from } => show_events(session, *from, answer),
             Word::Trace { count } => show_trace(session, *count, answer),
             Word::Help { topic } => show_help(*topic, answer),
@@ -501,6 +683,25 @@ impl Debugger {
                 count,
                 pid,
             } => self.show_memory_of(session, *pid, *address, *count, answer),
+            Word::Numbers {
+                from,
+                count,
+                size,
+                pid,
+            } => self.show_numbers_of(session, *pid, *from, *size, *count, answer),
+            Word::Callers { pid } => self.show_calls_of(alloc, session, *pid, answer),
+            Word::Listing { from, count, pid } => {
+                self.show_listing_of(alloc, session, *pid, *from, *count, answer)
+            }
+            Word::Marks | Word::Mark { .. } | Word::Delete { .. } => {
+                see_to_marks(
+                    &mut self.marks,
+                    session,
+                    self.sources.as_ref(),
+                    word,
+                    answer,
+                )
+            }
             _ => Ok(()),
         }
     }
@@ -554,6 +755,66 @@ impl Debugger {
     {
         match self.focus(session, named) {
             Some(pid) => show_pages(alloc, session, pid, from, answer),
+            None => show_nobody(answer),
+        }
+    }
+
+    /// Writes the calls that led the process that a word looks at to where it is.
+    fn show_calls_of(
+        &self,
+        alloc: Global,
+        session: &Session,
+        named: Option<Pid>,
+        answer: &mut String,
+    ) -> Result<(), AllocError>
+        ensures { OnOk result
+            (Writes (string_bytes answer.old) (string_bytes answer.new)
+            (IsOfFocus self.now.last session.now named (λ p. IsProcessText session.now p (process_at session.now.machine.world p)))) }
+    {
+        let Some(pid) = self.focus(session, named) else {
+            return show_nobody(answer);
+        };
+        let told = told_calls(alloc, session, self.sources.as_ref(), pid)?;
+        show_process(session, pid, told.as_str(), answer)
+    }
+
+    /// Writes so many instructions of the process that a word looks at, from an address on.
+    fn show_listing_of(
+        &self,
+        alloc: Global,
+        session: &Session,
+        named: Option<Pid>,
+        from: u64,
+        count: u32,
+        answer: &mut String,
+    ) -> Result<(), AllocError>
+        ensures { OnOk result
+            (Writes (string_bytes answer.old) (string_bytes answer.new)
+            (IsOfFocus self.now.last session.now named (λ p. IsProcessText session.now p (process_at session.now.machine.world p)))) }
+    {
+        let Some(pid) = self.focus(session, named) else {
+            return show_nobody(answer);
+        };
+        let told = listed_from(alloc, session, self.sources.as_ref(), pid, from, count)?;
+        show_process(session, pid, told.as_str(), answer)
+    }
+
+    /// Writes so many numbers of the process that a word looks at, from an address on.
+    fn show_numbers_of(
+        &self,
+        session: &Session,
+        named: Option<Pid>,
+        from: u64,
+        size: Size,
+        count: u32,
+        answer: &mut String,
+    ) -> Result<(), AllocError>
+        ensures { OnOk result
+            (Writes (string_bytes answer.old) (string_bytes answer.new)
+            (IsOfFocus self.now.last session.now named (λ p text. text ≡ numbers_shown session.now size p from count))) }
+    {
+        match self.focus(session, named) {
+            Some(pid) => show_numbers(session, pid, from, size, count, answer),
             None => show_nobody(answer),
         }
     }

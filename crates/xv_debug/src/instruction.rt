@@ -4,7 +4,7 @@ ghost use Rattle.xv_session.specs.Looking.{word_at};
 ghost use Rattle.xv_debug.specs.Instructions.{instruction_text};
 
 use rv64i_core::decode;
-use std::alloc::AllocError;
+use std::alloc::{AllocError, Global};
 use uasm_text::{InstructionText, text_at};
 use xk_base::Pid;
 use xv_machine::Machine;
@@ -64,7 +64,15 @@ fn show_instruction(
     }
 }
 
-/// Writes the lines of so many instructions of a process from an address on, of which the first is marked. Those behind
+/// The mark before the instruction at an address: an arrow, if it is the next one of the process.
+fn mark_at(session: &Session, pid: Pid, address: u64) -> &'static str {
+    match session.machine().registers(pid) {
+        Some(regs) if regs.pc() == address => "=>",
+        _ => "  ",
+    }
+}
+
+/// Writes the lines of so many instructions of a process from an address on, and marks the one that is next. Those behind
 /// 2^64 are left out.
 pub(crate) fn list(
     session: &Session,
@@ -78,7 +86,8 @@ pub(crate) fn list(
 {
     let mut address = from;
     for place in 0..count {
-        let mark = if place == 0 { "=>" } else { "  " };
+        let _ = place;
+        let mark = mark_at(session, pid, address);
         show_instruction(session, sources, pid, address, mark, answer)?;
         let Some(next) = address.checked_add(4) else {
             return Ok(());
@@ -86,4 +95,19 @@ pub(crate) fn list(
         address = next;
     }
     Ok(())
+}
+
+/// The lines of so many instructions of a process from an address on, or from the one whose four bytes have it; none if
+/// it doesn't live.
+pub(crate) fn listed_from(
+    alloc: Global,
+    session: &Session,
+    sources: Option<&Sources>,
+    pid: Pid,
+    from: u64,
+    count: u32,
+) -> Result<String, AllocError> {
+    let mut lines = String::new(alloc);
+    list(session, sources, pid, from / 4 * 4, count, &mut lines)?;
+    Ok(lines)
 }

@@ -7,12 +7,15 @@
 //! shows comes from calls that are proved to tell what the machine holds (`debug_views`, `xv_report`).
 #![tactic(auto)]
 
+mod callers;
 mod calls;
 mod debugger;
 mod focus;
 mod happened;
 mod instruction;
+mod kept;
 mod motion;
+mod names;
 mod pipes;
 mod processes;
 mod shown_output;

@@ -7,7 +7,9 @@
 //! (`specs/motion/Effects.antt`): no event is sent that isn't kept, and the machine is what they lead to.
 
 mod aiming;
+mod finishing;
 mod journey;
+mod marks;
 mod output;
 mod resting;
 mod rounds;
@@ -15,8 +17,11 @@ mod running;
 mod sending;
 mod stretches;
 
+pub(crate) use aiming::Aim;
+pub(crate) use finishing::finish_aim;
 pub(crate) use journey::{Journey, Stop};
+pub(crate) use marks::{is_at_mark, to_mark};
 pub(crate) use output::Output;
 pub(crate) use rounds::play_rounds;
-pub(crate) use running::{next, step, until};
+pub(crate) use running::{next, run_to, step, until};
 pub(crate) use sending::{go_back, send_often, type_keys};

@@ -147,30 +147,39 @@ fn listed(
     Ok(lines)
 }
 
-/// Writes what a process does that is there, and so many instructions from its pc on.
-fn show_there(
+/// The same of the process that a word looks at; none if there is none.
+fn listed_of(
     alloc: Global,
     session: &Session,
     sources: Option<&Sources>,
-    pid: Pid,
+    focus: &Option<Pid>,
     count: u32,
+) -> Result<String, AllocError> {
+    match focus {
+        Some(pid) => listed(alloc, session, sources, *pid, count),
+        None => Ok(String::new(alloc)),
+    }
+}
+
+/// Writes what a process does that is there, and what else is told of it.
+fn show_there(
+    session: &Session,
+    pid: Pid,
+    told: &str,
     answer: &mut String,
 ) -> Result<(), AllocError>
     ensures { OnOk result
         (Writes (string_bytes answer.old) (string_bytes answer.new) (IsThereText session.now pid)) }
 {
-    let instructions = listed(alloc, session, sources, pid, count)?;
     show_head(session, pid, answer)?;
-    answer.push_str(instructions.as_str())
+    answer.push_str(told)
 }
 
-/// Writes what a process does, and so many instructions from its pc on.
-fn show_process(
-    alloc: Global,
+/// Writes what a process does, and what else is told of it, if it is there.
+pub(crate) fn show_process(
     session: &Session,
-    sources: Option<&Sources>,
     pid: Pid,
-    count: u32,
+    told: &str,
     answer: &mut String,
 ) -> Result<(), AllocError>
     ensures { OnOk result
@@ -178,25 +187,23 @@ fn show_process(
         (IsProcessText session.now pid (process_at session.now.machine.world pid))) }
 {
     match session.machine().process(pid) {
-        Some(_state) => show_there(alloc, session, sources, pid, count, answer),
+        Some(_state) => show_there(session, pid, told, answer),
         None => show_no_process(pid, answer),
     }
 }
 
-/// Writes what the process does that a word looks at, if there is one.
+/// Writes what the process does that a word looks at, if there is one, and what else is told of it.
 fn show_looked_at(
-    alloc: Global,
     session: &Session,
-    sources: Option<&Sources>,
     focus: Option<Pid>,
-    count: u32,
+    told: &str,
     answer: &mut String,
 ) -> Result<(), AllocError>
     ensures { OnOk result
         (Writes (string_bytes answer.old) (string_bytes answer.new) (IsFocusText session.now focus)) }
 {
     match focus {
-        Some(pid) => show_process(alloc, session, sources, pid, count, answer),
+        Some(pid) => show_process(session, pid, told, answer),
         None => answer.push_str("there is no process\n"),
     }
 }
@@ -213,18 +220,16 @@ fn if_nobody(current: Option<Pid>) -> &'static str
 
 /// Writes whether nobody runs, and what the process does that a word looks at.
 fn show_going(
-    alloc: Global,
     session: &Session,
-    sources: Option<&Sources>,
     focus: Option<Pid>,
-    count: u32,
+    told: &str,
     answer: &mut String,
 ) -> Result<(), AllocError>
     ensures { OnOk result
         (Writes (string_bytes answer.old) (string_bytes answer.new) (IsGoingText session.now focus)) }
 {
     answer.push_str(if_nobody(session.machine().current()))?;
-    show_looked_at(alloc, session, sources, focus, count, answer)
+    show_looked_at(session, focus, told, answer)
 }
 
 /// Writes that the machine has halted.
@@ -232,6 +237,23 @@ fn show_halted(status: i32, answer: &mut String) -> Result<(), AllocError>
     ensures { OnOk result (string_bytes answer.new ≡ string_bytes answer.old ++ halted_text status) }
 {
     writeln!(answer, "the machine has halted, with status {status}")
+}
+
+/// Writes where the run is, what the process does that a word looks at, and what else is told of it.
+fn show_at(
+    session: &Session,
+    focus: Option<Pid>,
+    told: &str,
+    answer: &mut String,
+) -> Result<(), AllocError>
+    ensures { OnOk result
+        (Writes (string_bytes answer.old) (string_bytes answer.new) (IsWhereText session.now focus)) }
+{
+    show_place(session, answer)?;
+    match session.machine().halted() {
+        Some(status) => show_halted(status, answer),
+        None => show_going(session, focus, told, answer),
+    }
 }
 
 /// Writes where the run is, what the process does that a word looks at, and so many instructions from its pc on.
@@ -246,11 +268,8 @@ pub(crate) fn show_where(
     ensures { OnOk result
         (Writes (string_bytes answer.old) (string_bytes answer.new) (IsWhereText session.now focus)) }
 {
-    show_place(session, answer)?;
-    match session.machine().halted() {
-        Some(status) => show_halted(status, answer),
-        None => show_going(alloc, session, sources, focus, count, answer),
-    }
+    let told = listed_of(alloc, session, sources, &focus, count)?;
+    show_at(session, focus, told.as_str(), answer)
 }
 
 /// The pid of a parent; 0 if there is none.

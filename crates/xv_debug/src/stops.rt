@@ -40,6 +40,8 @@ fn show_done(word: &Word, answer: &mut String) -> Result<(), AllocError>
     match word {
         Word::Until(_) => show_not_yet(answer),
         Word::Next => show_not_yet(answer),
+        Word::Finish => show_not_yet(answer),
+        Word::ToMark(_) => show_not_yet(answer),
         _ => Ok(()),
     }
 }

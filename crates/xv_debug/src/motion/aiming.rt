@@ -15,7 +15,7 @@ use xv_session::{NextStep, next_step};
 /// Convention").
 const RETURN_ADDRESS: u8 = 1;
 
-const STACK_POINTER: u8 = 2;
+pub(crate) const STACK_POINTER: u8 = 2;
 
 /// What Runs are sent for.
 #[derive(Clone, Copy)]

@@ -2,11 +2,10 @@
 ghost use Rattle.std.specs.Prelude.{◌≡◌, ◌≢◌, ◌≤◌, option_map};
 ghost use Rattle.xv_machine.specs.Events.{outcome_of};
 ghost use Rattle.xv_session.specs.Recorded.{running_of};
-ghost use Rattle.xv_session.specs.Until.{meets};
 ghost use Rattle.xv_debug.specs.motion.Aims.{aim_in};
 ghost use Rattle.xv_debug.specs.motion.Effects.{AddsRuns};
 ghost use Rattle.xv_debug.specs.motion.Ran.{Ran};
-ghost use Rattle.xv_debug.specs.motion.Reaching.{IsRefusedBy, Reaches, meets_aim};
+ghost use Rattle.xv_debug.specs.motion.Reaching.{IsRefusedBy, Reaches, meets_aim, meets_condition};
 ghost use Rattle.xv_debug.specs.motion.Resting.{RestsIf};
 
 use crate::motion::aiming::{Aim, aim_in, is_met};
@@ -61,7 +60,7 @@ pub(crate) fn next(session: &mut Session, most: u32) -> Journey
 }
 
 /// Sends Runs up to the aim, so many at most, and none where nobody may run.
-fn run_to(session: &mut Session, most: u32, aim: &Aim) -> Journey
+pub(crate) fn run_to(session: &mut Session, most: u32, aim: &Aim) -> Journey
     ensures added { AddsRuns result.sent session.old session.new }
     ensures within { result.sent ≤ most }
     ensures all { result.stop ≡ Stop.Done → result.sent ≡ most }
@@ -95,7 +94,7 @@ pub(crate) fn until(session: &mut Session, most: u32, condition: &Condition) -> 
     ensures added { AddsRuns result.sent session.old session.new }
     ensures within { result.sent ≤ most }
     ensures all { result.stop ≡ Stop.Done → result.sent ≡ most }
-    ensures reaches { Reaches (meets condition.now) result.stop result.sent (option_map outcome_of result.last) (running_of session.old) (running_of session.new) }
+    ensures reaches { Reaches (meets_condition condition.now) result.stop result.sent (option_map outcome_of result.last) (running_of session.old) (running_of session.new) }
     ensures rests { RestsIf result.stop session.new.machine.world }
     ensures refused { IsRefusedBy result.stop session.new }
 {

@@ -11,7 +11,7 @@ returns c =
     let old = string_bytes c.args.answer.now in
     let mid = string_bytes c.show_head.new.answer in
     let new = string_bytes c.push_str.new.self in
-    let instructions = c.as_str.result.now in
+    let instructions = c.args.told.now in
     shows-text c.push_str.result (IsThereText s p) old new (process_head s p ++ instructions) (instructions, refl)
     (shown_behind c.push_str.result old mid new (process_head s p) instructions c.in_ok-show_head.ensures
     (pushed c.push_str.result new (mid ++ instructions) mid c.push_str.ensures.bytes))

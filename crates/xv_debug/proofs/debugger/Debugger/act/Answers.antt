@@ -2,8 +2,9 @@ use Rattle.std.proofs.Common.{OnOk, length, map, replicate, string_bytes, subst,
 use Rattle.kernel_spec.specs.runs.Run as runs
 use Rattle.debug_words.specs.declared.vocabulary.Word.{Word}
 use Rattle.xv_debug.specs.motion.Aims.{aim_in}
+use Rattle.xv_debug.specs.motion.Marks.{meets_marks}
 use Rattle.xv_debug.specs.motion.Reaching.{meets_aim}
-use Rattle.xv_debug.specs.AnswerText.{Answers, GoalTells, RoundsTell, SearchTells, SendsTell, StepTells}
+use Rattle.xv_debug.specs.AnswerText.{Answers, FinishTells, GoalTells, RoundsTell, SearchTells, SendsTell, StepTells}
 use Rattle.xv_debug.proofs.debugger.Debugger.act.Goals as goal
 
 pub returns-in-Step-clause-told : goal.returns-in-Step-clause-told
@@ -82,3 +83,25 @@ returns-in-Key-clause-told c =
     let after = string_bytes c.type_in.new.answer in
     subst (λ (w : Word). OnOk c.type_in.result (Answers last seen c.args.self.now.shown w old new before after)) (sym c.in-Key.is)
     (subst (λ (w : Word). OnOk c.type_in.result (SendsTell last seen w (λ n. map runs.Key (take n c.in-Key.keys.items)) (length c.in-Key.keys.items) old new before after)) c.in-Key.is c.type_in.ensures.told)
+
+pub returns-in-ToMark-clause-told : goal.returns-in-ToMark-clause-told
+returns-in-ToMark-clause-told c =
+    let old = c.args.session.now in
+    let last = c.args.self.now.last in
+    let seen = c.go_on.new.self.last in
+    let new = c.go_on.new.session in
+    let before = string_bytes c.args.answer.now in
+    let after = string_bytes c.go_on.new.answer in
+    subst (λ (w : Word). OnOk c.go_on.result (Answers last seen c.args.self.now.shown w old new before after)) (sym c.in-ToMark.is)
+    (subst (λ (w : Word). OnOk c.go_on.result (SearchTells last seen w (meets_marks c.in-ToMark.marks.items) old new before after)) c.in-ToMark.is c.go_on.ensures.told)
+
+pub returns-in-Finish-clause-told : goal.returns-in-Finish-clause-told
+returns-in-Finish-clause-told c =
+    let old = c.args.session.now in
+    let last = c.args.self.now.last in
+    let seen = c.finish.new.self.last in
+    let new = c.finish.new.session in
+    let before = string_bytes c.args.answer.now in
+    let after = string_bytes c.finish.new.answer in
+    subst (λ (w : Word). OnOk c.finish.result (Answers last seen c.args.self.now.shown w old new before after)) (sym c.in-Finish.is)
+    (subst (λ (w : Word). OnOk c.finish.result (FinishTells last seen w old new before after)) c.in-Finish.is c.finish.ensures.told)

@@ -2,7 +2,7 @@ use Rattle.std.proofs.Common.{Option, OnOk, option_map, refl, string_bytes, subs
 use Rattle.xv_machine.specs.Events.{outcome_of}
 use Rattle.xv_debug.proofs.Searching.{searches-some}
 use Rattle.std.proofs.lemmas.Result.{on_ok_weaker}
-use Rattle.xv_session.specs.Until.{meets}
+use Rattle.xv_debug.specs.motion.Reaching.{meets_condition}
 use Rattle.xv_session.specs.declared.until.Condition.{Condition}
 use Rattle.xv_debug.specs.AnswerText.{ConditionTells}
 use Rattle.xv_debug.specs.Effects.{Searches}
@@ -29,7 +29,7 @@ returns-clause-told c =
     let j = c.until-journey in
     let old = c.args.session.now in
     let new = j.new.session in
-    let d : Searches (meets c.in-Some.condition) old new = record {
+    let d : Searches (meets_condition c.in-Some.condition) old new = record {
       stop = j.result.stop;
       sent = j.result.sent;
       last = option_map outcome_of j.result.last;

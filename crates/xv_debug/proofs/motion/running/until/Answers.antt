@@ -2,9 +2,8 @@ use Rattle.std.proofs.Common.{◌+◌, ◌∙◌, option_map, sym, subst}
 use Rattle.kernel_spec.specs.runs.Run.{Run}
 use Rattle.xv_machine.specs.Events.{outcome_of}
 use Rattle.xv_session.specs.Recorded.{running_of}
-use Rattle.xv_session.specs.Until.{meets}
 use Rattle.xv_debug.specs.motion.Effects.{AddsRuns}
-use Rattle.xv_debug.specs.motion.Reaching.{Reaches, LastMet}
+use Rattle.xv_debug.specs.motion.Reaching.{Reaches, LastMet, meets_condition}
 use Rattle.xv_debug.specs.declared.motion.journey.Journey.{Journey}
 use Rattle.xv_debug.proofs.Reached.{adds-more, none-more, last-met, found-one}
 use Rattle.xv_debug.proofs.motion.running.until.Goals as goal
@@ -19,7 +18,7 @@ returns-then-met-clause-added c =
 
 pub returns-then-met-clause-reaches : goal.returns-then-met-clause-reaches
 returns-then-met-clause-reaches c =
-    let test = meets c.args.condition.now in
+    let test = meets_condition c.args.condition.now in
     let s = c.in-Ok.search in
     let last = option_map outcome_of s.last in
     let old = running_of c.args.session.now in
@@ -33,7 +32,7 @@ returns-then-met-clause-reaches c =
 
 pub loop-sent-preserved : goal.loop-sent-preserved
 loop-sent-preserved c =
-    let test = meets c.args.condition.now in
+    let test = meets_condition c.args.condition.now in
     let s = c.in-Ok.search in
     let last = option_map outcome_of s.last in
     let old = running_of c.args.session.now in

@@ -6,7 +6,7 @@ use Rattle.xv_machine.specs.Meaning.{Meaning}
 use Rattle.debug_views.proofs.Shown.{shows-behind, shows-text}
 use Rattle.xv_debug.specs.ProcessText.{place_text}
 use Rattle.xv_debug.specs.WhereText.{IsGoingText, IsStateText, IsWhereText, halted_text}
-use Rattle.xv_debug.proofs.processes.show_where.Goals as goal
+use Rattle.xv_debug.proofs.processes.show_at.Goals as goal
 
 pub returns-in-Some : goal.returns-in-Some
 returns-in-Some c =

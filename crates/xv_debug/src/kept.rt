@@ -1,0 +1,201 @@
+//! The marks that are kept, at which `c` stops.
+ghost use Rattle.std.specs.Prelude.{◌≡◌};
+ghost use Rattle.xv_session.specs.Recorded.{running_of};
+ghost use Rattle.xv_debug.specs.Kept.{is_left, marks_of};
+
+use crate::motion::is_at_mark;
+use crate::names::Known;
+use arrayvec::ArrayVec;
+use debug_words::texts::Plain;
+use debug_words::{MARKS_MOST, Mark, Marks};
+use std::alloc::AllocError;
+use xv_report::source_of;
+use xv_session::Session;
+
+/// A mark that is kept.
+#[derive(Clone, Copy, Default)]
+pub(crate) struct Kept {
+    pub number: u32,
+    pub mark: Mark,
+    /// Whether it is kept up to the first time that it is met.
+    pub once: bool,
+}
+
+/// The marks that are kept, in the order in which they were made.
+pub(crate) type KeptList = ArrayVec<Kept, MARKS_MOST>;
+
+/// The marks that are kept, and how many were made.
+#[derive(Drop)]
+pub(crate) struct KeptMarks {
+    kept: KeptList,
+    made: u32,
+}
+
+/// Writes the name of the program at a place.
+fn show_program(known: &Known<'_>, place: usize, answer: &mut String) -> Result<(), AllocError> {
+    match known.session.machine().programs().get(place) {
+        Some(program) => {
+            let name = Plain(program.name.as_slice());
+            write!(answer, " of {name}")
+        }
+        None => Ok(()),
+    }
+}
+
+/// Writes where a mark at an address of a program is.
+fn show_spot(
+    known: &Known<'_>,
+    program: usize,
+    address: u64,
+    answer: &mut String,
+) -> Result<(), AllocError> {
+    let location = source_of(known.sources, known.session, Some(program)).location(address);
+    write!(answer, "before {address:#x}")?;
+    show_program(known, program, answer)?;
+    if location.is_known() {
+        writeln!(answer, ", {location}")
+    } else {
+        writeln!(answer)
+    }
+}
+
+/// Writes a mark with its number.
+fn show_kept(known: &Known<'_>, kept: &Kept, answer: &mut String) -> Result<(), AllocError> {
+    let number = kept.number;
+    let once = if kept.once { ", once" } else { "" };
+    write!(answer, "mark {number}{once}: ")?;
+    match kept.mark {
+        Mark::At { program, address } => show_spot(known, program, address, answer),
+        Mark::Store(address) => writeln!(answer, "behind a store to {address:#x}"),
+    }
+}
+
+/// Whether a mark is kept any longer behind a word that went on to where the session is: it isn't for once, or isn't met.
+fn is_left(session: &Session, kept: &Kept) -> bool
+    ensures { result ≡ is_left (running_of session.now) kept.now }
+{
+    !kept.once || !is_at_mark(session, &kept.mark)
+}
+
+impl KeptMarks {
+    ghost use Rattle.std.specs.Prelude.{◌≡◌, ◌≢◌, ◌∷◌, [], ◌++◌, filter, map, IfSome, IfNone};
+    ghost use Rattle.xv_session.specs.Recorded.{running_of};
+    ghost use Rattle.xv_debug.specs.Kept.{is_left, marks_of};
+
+    /// None yet.
+    pub fn new() -> KeptMarks
+        ensures { result.kept.items ≡ [] }
+    {
+        KeptMarks {
+            kept: ArrayVec::new(),
+            made: 0,
+        }
+    }
+
+    /// Whether there is none.
+    pub fn is_empty(&self) -> bool {
+        self.kept.is_empty()
+    }
+
+    /// Keeps a mark from now on; `None` if there are as many as may be.
+    fn add(&mut self, mark: Mark, once: bool) -> Option<Kept>
+        ensures added { IfSome result (λ kept. self.new.kept.items ≡ self.old.kept.items ++ kept ∷ []) }
+        ensures mark { IfSome result (λ kept. kept.mark ≡ mark) }
+        ensures once { IfSome result (λ kept. kept.once ≡ once) }
+        ensures full { IfNone result (self.new.kept.items ≡ self.old.kept.items) }
+    {
+        let kept = Kept {
+            number: self.made.saturating_add(1),
+            mark,
+            once,
+        };
+        let Ok(()) = self.kept.try_push(kept) else {
+            return None;
+        };
+        self.made = kept.number;
+        Some(kept)
+    }
+
+    /// Keeps a mark from now on, and tells it.
+    pub fn keep(
+        &mut self,
+        known: &Known<'_>,
+        mark: Mark,
+        once: bool,
+        answer: &mut String,
+    ) -> Result<(), AllocError> {
+        match self.add(mark, once) {
+            Some(kept) => show_kept(known, &kept, answer),
+            None => answer.push_str("there are 16 marks, and no more: delete forgets them\n"),
+        }
+    }
+
+    /// Whether there is a mark of this number; of none, whether there is one.
+    fn has(&self, number: Option<u32>) -> bool {
+        let Some(number) = number else {
+            return !self.kept.is_empty();
+        };
+        self.kept
+            .as_slice()
+            .iter()
+            .any(|kept| kept.number == number)
+    }
+
+    /// Forgets the mark of this number, or all.
+    fn forget(&mut self, number: Option<u32>) {
+        let mut left = KeptList::new();
+        if let Some(number) = number {
+            for kept in self.kept.as_slice() {
+                if kept.number != number {
+                    let _ = left.try_push(*kept);
+                }
+            }
+        }
+        self.kept = left;
+    }
+
+    /// Forgets the mark of this number, or all, and tells which are left.
+    pub fn delete(
+        &mut self,
+        known: &Known<'_>,
+        number: Option<u32>,
+        answer: &mut String,
+    ) -> Result<(), AllocError> {
+        if !self.has(number) {
+            return answer.push_str("there is no such mark: break lists them\n");
+        }
+        self.forget(number);
+        self.show(known, answer)
+    }
+
+    /// Forgets those for once that are met where the session is.
+    pub fn forget_met(&mut self, session: &Session) {
+        let mut left = KeptList::new();
+        for kept in self.kept.as_slice() {
+            if is_left(session, kept) {
+                let _ = left.try_push(*kept);
+            }
+        }
+        self.kept = left;
+    }
+
+    /// Writes all of them.
+    pub fn show(&self, known: &Known<'_>, answer: &mut String) -> Result<(), AllocError> {
+        if self.kept.is_empty() {
+            return answer.push_str("there is no mark at which c stops\n");
+        }
+        for kept in self.kept.as_slice() {
+            show_kept(known, kept, answer)?;
+        }
+        Ok(())
+    }
+
+    /// The marks, without their numbers.
+    pub fn marks(&self) -> Marks {
+        let mut marks = Marks::new();
+        for kept in self.kept.as_slice() {
+            let _ = marks.try_push(kept.mark);
+        }
+        marks
+    }
+}

@@ -1,0 +1,71 @@
+//! What `finish` waits for: that the process which runs is back from its function.
+ghost use Rattle.std.specs.Prelude.{◌≡◌, IfSome};
+ghost use Rattle.kcall_core.specs.Observers.{registers_of};
+ghost use Rattle.xv_debug.specs.motion.Finishing.{IsFinishAim, IsReturnTold, return_aim};
+
+use crate::motion::aiming::{Aim, STACK_POINTER};
+use rv64i_core::Regs;
+use xk_base::{Pid, Reg};
+use xv_report::{Callers, ProgramSource, Sources, callers_of, source_of};
+use xv_session::Session;
+
+/// Where the function begins that has an address.
+fn function_start(source: &ProgramSource<'_>, address: u64) -> Option<u64> {
+    let function = source.location(address).function?;
+    Some(address.wrapping_sub(function.offset))
+}
+
+/// Whether the instruction before an address lies in the function that has the pc.
+fn is_inside(source: &ProgramSource<'_>, pc: u64, address: u64) -> bool {
+    match (
+        function_start(source, pc),
+        function_start(source, address.wrapping_sub(4)),
+    ) {
+        (Some(here), Some(there)) => here == there,
+        _ => false,
+    }
+}
+
+/// The address that the last frame tells, or else the one in ra.
+fn by_frame(callers: &Callers) -> Option<u64>
+    ensures { IsReturnTold callers.now result }
+{
+    match callers.frames.get(0) {
+        Some(address) => Some(*address),
+        None => callers.ra,
+    }
+}
+
+/// Where the function returns to in which a process is: the address in ra, if that lies in another function, or else
+/// the one of its frame.
+fn return_address(source: &ProgramSource<'_>, pc: u64, callers: &Callers) -> Option<u64>
+    ensures { IsReturnTold callers.now result }
+{
+    match callers.ra {
+        Some(address) if !is_inside(source, pc, address) => Some(address),
+        _ => by_frame(callers),
+    }
+}
+
+/// That a process with these registers is back at an address.
+fn return_aim(pid: Pid, regs: &Regs, address: u64) -> Aim
+    ensures { result ≡ return_aim pid regs.now address }
+{
+    Aim::Return {
+        pid,
+        pc: address,
+        stack: regs.read(Reg::new(STACK_POINTER)),
+    }
+}
+
+/// What `finish` waits for; `None` where nobody runs, and where it isn't known to which address the function returns.
+pub(crate) fn finish_aim(session: &Session, sources: Option<&Sources>) -> Option<Aim>
+    ensures { IfSome result (IsFinishAim session.now.machine.world) }
+{
+    let pid = session.machine().current()?;
+    let regs = session.machine().registers(pid)?;
+    let callers = callers_of(session.machine(), pid)?;
+    let source = source_of(sources, session, session.program_of(pid));
+    let address = return_address(&source, regs.pc(), &callers)?;
+    Some(return_aim(pid, &regs, address))
+}
