@@ -14,7 +14,7 @@ from verdicts import Verdict
 NAME = "answer.txt"
 ANSWERS = "proofs/law_fails/Answers.antt"
 # What an answer tells beside the law and the event, each a number up to this one.
-NUMBERS = {"process": 64, "call": 99, "argument": 2**64 - 1, "typed": 31, "to send": 32}
+NUMBERS = {"process": 64, "call": 99, "argument": 2**64 - 1, "typed": 127, "to send": 32}
 KEYS = ["law", *NUMBERS, "event"]
 
 MESSAGES = {
