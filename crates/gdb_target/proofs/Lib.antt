@@ -1,4 +1,9 @@
 pub mod Below
+pub mod Coming
+pub mod LastPlaces
+pub mod Telling
 pub mod Turning
 pub mod PlayedOn
 pub mod Sending
+pub mod Shows
+pub mod Stood

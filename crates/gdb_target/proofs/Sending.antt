@@ -8,7 +8,7 @@ use Rattle.xv_machine.specs.Drives.{done_by}
 use Rattle.xv_session.specs.Steps.{AreRunsTo, RunsMade}
 use Rattle.xv_session.specs.declared.running.Running.{Running}
 
-length-events : (list : List (Event × Outcome)) → length (events list) ≡ length list
+pub length-events : (list : List (Event × Outcome)) → length (events list) ≡ length list
 length-events list = length-map list (λ (e : Event × Outcome). e.0)
 
 pub record Count (most sent : ℕ) : Type 0 where

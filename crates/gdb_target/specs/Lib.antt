@@ -1,8 +1,16 @@
+pub mod Came
+pub mod Choices
+pub mod Chosen
+pub mod Forth
 pub mod Found
+pub mod LastHit
 pub mod PlayedBy
 pub mod Rounds
 pub mod SameRun
 pub mod Seen
+pub mod Sent
+pub mod Served
+pub mod Serving
 pub mod Settings
 pub mod Standing
 pub mod Told

@@ -1,20 +1,21 @@
--- Which events the machine gets: rounds, as in xv_run. A round is a key if one is left, so many Runs, a tick, and 32 bytes that are sent.
-use Rattle.std.specs.Prelude.{◌≡◌, ℕ, zero, suc, ◌+◌, ◌-◌, ◌*◌, ◌/◌, ◌%◌, ◌<◌, min, nat_lt, ◌==◌, if◌then◌else◌, List, [], ◌∷◌, ◌++◌, length, slice_index, take, replicate}
-use Rattle.kernel_spec.specs.runs.Run.{Event, Run, Tick, Key, Send}
+-- Which events the machine gets: rounds, as in xv_run.
+use Rattle.std.specs.Prelude.{◌≡◌, ℕ, zero, suc, ◌+◌, ◌-◌, ◌*◌, ◌/◌, ◌%◌, ◌<◌, min, nat_lt, if◌then◌else◌, List, [], ◌∷◌, ◌++◌, length, slice_get, unwrap_or, take, drop, replicate}
+use Rattle.kernel_spec.specs.runs.Run.{Event, Send}
+use Rattle.kernel_spec.specs.runs.Rounds.{round}
 
--- what comes in a round, so many events behind its key
-abbrev pub behind_key : (quantum within : ℕ) → Event
-behind_key quantum within = if nat_lt within quantum then Run else (if within == quantum then Tick else Send)
+-- the event at a place among these; a Send where there are fewer
+abbrev pub event_among : List Event → (place : ℕ) → Event
+event_among list place = unwrap_or (slice_get list place) Send
 
--- what comes in a round that begins with this key
-abbrev pub keyed : (key quantum within : ℕ) → Event
-keyed key quantum within = if within == 0 then Key key else behind_key quantum (within - 1)
+-- the event at a place of a run in which as many rounds have a key as there are keys, and come first. A round with a key has `keyed` events, and each other round `unkeyed`
+abbrev pub event_in : (keys : List ℕ) (quantum keyed unkeyed place : ℕ) → Event
+event_in keys quantum keyed unkeyed place =
+    if nat_lt (place / keyed) (length keys) then event_among (round quantum (drop (place / keyed) keys)) (place % keyed)
+    else event_among (round quantum []) ((place - length keys * keyed) % unkeyed)
 
--- The event at a place of the run: each round with a key has quantum + 34 events, and each round behind those quantum + 33
+-- The event at a place of the run
 abbrev pub event_at : List ℕ → (quantum place : ℕ) → Event
-event_at keys quantum place =
-    if nat_lt (place / (quantum + 34)) (length keys) then keyed (slice_index keys (place / (quantum + 34))) quantum (place % (quantum + 34))
-    else behind_key quantum ((place - length keys * (quantum + 34)) % (quantum + 33))
+event_at keys quantum place = event_in keys quantum (length (round quantum (0 ∷ []))) (length (round quantum [])) place
 
 -- the first events of the run, so many
 abbrev pub first_events : List ℕ → (quantum count : ℕ) → List Event

@@ -63,5 +63,10 @@ IsTold t on.FirstThreads text = ThreadsAreTold (state_of t) text
 IsTold t on.MoreThreads text = text ≡ codes "l"
 IsTold t (on.Part File offset size) text = text ≡ part_of (string_bytes t.path) offset size
 IsTold t on.Malformed text = text ≡ refusal 22
+IsTold t on.ResumeKinds text = text ≡ codes "vCont;c;C;s;S"
+IsTold t on.Offsets text = text ≡ codes "Text=0;Data=0;Bss=0"
+IsTold t on.Attached text = text ≡ codes "1"
+IsTold t on.NoAcks text = text ≡ codes "OK"
+IsTold t on.Detach text = text ≡ codes "OK"
 IsTold t on.Unknown text = text ≡ []
 IsTold t _ text = Unit {0}

@@ -2,16 +2,17 @@
 ghost use Rattle.std.specs.Prelude.{◌≡◌, IfOk, IfSome, IsSome};
 ghost use Rattle.kernel_spec.specs.views.State.{live};
 ghost use Rattle.gdb_packets.specs.Answers.{refusal};
+ghost use Rattle.gdb_target.specs.Chosen as chooses;
 ghost use Rattle.gdb_target.specs.Told as meant;
 
 use crate::documents::REGISTERS;
 use crate::memory::{memory_bytes, register, register_bytes};
 use crate::points::WATCHED_MOST;
-use crate::target::Target;
+use crate::target::{Target, Until};
 use crate::threads::{is_live, live_process, processes};
 use crate::words::described;
 use gdb_packets::{
-    Command, Document, Point, Thread, current_thread, hex_bytes, part, refusal, stop_reply,
+    Command, Document, Point, Resume, Thread, current_thread, hex_bytes, part, refusal, stop_reply,
     thread_list,
 };
 use rv64i_core::Regs;
@@ -97,6 +98,26 @@ fn tell_bytes(alloc: Global, size: u64, bytes: &[u8]) -> Result<Vec<u8>, AllocEr
     hex_bytes(alloc, bytes)
 }
 
+/// Whether a point watches too many bytes.
+fn is_too_long(point: Point, length: u64) -> bool
+    ensures { result ≡ chooses.is_too_long point length }
+{
+    match point {
+        Point::Breakpoint => false,
+        Point::Watchpoint => length > WATCHED_MOST,
+    }
+}
+
+/// Until a step of this process, if there is one.
+fn step_of(pid: Option<Pid>) -> Option<Until>
+    ensures { result ≡ chooses.step_of pid }
+{
+    match pid {
+        Some(pid) => Some(Until::StepOf(pid)),
+        None => None,
+    }
+}
+
 impl Target {
     /// Bytes of the memory of the process that is looked at.
     fn tell_memory(&self, alloc: Global, address: u64, size: u64) -> Result<Vec<u8>, AllocError>
@@ -159,24 +180,59 @@ impl Target {
 
     /// The process that a choice of a thread means: the one that stopped, where none is named; `None` where the one
     /// that is named doesn't live.
-    fn meant_by(&self, thread: Thread) -> Option<Pid> {
+    fn meant_by(&self, thread: Thread) -> Option<Pid>
+        ensures { chooses.IsMeant self.now thread result }
+    {
         match thread {
             Thread::All | Thread::Any => Some(self.stopped.pid),
             Thread::One(number) => live_process(self.run.machine(), number),
         }
     }
 
+    /// The process that was chosen for steps; `None` where it doesn't live.
+    fn chosen_for_steps(&self) -> Option<Pid>
+        ensures lives { IfSome result (λ pid. IsSome (live (meant.state_of self.now) pid)) }
+        ensures is { result ≡ chooses.chosen_for_steps self.now }
+    {
+        if is_live(self.run.machine(), self.stepped) {
+            Some(self.stepped)
+        } else {
+            None
+        }
+    }
+
     /// The process that a step of a thread means: the one that was chosen for it, where none is named; `None` where it
     /// doesn't live.
     pub fn steps(&self, thread: Thread) -> Option<Pid>
-        ensures { IfSome result (λ pid. IsSome (live (meant.state_of self.now) pid)) }
+        ensures lives { IfSome result (λ pid. IsSome (live (meant.state_of self.now) pid)) }
+        ensures means { chooses.IsStepped self.now thread result }
     {
         match thread {
-            Thread::All | Thread::Any if is_live(self.run.machine(), self.stepped) => {
-                Some(self.stepped)
-            }
-            Thread::All | Thread::Any => None,
+            Thread::All | Thread::Any => self.chosen_for_steps(),
             Thread::One(number) => live_process(self.run.machine(), number),
+        }
+    }
+
+    /// Until when a command goes on; `None` if the process that is to step doesn't live.
+    pub fn until(&self, resume: Resume) -> Option<Until>
+        ensures { chooses.IsUntil self.now resume result }
+    {
+        match resume {
+            Resume::Continue => Some(Until::Point),
+            Resume::Step(Thread::All) => Some(Until::AnyStep),
+            Resume::Step(Thread::Any) => step_of(self.steps(Thread::Any)),
+            Resume::Step(Thread::One(number)) => step_of(self.steps(Thread::One(number))),
+        }
+    }
+
+    /// Chooses a process, for commands that go on, or for those that look.
+    fn choose_process(&mut self, pid: Pid, resumes: bool)
+        ensures { self.new ≡ chooses.chosen resumes pid self.old }
+    {
+        if resumes {
+            self.stepped = pid;
+        } else {
+            self.looked_at = pid;
         }
     }
 
@@ -187,16 +243,14 @@ impl Target {
         thread: Thread,
         resumes: bool,
     ) -> Result<Vec<u8>, AllocError>
-        ensures { self.new.run ≡ self.old.run }
+        ensures run { self.new.run ≡ self.old.run }
+        ensures chosen { IfOk result
+            (λ text. chooses.Chooses self.old (Command.Choose thread resumes) self.new text.items) }
     {
         let Some(pid) = self.meant_by(thread) else {
             return refusal(alloc, NO_SUCH);
         };
-        if resumes {
-            self.stepped = pid;
-        } else {
-            self.looked_at = pid;
-        }
+        self.choose_process(pid, resumes);
         text(alloc, b"OK")
     }
 
@@ -208,9 +262,11 @@ impl Target {
         address: u64,
         length: u64,
     ) -> Result<Vec<u8>, AllocError>
-        ensures { self.new.run ≡ self.old.run }
+        ensures run { self.new.run ≡ self.old.run }
+        ensures chosen { IfOk result
+            (λ text. chooses.IsInserted point address length self.old self.new text.items) }
     {
-        if point == Point::Watchpoint && length > WATCHED_MOST {
+        if is_too_long(point, length) {
             return refusal(alloc, MALFORMED);
         }
         self.points.insert(point, address, length)?;
@@ -225,7 +281,9 @@ impl Target {
         address: u64,
         length: u64,
     ) -> Result<Vec<u8>, AllocError>
-        ensures { self.new.run ≡ self.old.run }
+        ensures run { self.new.run ≡ self.old.run }
+        ensures chosen { IfOk result
+            (λ text. chooses.Chooses self.old (Command.Remove point address length) self.new text.items) }
     {
         self.points.remove(point, address, length);
         text(alloc, b"OK")
@@ -274,6 +332,7 @@ impl Target {
     pub fn answer(&mut self, alloc: Global, command: Command) -> Result<Vec<u8>, AllocError>
         ensures told { IfOk result (λ text. meant.IsTold self.old command text.items) }
         ensures run { self.new.run ≡ self.old.run }
+        ensures chosen { IfOk result (λ text. chooses.Chooses self.old command self.new text.items) }
     {
         match command {
             Command::Choose { thread, resumes } => self.choose(alloc, thread, resumes),

@@ -15,6 +15,7 @@ mod answers;
 mod documents;
 pub mod laws;
 mod memory;
+mod outcomes;
 mod places;
 mod played;
 mod points;

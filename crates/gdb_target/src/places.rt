@@ -1,6 +1,8 @@
 //! What there is to see at a place of a run.
-ghost use Rattle.std.specs.Prelude.{◌≡◌, Some, IfSome};
-ghost use Rattle.gdb_target.specs.Standing.{Starts, StandsAt, does_instruction};
+ghost use Rattle.std.specs.Prelude.{◌≡◌, Some, None, IfSome};
+ghost use Rattle.kernel_spec.specs.views.Words.{is_this};
+ghost use Rattle.gdb_target.specs.Standing.{Starts, StandsAt, begins, does_instruction, goes_on, is_place};
+ghost use Rattle.gdb_target.specs.Standing.{stander, stands_at, starter};
 
 use crate::played::{Played, is_run};
 use crate::points::{Points, Watched};
@@ -27,28 +29,73 @@ fn does_instruction(state: &Option<ProcessState>) -> bool
     }
 }
 
+/// Whether a Run lets whoever runs go on: the next event is one, and the machine hasn't halted.
+fn goes_on(run: &Played) -> bool
+    ensures { result ≡ goes_on run.now }
+{
+    is_run(run.next().event) && run.machine().halted().is_none()
+}
+
+/// Whether the process does an instruction by the next event, if it runs.
+fn begins(run: &Played, pid: Pid) -> bool
+    ensures { result ≡ begins run.now pid }
+{
+    goes_on(run) && does_instruction(&run.machine().process(pid))
+}
+
 /// The process that does an instruction by the next event; `None` where the next event is none of an instruction.
 pub(crate) fn starts(run: &Played) -> Option<Pid>
-    ensures { IfSome result (λ pid. Starts run.now pid) }
+    ensures starts { IfSome result (λ pid. Starts run.now pid) }
+    ensures exact { result ≡ starter run.now }
 {
-    let machine = run.machine();
-    let pid = machine.current()?;
-    if is_run(run.next().event) && does_instruction(&machine.process(pid)) {
+    let pid = run.machine().current()?;
+    if begins(run, pid) {
         return Some(pid);
     }
     None
 }
 
+/// Whether it is this process that does an instruction by the next event.
+pub(crate) fn is_starter(run: &Played, wanted: Pid) -> bool
+    ensures { result ≡ is_this wanted (starter run.now) }
+{
+    match starts(run) {
+        Some(pid) => pid.number() == wanted.number(),
+        None => false,
+    }
+}
+
+/// Whether this is the place of the program.
+fn is_place(place: Option<usize>, program: usize) -> bool
+    ensures { result ≡ is_place program place }
+{
+    match place {
+        Some(place) => place == program,
+        None => false,
+    }
+}
+
+/// Whether the process runs this program, and its pc is at a breakpoint.
+fn stands_at(run: &Played, points: &Points, program: usize, pid: Pid) -> bool
+    ensures { result ≡ stands_at run.now program points.now.breakpoints.items pid }
+{
+    let Some(regs) = run.machine().registers(pid) else {
+        return false;
+    };
+    points.is_breakpoint(regs.pc()) && is_place(run.session.program_of(pid), program)
+}
+
 /// The process of this program that stands at a breakpoint, and does the instruction there by the next event.
+#[tactic(auto, using(crate::proofs::Stood::stands_there))]
 pub(crate) fn at_breakpoint(run: &Played, points: &Points, program: usize) -> Option<Pid>
-    ensures { IfSome result (λ pid. StandsAt run.now program points.now.breakpoints.items pid) }
+    ensures stands { IfSome result (λ pid. StandsAt run.now program points.now.breakpoints.items pid) }
+    ensures exact { result ≡ stander run.now program points.now.breakpoints.items }
 {
     let pid = starts(run)?;
-    let regs = run.machine().registers(pid)?;
-    if !points.is_breakpoint(regs.pc()) || run.session.program_of(pid) != Some(program) {
-        return None;
+    if stands_at(run, points, program, pid) {
+        return Some(pid);
     }
-    Some(pid)
+    None
 }
 
 /// What stood in the bytes that are watched, of a process.
@@ -127,15 +174,20 @@ impl Change {
     }
 }
 
-/// The first change of bytes that are watched, of the process that was glimpsed.
+/// The first change of bytes that are watched, of the process that was glimpsed, if the machine hasn't halted.
 pub(crate) fn changed(
     run: &Played,
     points: &Points,
     program: usize,
     before: &Glimpse,
-) -> Option<Change> {
+) -> Option<Change>
+    ensures { IfSome result (λ _. run.now.session.machine.world.turns.halted ≡ None) }
+{
     let pid = before.of?;
     let machine = run.machine();
+    let None = machine.halted() else {
+        return None;
+    };
     if machine.registers(pid).is_none() || run.session.program_of(pid) != Some(program) {
         return None;
     }

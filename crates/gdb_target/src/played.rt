@@ -1,15 +1,15 @@
 //! A run on its way.
-ghost use Rattle.std.specs.Prelude.{◌≡◌, ℕ, ◌+◌, ◌≤◌, ◌<◌, IfOk, IfErr, length, min};
-ghost use Rattle.kernel_spec.specs.runs.Run as runs;
-ghost use Rattle.xv_machine.specs.Events.{event_of};
+ghost use Rattle.std.specs.Prelude.{◌≡◌, ℕ, ◌+◌, ◌≤◌, ◌<◌, None, IfOk, IfErr, IfSome, IsSome, length, min};
+ghost use Rattle.xv_machine.specs.Events.{event_of, outcome_of};
 ghost use Rattle.gdb_target.specs.Rounds.{event_at};
 ghost use Rattle.gdb_target.specs.PlayedBy.{IsPlayedBy, is_run};
 
+use crate::outcomes::came;
 use crate::rounds::{Next, Rounds};
 use std::alloc::Global;
 use xk_base::{BootError, Program};
 use xv_machine::{Config, Event, Machine, Outcome};
-use xv_session::{Runs, Session, SessionError};
+use xv_session::{Session, SessionError};
 
 /// Whether an event is Run.
 pub(crate) fn is_run(event: Event) -> bool
@@ -34,6 +34,7 @@ impl Played {
     ghost use Rattle.std.specs.Prelude.{map};
     ghost use Rattle.kernel_spec.specs.views.State.{named_file};
     ghost use Rattle.xv_session.specs.Answers.{IsNew};
+    ghost use Rattle.gdb_target.specs.Came.{Comes};
     ghost use Rattle.gdb_target.specs.SameRun.{beginning};
     ghost use Rattle.gdb_target.specs.Standing.{NextIsRun};
 
@@ -86,6 +87,7 @@ impl Played {
     /// Those of [`Session::send`]: nothing is sent.
     pub fn send(&mut self) -> Result<Outcome, SessionError>
         ensures one { IfOk result (λ _. length self.new.session.events ≡ length self.old.session.events + 1) }
+        ensures comes { IfOk result (λ o. Comes self.old self.new (outcome_of o)) }
         ensures refused { IfErr result (λ _. self.new.session ≡ self.old.session) }
         ensures same { beginning self.new ≡ beginning self.old }
     {
@@ -94,27 +96,33 @@ impl Played {
         Ok(outcome)
     }
 
-    /// Sends Runs as long as the next event is one, `most` at most, as [`Session::run`] does.
+    /// Sends Runs as long as the next event is one, `most` at most, as [`Session::run`] does, and tells what came of the
+    /// last.
     ///
     /// # Errors
     ///
     /// Those of [`Session::run`]: nothing is sent.
-    pub fn run(&mut self, most: u32) -> Result<Runs, SessionError>
-        ensures sent { IfOk result (λ runs. length self.new.session.events ≡ length self.old.session.events + runs.sent) }
-        ensures within { IfOk result (λ runs. runs.sent ≤ most) }
-        ensures some { IfOk result (λ runs. 0 < most → NextIsRun self.old → 0 < runs.sent) }
+    pub fn run(&mut self, most: u32) -> Result<Option<Outcome>, SessionError>
+        ensures comes { IfOk result (λ o. IfSome o (λ c. Comes self.old self.new (outcome_of c))) }
+        ensures more { IfOk result (λ o. IfSome o (λ _. length self.old.session.events < length self.new.session.events)) }
+        ensures within { length self.new.session.events ≤ length self.old.session.events + most }
+        ensures some { IfOk result (λ o. 0 < most → NextIsRun self.old → IsSome o) }
         ensures refused { IfErr result (λ _. self.new.session ≡ self.old.session) }
         ensures same { beginning self.new ≡ beginning self.old }
     {
         let next = self.next();
-        if !is_run(next.event) {
-            return Ok(Runs {
-                sent: 0,
-                last: None,
-            });
+        if most == 0 {
+            return Ok(None);
         }
+        if !is_run(next.event) {
+            return Ok(None);
+        }
+        let current = self.machine().current();
         let runs = self.session.run(most.min(next.count))?;
-        Ok(runs)
+        let Some(outcome) = came(runs.last, current) else {
+            unreachable!();
+        };
+        Ok(Some(outcome))
     }
 
     /// Goes back to a place of the run: its machine is then what it was there. If it has got fewer events, it stays

@@ -1,10 +1,13 @@
 //! Going back.
-ghost use Rattle.std.specs.Prelude.{◌≡◌, ◌≤◌, ◌<◌, IfOk, IfSome, length};
+ghost use Rattle.std.specs.Prelude.{◌≡◌, ℕ, ◌≤◌, ◌<◌, IfOk, IfSome, length};
 ghost use Rattle.gdb_target.specs.Found.{IsBefore, StandsFor, trapped};
+ghost use Rattle.gdb_target.specs.Choices.{choices};
+ghost use Rattle.gdb_target.specs.LastHit.{GoesBackToLast, GoesForth, IsHitAt, IsLastOf, IsPointHit};
+ghost use Rattle.gdb_target.specs.LastHit.{Looked, LooksFrom, later, step_hit};
 ghost use Rattle.gdb_target.specs.Standing.{Starts};
 ghost use Rattle.gdb_target.specs.SameRun.{beginning};
 
-use crate::places::{at_breakpoint, changed, starts, watched_now};
+use crate::places::{Change, at_breakpoint, changed, is_starter, starts, watched_now};
 use crate::played::is_run;
 use crate::target::{Stopped, Target};
 use gdb_packets::StopReason;
@@ -18,7 +21,7 @@ const FIRST_WINDOW: u64 = 1024;
 /// How many times as far is looked each time.
 const WINDOW_GROWTH: u64 = 16;
 
-/// How often it is looked further back, so that all of a run is.
+/// How often it is looked further back, before all of a run is.
 const WINDOWS: u32 = 16;
 
 /// What is looked for, back in the run.
@@ -40,48 +43,82 @@ struct Hit {
     watched: Option<u64>,
 }
 
+/// What stood at a place, if the process was about to do an instruction there.
+fn step_hit(stood: bool, place: u64, pid: Pid) -> Option<Hit>
+    ensures { result ≡ step_hit stood place pid }
+{
+    if !stood {
+        return None;
+    }
+    let watched = None;
+    Some(Hit {
+        place,
+        pid,
+        watched,
+    })
+}
+
+/// What is told of a place: a change of watched bytes by the next event, or else the process that stood at a breakpoint.
+fn point_hit(place: u64, stood: Option<Pid>, change: Option<Change>) -> Option<Hit>
+    ensures { IsPointHit place stood result }
+{
+    if let Some(change) = change {
+        return Some(Hit {
+            place,
+            pid: change.pid,
+            watched: Some(change.address),
+        });
+    }
+    let Some(pid) = stood else {
+        return None;
+    };
+    step_hit(true, place, pid)
+}
+
+/// The later of two: the one behind, if there is one.
+fn later(before: Option<Hit>, behind: Option<Hit>) -> Option<Hit>
+    ensures { result ≡ later before behind }
+{
+    match behind {
+        Some(hit) => Some(hit),
+        None => before,
+    }
+}
+
 impl Target {
     /// Sends the next event; so many Runs at once, if nobody runs, as lie before the place `end`.
     fn send_one(&mut self, end: u64) -> Result<(), SessionError>
         requires { length self.old.run.session.events < end }
-        ensures more { IfOk result (λ _. length self.old.run.session.events < length self.new.run.session.events) }
+        ensures forth { IfOk result (λ _. GoesForth self.old self.new) }
         ensures within { length self.new.run.session.events ≤ end }
         ensures same { beginning self.new.run ≡ beginning self.old.run }
+        ensures choices { choices self.new ≡ choices self.old }
     {
         let next = self.run.next();
         if !is_run(next.event) {
-            let _ = self.run.send()?;
+            let _outcome = self.run.send()?;
             return Ok(());
         }
-        let left = end - self.run.at();
-        let most = if self.run.machine().current().is_some() {
-            1
-        } else {
-            u64::from(next.count).min(left) as u32
+        let most = self.runs_before(next.count, end);
+        let Some(_outcome) = self.run.run(most)? else {
+            unreachable!();
         };
-        let _ = self.run.run(most)?;
         Ok(())
     }
 
     /// Sends the next event, and tells whether the process was about to do an instruction.
     fn look_for_step(&mut self, pid: Pid, place: u64, end: u64) -> Result<Option<Hit>, SessionError>
         requires { length self.old.run.session.events < end }
-        ensures more { IfOk result (λ _. length self.old.run.session.events < length self.new.run.session.events) }
+        ensures forth { IfOk result (λ _. GoesForth self.old self.new) }
         ensures within { length self.new.run.session.events ≤ end }
         ensures hit { IfOk result (λ h. IfSome h (λ found. found.place ≡ place)) }
+        ensures told { IfOk result (λ h. IsHitAt (Back.StepOf pid) place self.old h) }
         ensures same { beginning self.new.run ≡ beginning self.old.run }
+        ensures choices { choices self.new ≡ choices self.old }
     {
-        let stood = starts(&self.run) == Some(pid);
+        let stood = is_starter(&self.run, pid);
         self.send_one(end)?;
-        if !stood {
-            return Ok(None);
-        }
-        let watched = None;
-        Ok(Some(Hit {
-            place,
-            pid,
-            watched,
-        }))
+        Ok(step_hit(stood, place, pid))
     }
 
     /// Sends the next event, and tells whether a process stood at a breakpoint before it, or changed watched bytes.
@@ -92,32 +129,20 @@ impl Target {
         end: u64,
     ) -> Result<Option<Hit>, SessionError>
         requires { length self.old.run.session.events < end }
-        ensures more { IfOk result (λ _. length self.old.run.session.events < length self.new.run.session.events) }
+        ensures forth { IfOk result (λ _. GoesForth self.old self.new) }
         ensures within { length self.new.run.session.events ≤ end }
         ensures hit { IfOk result (λ h. IfSome h (λ found. found.place ≡ place)) }
+        ensures told { IfOk result (λ h. IsHitAt Back.Point place self.old h) }
         ensures same { beginning self.new.run ≡ beginning self.old.run }
+        ensures choices { choices self.new ≡ choices self.old }
     {
         let stood = at_breakpoint(&self.run, &self.points, self.program);
         let Ok(before) = watched_now(alloc, &self.run, &self.points, self.program) else {
             return Err(SessionError::Memory);
         };
         self.send_one(end)?;
-        if let Some(change) = changed(&self.run, &self.points, self.program, &before) {
-            return Ok(Some(Hit {
-                place,
-                pid: change.pid,
-                watched: Some(change.address),
-            }));
-        }
-        let Some(pid) = stood else {
-            return Ok(None);
-        };
-        let watched = None;
-        Ok(Some(Hit {
-            place,
-            pid,
-            watched,
-        }))
+        let change = changed(&self.run, &self.points, self.program, &before);
+        Ok(point_hit(place, stood, change))
     }
 
     /// Sends the next event, and tells whether what is looked for stood before it, at this place.
@@ -129,10 +154,12 @@ impl Target {
         end: u64,
     ) -> Result<Option<Hit>, SessionError>
         requires { length self.old.run.session.events < end }
-        ensures more { IfOk result (λ _. length self.old.run.session.events < length self.new.run.session.events) }
+        ensures forth { IfOk result (λ _. GoesForth self.old self.new) }
         ensures within { length self.new.run.session.events ≤ end }
         ensures hit { IfOk result (λ h. IfSome h (λ found. found.place ≡ place)) }
+        ensures told { IfOk result (λ h. IsHitAt back.now place self.old h) }
         ensures same { beginning self.new.run ≡ beginning self.old.run }
+        ensures choices { choices self.new ≡ choices self.old }
     {
         match back {
             Back::StepOf(pid) => self.look_for_step(*pid, place, end),
@@ -149,38 +176,65 @@ impl Target {
     ) -> Result<Option<Hit>, SessionError>
         requires { length self.old.run.session.events ≤ end }
         ensures hit { IfOk result (λ h. IfSome h (λ found. found.place < end)) }
+        ensures last { IfOk result (λ h. (n : ℕ) × Looked back.now n self.old self.new h) }
         ensures end { IfOk result (λ _. length self.new.run.session.events ≡ end) }
         ensures same { beginning self.new.run ≡ beginning self.old.run }
+        ensures choices { choices self.new ≡ choices self.old }
     {
         let mut last = None;
         'places: while self.run.at() < end {
             let place = self.run.at();
-            if let Some(hit) = self.look(alloc, back, place, end)? {
-                last = Some(hit);
-            }
+            let hit = self.look(alloc, back, place, end)?;
+            last = later(last, hit);
         }
         Ok(last)
+    }
+
+    /// The last place, from this one on and before here, at which what is looked for stood. The run is then where it
+    /// was.
+    fn last_from(
+        &mut self,
+        alloc: Global,
+        back: &Back,
+        begin: u64,
+    ) -> Result<Option<Hit>, SessionError>
+        requires { begin ≤ length self.old.run.session.events }
+        ensures hit { IfOk result (λ h. IfSome h (λ found. found.place < length self.old.run.session.events)) }
+        ensures last { IfOk result (λ h. LooksFrom back.now begin self.old self.new h) }
+        ensures end { IfOk result
+            (λ _. length self.new.run.session.events ≡ length self.old.run.session.events) }
+        ensures same { beginning self.new.run ≡ beginning self.old.run }
+        ensures choices { choices self.new ≡ choices self.old }
+    {
+        let end = self.run.at();
+        self.run.back_to(alloc, begin)?;
+        let hit = self.last_hit(alloc, back, end)?;
+        Ok(hit)
     }
 
     /// The last place before here at which what is looked for stood. It is looked for from ever further back on, and
     /// the run is then where it was.
     fn search(&mut self, alloc: Global, back: &Back) -> Result<Option<Hit>, SessionError>
         ensures hit { IfOk result (λ h. IfSome h (λ found. found.place < length self.old.run.session.events)) }
-        ensures end { IfOk result (λ _. length self.new.run.session.events ≡ length self.old.run.session.events) }
+        ensures last { IfOk result (λ h. IsLastOf back.now self.old self.new h) }
+        ensures end { IfOk result
+            (λ _. length self.new.run.session.events ≡ length self.old.run.session.events) }
         ensures same { beginning self.new.run ≡ beginning self.old.run }
+        ensures choices { choices self.new ≡ choices self.old }
     {
-        let end = self.run.at();
         let mut window = FIRST_WINDOW;
         'windows: for _ in 0..WINDOWS {
-            let begin = end.saturating_sub(window);
-            self.run.back_to(alloc, begin)?;
-            let hit = self.last_hit(alloc, back, end)?;
-            if hit.is_some() || begin == 0 {
+            let begin = self.run.at().saturating_sub(window);
+            let hit = self.last_from(alloc, back, begin)?;
+            if hit.is_some() {
+                return Ok(hit);
+            }
+            if begin == 0 {
                 return Ok(hit);
             }
             window = window.saturating_mul(WINDOW_GROWTH);
         }
-        Ok(None)
+        self.last_from(alloc, back, 0)
     }
 
     /// The process, if it does an instruction by the next event.
@@ -233,8 +287,10 @@ impl Target {
     /// any of its places up to where it was.
     pub fn go_back(&mut self, alloc: Global, back: &Back) -> Result<Stopped, SessionError>
         ensures before { IfOk result (λ _. IsBefore self.old.run self.new.run) }
+        ensures last { IfOk result (λ _. GoesBackToLast back.now self.old self.new) }
         ensures stands { IfOk result (λ s. StandsFor self.new back.now s.reason s.pid) }
         ensures same { beginning self.new.run ≡ beginning self.old.run }
+        ensures choices { choices self.new ≡ choices self.old }
     {
         let hit = self.search(alloc, back)?;
         self.forget_told();

@@ -1,15 +1,15 @@
 //! Which events the machine gets.
-ghost use Rattle.std.specs.Prelude.{◌≡◌, ◌+◌, ◌<◌, ℕ};
-ghost use Rattle.gdb_target.specs.Rounds.{behind_key, event_at};
+ghost use Rattle.std.specs.Prelude.{◌≡◌, ◌+◌, ◌<◌, ◌≤◌, ◌^◌, ℕ, length};
+ghost use Rattle.std.specs.Option.{option_to_list};
+ghost use Rattle.kernel_spec.specs.runs.Rounds.{round};
+ghost use Rattle.gdb_target.specs.Rounds.{event_among, event_at};
 ghost use Rattle.xv_machine.specs.Events.{event_of};
+ghost use Rattle.xv_machine.specs.RoundParts.{events_of_parts};
 
-use xv_machine::Event;
+use xv_machine::{Event, RoundPart, round_parts};
 
-/// How many bytes are sent in a round.
-const SENDS: u64 = 32;
-
-/// The events of a run: rounds, as in `xv_run`. A round is a key if one is left, so many Runs, a tick, and 32 bytes
-/// that are sent. So the event at each place of a run is settled from the start.
+/// The events of a run: rounds, as in `xv_run`. A byte is typed in each round, until there is none left. So the event at
+/// each place of a run is settled from the start.
 #[derive(Drop)]
 pub struct Rounds {
     /// The bytes that are typed, one a round.
@@ -18,12 +18,63 @@ pub struct Rounds {
     pub quantum: u32,
 }
 
-/// The event at a place of a run, and how many of its kind follow one another from it on in its round: more than
-/// one only of Runs.
+/// The event at a place of a run, and how many of its kind follow one another from it on in its round, it among them.
 #[derive(Clone, Copy)]
 pub struct Next {
     pub event: Event,
     pub count: u32,
+}
+
+/// How many events parts have.
+fn events_in(parts: &[RoundPart]) -> u64
+    requires { length (events_of_parts parts.now) < 2 ^ 64 }
+    ensures { result ≡ length (events_of_parts parts.now) }
+{
+    let mut count = 0;
+    for part in parts {
+        count += u64::from(part.count);
+    }
+    count
+}
+
+/// What comes behind so many of the events of parts.
+fn next_among(parts: &[RoundPart], within: u64) -> Next
+    requires { within < length (events_of_parts parts.now) }
+    ensures equal { (k : ℕ) → k < result.count → event_among (events_of_parts parts.now) (within + k) ≡ event_of result.event }
+    ensures some { 0 < result.count }
+    ensures inside { within + result.count ≤ length (events_of_parts parts.now) }
+{
+    let mut behind = within;
+    for part in parts {
+        let count = u64::from(part.count);
+        if behind < count {
+            return Next {
+                event: part.event,
+                count: (count - behind) as u32,
+            };
+        }
+        behind -= count;
+    }
+    unreachable!()
+}
+
+/// How many events a round has.
+fn round_len(key: Option<u8>, quantum: u32) -> u64
+    ensures { result ≡ length (round quantum (option_to_list key)) }
+{
+    let parts = round_parts(key, quantum);
+    events_in(&parts)
+}
+
+/// What comes in a round, behind so many of its events.
+fn next_in(key: Option<u8>, quantum: u32, within: u64) -> Next
+    requires { within < length (round quantum (option_to_list key)) }
+    ensures equal { (k : ℕ) → k < result.count → event_among (round quantum (option_to_list key)) (within + k) ≡ event_of result.event }
+    ensures some { 0 < result.count }
+    ensures inside { within + result.count ≤ length (round quantum (option_to_list key)) }
+{
+    let parts = round_parts(key, quantum);
+    next_among(&parts, within)
 }
 
 impl Rounds {
@@ -35,48 +86,20 @@ impl Rounds {
         Rounds { keys, quantum }
     }
 
-    /// What comes in a round, so many events behind its key.
-    fn behind_key(&self, within: u64) -> Next
-        ensures equal { (k : ℕ) → k < result.count → behind_key self.now.quantum (within + k) ≡ event_of result.event }
-        ensures within { 1 < result.count → within + result.count ≡ self.now.quantum }
-        ensures some { 0 < result.count }
-    {
-        let quantum = u64::from(self.quantum);
-        if within < quantum {
-            let count = (quantum - within) as u32;
-            return Next {
-                event: Event::Run,
-                count,
-            };
-        }
-        let event = if within == quantum {
-            Event::Tick
-        } else {
-            Event::Send
-        };
-        Next { event, count: 1 }
-    }
-
     /// What comes at a place of the run, 0 is the first event's, and how many equal events follow one another from
     /// there on.
     pub(crate) fn at(&self, place: u64) -> Next
         ensures equal { (k : ℕ) → k < result.count → event_at self.now.keys.items self.now.quantum (place + k) ≡ event_of result.event }
         ensures some { 0 < result.count }
     {
-        let short = u64::from(self.quantum) + 1 + SENDS;
-        let long = short + 1;
+        let long = round_len(Some(0), self.quantum);
+        let short = round_len(None, self.quantum);
         let round = place / long;
         let keys = self.keys.len() as u64;
         if round >= keys {
-            return self.behind_key((place - keys * long) % short);
+            return next_in(None, self.quantum, (place - keys * long) % short);
         }
-        let within = place % long;
-        if within > 0 {
-            return self.behind_key(within - 1);
-        }
-        Next {
-            event: Event::Key(self.keys[round as usize]),
-            count: 1,
-        }
+        let key = self.keys[round as usize];
+        next_in(Some(key), self.quantum, place % long)
     }
 }

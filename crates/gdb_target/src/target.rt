@@ -1,8 +1,15 @@
 //! What GDB debugs: a machine that goes on by its rounds.
-ghost use Rattle.std.specs.Prelude.{◌≡◌, ◌+◌, ◌≤◌, ◌<◌, None, IfOk, length, max};
+ghost use Rattle.std.specs.Prelude.{◌≡◌, ◌⊎◌, ◌+◌, ◌≤◌, ◌<◌, None, Some, false, IfOk, IfSome, IsSome, length, max};
+ghost use Rattle.kernel_spec.specs.views.State.{live};
+ghost use Rattle.xv_machine.specs.Events.{outcome_of};
+ghost use Rattle.gdb_target.specs.Choices.{IsAlive, StopsAt, choices};
+ghost use Rattle.gdb_target.specs.Forth.{Goes, GoesBy, IsJudged, IsUnseen, Stands};
+ghost use Rattle.gdb_target.specs.Forth.{current_of, halted_of, is_reached, is_step, looks_at_each, or_shows};
 ghost use Rattle.gdb_target.specs.SameRun.{beginning};
 ghost use Rattle.gdb_target.specs.Standing.{NextIsRun};
+ghost use Rattle.gdb_target.specs.Told.{state_of};
 
+use crate::outcomes::is_step_of;
 use crate::places::{at_breakpoint, changed, watched_now};
 use crate::played::{Played, is_run};
 use crate::points::Points;
@@ -61,7 +68,7 @@ pub struct Target {
 }
 
 /// What ends a command that goes on, beside a point, a fault and the end.
-#[derive(Clone, Copy, PartialEq, Eq)]
+#[derive(Clone, Copy)]
 pub enum Until {
     /// Nothing.
     Point,
@@ -89,21 +96,6 @@ pub enum Pause {
     Stopped(Stopped),
     /// Process 1 is gone, with this status, and all that the console has to show is shown.
     Ended(i32),
-}
-
-/// Whether this came of an instruction of the process, or of a kernel call that is over, or the process is gone.
-fn is_step_of(outcome: &Outcome, until: Until) -> bool {
-    match outcome {
-        Outcome::Stepped { pid }
-        | Outcome::Called { pid, .. }
-        | Outcome::Exited { pid, .. }
-        | Outcome::Faulted { pid, .. } => match until {
-            Until::Point => false,
-            Until::AnyStep => true,
-            Until::StepOf(wanted) => wanted == *pid,
-        },
-        _ => false,
-    }
 }
 
 /// Why a process stops that has this fault.
@@ -135,6 +127,16 @@ fn told_before(outcome: &Outcome) -> Option<Stopped> {
     }
 }
 
+/// This pause, or one that tells what the console shows.
+fn or_shows(pause: Option<Pause>, shows: bool) -> Option<Pause>
+    ensures { result ≡ or_shows pause shows }
+{
+    match pause {
+        Some(pause) => Some(pause),
+        None => { if shows { Some(Pause::Shows) } else { None } }
+    }
+}
+
 impl Target {
     /// A machine that was just booted, which stands before its first event.
     pub fn new(alloc: Global, run: Played, program: usize, path: String) -> Target
@@ -163,8 +165,9 @@ impl Target {
 
     /// A command that goes on from here, by so many events at most.
     pub fn going(&mut self, until: Until, most: u32) -> Going
+        ensures until { result.until ≡ until }
         ensures end { result.end ≤ length self.old.run.session.events + most }
-        ensures same { self.new.run ≡ self.old.run }
+        ensures rest { self.new ≡ record self.old { told = None } }
     {
         let passes = self.told.take();
         Going {
@@ -178,104 +181,139 @@ impl Target {
     pub fn stop_here(&self, reason: StopReason) -> Stopped
         ensures { result.reason ≡ reason }
     {
-        let last = self.stopped.pid;
-        let machine = self.run.machine();
-        let pid = match machine.current() {
+        let pid = match self.run.machine().current() {
             Some(pid) => pid,
-            None => live_or_other(machine, last).unwrap_or(last),
+            None => self.alive(self.stopped.pid),
         };
         Stopped { reason, pid }
     }
 
-    /// From now on this is the last stop, and its process is the one that is looked at and that steps.
-    pub fn stop_at(&mut self, stopped: &Stopped)
-        ensures run { self.new.run ≡ self.old.run }
-        ensures reason { self.new.stopped.reason ≡ stopped.now.reason }
-        ensures pid { self.new.stopped.pid ≡ stopped.now.pid }
-        ensures looked_at { self.new.looked_at ≡ stopped.now.pid }
+    /// This process, if it lives, or else one that does; this one, if none is left.
+    fn alive(&self, pid: Pid) -> Pid
+        ensures lives { IsAlive (state_of self.now) result }
+        ensures same { IsSome (live (state_of self.now) pid) → result ≡ pid }
     {
-        let pid = stopped.pid;
-        self.stopped = *stopped;
+        match live_or_other(self.run.machine(), pid) {
+            Some(other) => other,
+            None => pid,
+        }
+    }
+
+    /// From now on this is the last stop, and its process is the one that is looked at and that steps. If it is gone,
+    /// one that lives takes its place.
+    pub fn stop_at(&mut self, stopped: &Stopped)
+        ensures { StopsAt self.old stopped.now.reason stopped.now.pid self.new }
+    {
+        let pid = self.alive(stopped.pid);
+        self.stopped = Stopped {
+            reason: stopped.reason,
+            pid,
+        };
         self.looked_at = pid;
         self.stepped = pid;
+    }
+
+    /// Whether an interrupt came since the last stop; from now on none did.
+    pub fn take_interrupt(&mut self) -> bool
+        ensures came { result ≡ self.old.interrupted }
+        ensures rest { self.new ≡ record self.old { interrupted = false } }
+    {
+        let came = self.interrupted;
+        self.interrupted = false;
+        came
     }
 
     /// The console's bytes that aren't told yet; from now on they are.
     pub fn take_shown(&mut self, alloc: Global) -> Vec<u8>
         ensures shown { result ≡ self.old.shown }
-        ensures run { self.new.run ≡ self.old.run }
+        ensures rest { self.new ≡ record self.old { shown = self.new.shown } }
     {
         std::mem::replace(&mut self.shown, Vec::new(alloc))
     }
 
     /// A fault or the end that was told may be told again.
     pub(crate) fn forget_told(&mut self)
-        ensures { self.new.run ≡ self.old.run }
+        ensures run { self.new.run ≡ self.old.run }
+        ensures choices { choices self.new ≡ choices self.old }
     {
         self.told = None;
     }
 
-    /// Goes back by one event, to tell of it before it happens; if that was done, it stays.
+    /// Goes back by one event, to tell of it before it happens; if that was done, it tells what stands here.
     fn before_last(
         &mut self,
         alloc: Global,
         going: &Going,
         stopped: Stopped,
+        done: bool,
     ) -> Result<Option<Pause>, SessionError>
         ensures within { length self.new.run.session.events ≤ length self.old.run.session.events }
-        ensures none { IfOk result (λ p. p ≡ None → length self.new.run.session.events ≡ length self.old.run.session.events) }
+        ensures judged { IfOk result (λ p. IsJudged done self.old p self.new) }
         ensures same { beginning self.new.run ≡ beginning self.old.run }
+        ensures choices { choices self.new ≡ choices self.old }
     {
         let place = self.run.at().saturating_sub(1);
         if going.passes == Some(place) {
-            return Ok(None);
+            return Ok(self.stands(done));
         }
         self.run.back_to(alloc, place)?;
         self.told = Some(place);
         Ok(Some(Pause::Stopped(stopped)))
     }
 
-    /// Notes what the console shows.
-    fn note(&mut self, bytes: &[u8]) -> Result<Option<Pause>, SessionError>
-        ensures { self.new.run ≡ self.old.run }
+    /// Notes what the console shows, and tells whether it is to be told now.
+    fn note(&mut self, bytes: &[u8]) -> Result<bool, SessionError>
+        ensures run { self.new.run ≡ self.old.run }
+        ensures choices { choices self.new ≡ choices self.old }
     {
         let Ok(()) = self.shown.extend_from_slice(bytes) else {
             return Err(SessionError::Memory);
         };
-        if bytes.last() == Some(&b'\n') || self.shown.len() >= SHOWN_MOST {
-            return Ok(Some(Pause::Shows));
-        }
-        Ok(None)
+        Ok(bytes.last() == Some(&b'\n') || self.shown.len() >= SHOWN_MOST)
     }
 
-    /// Sends an event that isn't Run, and notes what the console shows. Where process 1 is gone, it ends once no byte
+    /// Notes what the console shows by the event at this place, unless it was noted; tells whether it is to be told now.
+    fn note_once(&mut self, place: u64, bytes: &[u8]) -> Result<bool, SessionError>
+        ensures run { self.new.run ≡ self.old.run }
+        ensures choices { choices self.new ≡ choices self.old }
+    {
+        if place < self.noted {
+            return Ok(false);
+        }
+        self.noted = place.saturating_add(1);
+        self.note(bytes)
+    }
+
+    /// The status of process 1, if it is gone, and this came of a Send, and no byte was left to send.
+    fn ended(&self, outcome: &Outcome) -> Option<i32>
+        ensures { IfSome result (λ status. halted_of self.now ≡ Some status) }
+    {
+        match outcome {
+            Outcome::Sent(None) => self.run.machine().halted(),
+            _ => None,
+        }
+    }
+
+    /// Sends an event that isn't Run, and notes what the console shows. If process 1 is gone, it ends once no byte
     /// waits to be sent.
-    fn send_other(&mut self) -> Result<Option<Pause>, SessionError>
+    fn send_other(&mut self, going: &Going) -> Result<Option<Pause>, SessionError>
         ensures within { length self.new.run.session.events ≤ length self.old.run.session.events + 1 }
         ensures more { IfOk result (λ _. length self.old.run.session.events < length self.new.run.session.events) }
+        ensures goes { IfOk result (λ p. Goes going.now.until self.old p self.new) }
         ensures same { beginning self.new.run ≡ beginning self.old.run }
+        ensures choices { choices self.new ≡ choices self.old }
     {
         let place = self.run.at();
         let outcome = self.run.send()?;
-        if outcome == Outcome::Sent(None) {
-            return Ok(self.ended());
+        let shows = self.note_once(place, outcome.shown())?;
+        if let Some(status) = self.ended(&outcome) {
+            return Ok(Some(Pause::Ended(status)));
         }
-        if place < self.noted {
-            return Ok(None);
-        }
-        self.noted = place.saturating_add(1);
-        self.note(outcome.shown())
+        let pause = self.stands(is_step_of(&outcome, going.until));
+        Ok(or_shows(pause, shows))
     }
 
-    /// The end, where process 1 is gone.
-    fn ended(&self) -> Option<Pause> {
-        match self.run.machine().halted() {
-            Some(status) => Some(Pause::Ended(status)),
-            None => None,
-        }
-    }
-
-    /// What stops the program behind a Run of which this came.
+    /// What stops the program after Runs of which this came last.
     fn judged(
         &mut self,
         alloc: Global,
@@ -283,42 +321,88 @@ impl Target {
         outcome: &Outcome,
     ) -> Result<Option<Pause>, SessionError>
         ensures within { length self.new.run.session.events ≤ length self.old.run.session.events }
-        ensures none { IfOk result (λ p. p ≡ None → length self.new.run.session.events ≡ length self.old.run.session.events) }
+        ensures judged { IfOk result (λ p. IsJudged (is_step going.now.until (outcome_of outcome.now)) self.old p self.new) }
         ensures same { beginning self.new.run ≡ beginning self.old.run }
+        ensures choices { choices self.new ≡ choices self.old }
     {
-        if let Some(stopped) = told_before(outcome) {
-            let pause = self.before_last(alloc, going, stopped)?;
-            if pause.is_some() {
-                return Ok(pause);
-            }
+        let done = is_step_of(outcome, going.until);
+        match told_before(outcome) {
+            Some(stopped) => self.before_last(alloc, going, stopped, done),
+            None => Ok(self.stands(done)),
         }
-        Ok(self.stands(is_step_of(outcome, going.until)))
     }
 
-    /// The stop of a step that is done, or of a process that stands at a breakpoint.
-    fn stands(&self, done: bool) -> Option<Pause> {
-        if done {
+    /// Whether it is so, and the machine hasn't halted.
+    fn is_reached(&self, done: bool) -> bool
+        ensures { result ≡ is_reached done self.now }
+    {
+        done && self.run.machine().halted().is_none()
+    }
+
+    /// The stop of a step that is done, or of a process that stands at a breakpoint. A machine that has halted stops for
+    /// nothing: it goes on until all is shown.
+    fn stands(&self, done: bool) -> Option<Pause>
+        ensures { Stands done self.now result }
+    {
+        if self.is_reached(done) {
             return Some(Pause::Stopped(self.stop_here(StopReason::Trap)));
         }
-        let pid = at_breakpoint(&self.run, &self.points, self.program)?;
+        let Some(pid) = at_breakpoint(&self.run, &self.points, self.program) else {
+            return None;
+        };
         Some(Pause::Stopped(Stopped {
             reason: StopReason::Trap,
             pid,
         }))
     }
 
-    /// How many Runs are sent at once, of so many: one where each instruction is looked at.
+    /// So many Runs, or those before the place `end`.
+    fn all_before(&self, count: u32, end: u64) -> u32
+        requires some { 0 < count }
+        requires room { length self.now.run.session.events < end }
+        ensures some { 0 < result }
+        ensures within { length self.now.run.session.events + result ≤ end }
+    {
+        u64::from(count).min(end - self.run.at()) as u32
+    }
+
+    /// How many Runs are sent at once, of so many, before the place `end`: one, if somebody runs.
+    pub(crate) fn runs_before(&self, count: u32, end: u64) -> u32
+        requires some { 0 < count }
+        requires room { length self.now.run.session.events < end }
+        ensures some { 0 < result }
+        ensures within { length self.now.run.session.events + result ≤ end }
+        ensures single { (result ≡ 1) ⊎ (current_of self.now ≡ None) }
+    {
+        match self.run.machine().current() {
+            Some(_pid) => 1,
+            None => self.all_before(count, end),
+        }
+    }
+
+    /// Whether each place is looked at at which somebody runs.
+    fn looks_at_each(&self, until: Until) -> bool
+        ensures { result ≡ looks_at_each until self.now.points }
+    {
+        match until {
+            Until::Point => !self.points.is_empty(),
+            Until::StepOf(_) => true,
+            Until::AnyStep => true,
+        }
+    }
+
+    /// How many Runs are sent at once, of so many: one, if the place behind it is to be looked at.
     fn runs_at_once(&self, going: &Going, count: u32) -> u32
         requires some { 0 < count }
         requires room { length self.now.run.session.events < going.now.end }
         ensures some { 0 < result }
         ensures within { length self.now.run.session.events + result ≤ going.now.end }
+        ensures single { (result ≡ 1) ⊎ IsUnseen going.now.until self.now }
     {
-        let looks = going.until != Until::Point || !self.points.is_empty();
-        if self.run.machine().current().is_some() && looks {
-            return 1;
+        if self.looks_at_each(going.until) {
+            return self.runs_before(count, going.end);
         }
-        u64::from(count).min(going.end - self.run.at()) as u32
+        self.all_before(count, going.end)
     }
 
     /// Sends Runs, so many at most, up to one that stops the program.
@@ -330,23 +414,23 @@ impl Target {
     ) -> Result<Option<Pause>, SessionError>
         requires some { 0 < most }
         requires runs { NextIsRun self.old.run }
+        requires single { (most ≡ 1) ⊎ IsUnseen going.now.until self.old }
         ensures within { length self.new.run.session.events ≤ length self.old.run.session.events + most }
         ensures more { IfOk result (λ p. p ≡ None → length self.old.run.session.events < length self.new.run.session.events) }
+        ensures goes { IfOk result (λ p. Goes going.now.until self.old p self.new) }
         ensures same { beginning self.new.run ≡ beginning self.old.run }
+        ensures choices { choices self.new ≡ choices self.old }
     {
-        let current = self.run.machine().current();
         let Ok(before) = watched_now(alloc, &self.run, &self.points, self.program) else {
             return Err(SessionError::Memory);
         };
-        let runs = self.run.run(most)?;
+        let Some(outcome) = self.run.run(most)? else {
+            unreachable!();
+        };
         if let Some(change) = changed(&self.run, &self.points, self.program, &before) {
             return Ok(Some(Pause::Stopped(change.stopped())));
         }
-        match (runs.last, current) {
-            (Some(outcome), _) => self.judged(alloc, going, &outcome),
-            (None, Some(pid)) => self.judged(alloc, going, &Outcome::Stepped { pid }),
-            (None, None) => Ok(None),
-        }
+        self.judged(alloc, going, &outcome)
     }
 
     /// Sends the next event, or so many Runs.
@@ -354,32 +438,38 @@ impl Target {
         requires room { length self.old.run.session.events < going.now.end }
         ensures within { length self.new.run.session.events ≤ going.now.end }
         ensures more { IfOk result (λ p. p ≡ None → length self.old.run.session.events < length self.new.run.session.events) }
+        ensures goes { IfOk result (λ p. Goes going.now.until self.old p self.new) }
         ensures same { beginning self.new.run ≡ beginning self.old.run }
+        ensures choices { choices self.new ≡ choices self.old }
     {
         let next = self.run.next();
         if !is_run(next.event) {
-            return self.send_other();
+            return self.send_other(going);
         }
         let most = self.runs_at_once(going, next.count);
         self.send_runs(alloc, going, most)
     }
 
-    /// Goes on until it pauses. No event is sent behind the end of the command; `None` where it has come so far, and
+    /// Goes on until it pauses. No event is sent after the end of the command; `None` if it has come so far, and
     /// nothing paused it.
     ///
     /// # Errors
     ///
-    /// [`SessionError`] where the host has too little memory, or the session keeps as many events as it can: it
+    /// [`SessionError`] if the host has too little memory, or the session keeps as many events as it can: it
     /// stands at a place of the same run, from which it can go on.
     pub fn go(&mut self, alloc: Global, going: &Going) -> Result<Option<Pause>, SessionError>
         ensures within { length self.new.run.session.events ≤ max (length self.old.run.session.events) going.now.end }
         ensures over { IfOk result (λ p. p ≡ None → going.now.end ≤ length self.new.run.session.events) }
+        ensures goes { IfOk result (λ p. GoesBy going.now.until self.old p self.new) }
         ensures same { beginning self.new.run ≡ beginning self.old.run }
+        ensures choices { choices self.new ≡ choices self.old }
     {
         'events: while self.run.at() < going.end {
-            if let Some(pause) = self.send_next(alloc, going)? {
-                return Ok(Some(pause));
-            }
+            let pause = self.send_next(alloc, going)?;
+            let Some(pause) = pause else {
+                continue;
+            };
+            return Ok(Some(pause));
         }
         Ok(None)
     }

@@ -1,6 +1,7 @@
 //! Processes, as GDB's threads: a thread's number is its pid.
-ghost use Rattle.std.specs.Prelude.{◌≡◌, ◌+◌, Some, is_some, IsSome, IfOk, IfSome, IfNone, OnOk};
+ghost use Rattle.std.specs.Prelude.{◌≡◌, ℕ, ◌+◌, Some, is_some, IsSome, IfOk, IfSome, IfNone, OnOk};
 ghost use Rattle.kernel_spec.specs.views.State.{live};
+ghost use Rattle.kernel_spec.specs.waking.Turns.{HasSlot};
 ghost use Rattle.xv_machine.specs.Sound.{IsSoundMachine};
 ghost use Rattle.gdb_target.specs.Seen.{AreLive, AreAllLive, AreLiveBelow, IsNoThread};
 
@@ -34,23 +35,30 @@ pub(crate) fn live_process(machine: &Machine, thread: u64) -> Option<Pid>
 
 /// The process in a slot, if it lives.
 fn live_in(machine: &Machine, slot: usize) -> Option<Pid>
-    ensures { IfSome result (λ pid. IsSome (live machine.now.world.state pid)) }
+    requires { IsSoundMachine machine.now }
+    ensures lives { IfSome result (λ pid. IsSome (live machine.now.world.state pid)) }
+    ensures none { IfNone result ((p : ℕ) → HasSlot machine.now.world.turns p slot → ¬ IsSome (live machine.now.world.state p)) }
 {
-    let pid = machine.pid_in(slot)?;
+    let Some(pid) = machine.pid_in(slot) else {
+        return None;
+    };
     if is_live(machine, pid) {
         return Some(pid);
     }
     None
 }
 
-/// This process, if it lives, or else one that does; `None` where none is found.
+/// This process, if it lives, or else one that does; `None` if none does.
 pub(crate) fn live_or_other(machine: &Machine, pid: Pid) -> Option<Pid>
     ensures lives { IfSome result (λ found. IsSome (live machine.now.world.state found)) }
     ensures first { IsSome (live machine.now.world.state pid) → result ≡ Some pid }
+    ensures none { IfNone result ((p : ℕ) → ¬ IsSome (live machine.now.world.state p)) }
 {
     if is_live(machine, pid) {
         return Some(pid);
     }
+    // This call says that the machine is sound, so that each process has a slot.
+    let _current = machine.current();
     for slot in 0..NPROC {
         if let Some(other) = live_in(machine, slot) {
             return Some(other);

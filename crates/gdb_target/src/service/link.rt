@@ -1,8 +1,24 @@
 //! What is written to GDB.
+ghost use Rattle.std.specs.Prelude.{◌≡◌, OnOk, true};
+ghost use Rattle.std.specs.Io.KnownBytes.{Appends};
+ghost use Rattle.gdb_packets.specs.Packets as packets;
+ghost use Rattle.gdb_target.specs.Sent.{Sends, acknowledgement};
+
 use gdb_packets::packet;
 use program_files::{Failure, put};
 use std::alloc::Global;
 use std::io::Write;
+
+/// What tells GDB whether its packet came whole: nothing where packets aren't acknowledged.
+fn acknowledgement(acks: bool, whole: bool) -> &'static [u8]
+    ensures { result.now ≡ acknowledgement acks whole }
+{
+    match (acks, whole) {
+        (false, _) => b"".as_slice(),
+        (true, true) => b"+".as_slice(),
+        (true, false) => b"-".as_slice(),
+    }
+}
 
 /// The way to GDB.
 #[derive(Drop)]
@@ -16,7 +32,9 @@ pub(crate) struct Link {
 
 impl Link {
     /// A way on which packets are acknowledged.
-    pub fn new(alloc: Global) -> Link {
+    pub fn new(alloc: Global) -> Link
+        ensures { result.acks ≡ true }
+    {
         Link {
             alloc,
             acks: true,
@@ -25,29 +43,27 @@ impl Link {
     }
 
     /// Writes the packet of a payload.
-    pub fn send<W: Write>(
-        &mut self,
-        output: &mut W,
-        payload: &[u8],
-    ) -> Result<(), Failure<'static>> {
+    pub fn send<W: Write>(&mut self, output: &mut W, payload: &[u8]) -> Result<(), Failure<'static>>
+        ensures sent { OnOk result (Sends (W.contents output.old) (W.contents output.new) payload.now) }
+        ensures kept { OnOk result (self.new.last.items ≡ packets.packet payload.now) }
+        ensures acks { self.new.acks ≡ self.old.acks }
+    {
         self.last = packet(self.alloc, payload)?;
         put(output, self.last.as_slice())
     }
 
     /// Writes the last packet again.
-    pub fn send_again<W: Write>(&mut self, output: &mut W) -> Result<(), Failure<'static>> {
+    pub fn send_again<W: Write>(&self, output: &mut W) -> Result<(), Failure<'static>>
+        ensures { OnOk result (Appends (W.contents output.old) (W.contents output.new) self.now.last.items) }
+    {
         put(output, self.last.as_slice())
     }
 
     /// Tells GDB whether its packet came whole, where packets are acknowledged.
-    pub fn acknowledge<W: Write>(
-        &self,
-        output: &mut W,
-        whole: bool,
-    ) -> Result<(), Failure<'static>> {
-        if !self.acks {
-            return Ok(());
-        }
-        put(output, if whole { b"+" } else { b"-" })
+    pub fn acknowledge<W: Write>(&self, output: &mut W, whole: bool) -> Result<(), Failure<'static>>
+        ensures { OnOk result
+            (Appends (W.contents output.old) (W.contents output.new) (acknowledgement self.now.acks whole)) }
+    {
+        put(output, acknowledgement(self.acks, whole))
     }
 }

@@ -1,8 +1,17 @@
 //! What is answered to each packet.
+ghost use Rattle.std.specs.Prelude.{◌≡◌, IfOk, OnOk};
+ghost use Rattle.std.specs.Io.KnownBytes.{Appends};
+ghost use Rattle.gdb_packets.specs.Answers as packets;
+ghost use Rattle.gdb_target.specs.Forth.{shows};
+ghost use Rattle.gdb_target.specs.Sent.{IsAnswered, Sends, stop_told};
+ghost use Rattle.gdb_target.specs.Served.{ButTold, GoesAndTells, IsOver, IsPauseTold, IsReversed, IsStepBack};
+ghost use Rattle.gdb_target.specs.Served.{Pauses, Performs, Resumes, Takes, damaged_told, low_byte, shown_told};
+ghost use Rattle.gdb_target.specs.Serving.{behind};
+
 use crate::answers::{malformed, no_such_process};
 use crate::reverse::Back;
 use crate::service::link::Link;
-use crate::target::{Pause, Target, Until};
+use crate::target::{Going, Pause, Target, Until};
 use gdb_packets::{
     Command, PacketReader, Piece, Resume, StopReason, Thread, console, exited, parse, stop_reply,
 };
@@ -18,6 +27,37 @@ const READ_BYTES: usize = 512;
 enum After {
     GoesOn,
     Ends,
+}
+
+/// Whether the console shows bytes, and then it goes on.
+fn shows(pause: &Option<Pause>) -> bool
+    ensures { result ≡ shows pause.now }
+{
+    match pause {
+        None => false,
+        Some(pause) => match pause {
+            Pause::Shows => true,
+            Pause::Stopped(_) => false,
+            Pause::Ended(_) => false,
+        },
+    }
+}
+
+/// The low byte of a status.
+fn low_byte(status: i32) -> u8
+    ensures { result ≡ low_byte status }
+{
+    status.to_le_bytes()[0]
+}
+
+/// Whether there is more to serve after a command.
+fn behind(command: Command) -> After
+    ensures { result ≡ behind command }
+{
+    match command {
+        Command::Detach => After::Ends,
+        _ => After::GoesOn,
+    }
 }
 
 /// GDB, which is served: a machine, and the way to GDB.
@@ -42,7 +82,10 @@ impl Service {
     }
 
     /// Writes what the console shows and wasn't told yet.
-    fn show<W: Write>(&mut self, output: &mut W) -> Result<(), Failure<'static>> {
+    fn show<W: Write>(&mut self, output: &mut W) -> Result<(), Failure<'static>>
+        ensures sent { OnOk result (Appends (W.contents output.old) (W.contents output.new) (shown_told self.old.target.shown.items)) }
+        ensures told { ButTold self.old.target self.new.target }
+    {
         let shown = self.target.take_shown(self.alloc);
         if shown.is_empty() {
             return Ok(());
@@ -51,30 +94,47 @@ impl Service {
         self.link.send(output, payload.as_slice())
     }
 
-    /// Goes on until something stops the program, and writes what the console shows meanwhile; `None` where as many
-    /// events were sent as may be.
-    fn go_until<W: Write>(
+    /// Goes on until something stops the program, and writes what the console shows meanwhile; `None` if as many events
+    /// were sent as may be.
+    fn go_on<W: Write>(
         &mut self,
         output: &mut W,
-        until: Until,
-    ) -> Result<Option<Pause>, Failure<'static>> {
-        if self.target.interrupted {
-            self.target.interrupted = false;
-            let stopped = self.target.stop_here(StopReason::Interrupt);
-            return Ok(Some(Pause::Stopped(stopped)));
-        }
-        let going = self.target.going(until, self.most);
-        for _ in 0..u64::from(self.most) {
-            match self.target.go(self.alloc, &going)? {
-                Some(Pause::Shows) => self.show(output)?,
-                pause => return Ok(pause),
+        going: &Going,
+    ) -> Result<Option<Pause>, Failure<'static>>
+        ensures { IfOk result
+            (λ p. Resumes going.now.until self.old.target p self.new.target (W.contents output.old) (W.contents output.new)) }
+    {
+        'pauses: for _ in 0..u64::from(self.most) {
+            let pause = self.target.go(self.alloc, going)?;
+            if !shows(&pause) {
+                return Ok(pause);
             }
+            self.show(output)?;
         }
         Ok(None)
     }
 
+    /// Goes on, as [`Service::go_on`], unless an interrupt came: then it stops at once.
+    fn go_until<W: Write>(
+        &mut self,
+        output: &mut W,
+        until: Until,
+    ) -> Result<Option<Pause>, Failure<'static>>
+        ensures { IfOk result
+            (λ p. Pauses until self.old.target p self.new.target (W.contents output.old) (W.contents output.new)) }
+    {
+        if self.target.take_interrupt() {
+            let stopped = self.target.stop_here(StopReason::Interrupt);
+            return Ok(Some(Pause::Stopped(stopped)));
+        }
+        let going = self.target.going(until, self.most);
+        self.go_on(output, &going)
+    }
+
     /// Tells that as many events were sent as may be.
-    fn tell_over<W: Write>(&mut self, output: &mut W) -> Result<(), Failure<'static>> {
+    fn tell_over<W: Write>(&mut self, output: &mut W) -> Result<(), Failure<'static>>
+        ensures { OnOk result (IsOver self.old.target self.new.target (W.contents output.old) (W.contents output.new)) }
+    {
         let most = self.most;
         let note = format!(in self.alloc; "xv_gdb: {most} events are over; it can go on\n")?;
         let payload = console(self.alloc, note.as_bytes())?;
@@ -84,64 +144,109 @@ impl Service {
         self.tell_stop(output)
     }
 
+    /// Tells the end, with the low byte of the status.
+    fn tell_end<W: Write>(&mut self, output: &mut W, status: i32) -> Result<(), Failure<'static>>
+        ensures sent { OnOk result
+            (Sends (W.contents output.old) (W.contents output.new) (packets.exited (low_byte status))) }
+        ensures target { self.new.target ≡ self.old.target }
+    {
+        let payload = exited(self.alloc, low_byte(status))?;
+        self.link.send(output, payload.as_slice())
+    }
+
     /// Tells of a pause.
     fn tell<W: Write>(
         &mut self,
         output: &mut W,
         pause: Option<Pause>,
-    ) -> Result<(), Failure<'static>> {
-        self.show(output)?;
+    ) -> Result<(), Failure<'static>>
+        ensures { OnOk result
+            (IsPauseTold pause self.old.target self.new.target (W.contents output.old) (W.contents output.new)) }
+    {
         match pause {
-            Some(Pause::Ended(status)) => {
-                let payload = exited(self.alloc, status.to_le_bytes()[0])?;
-                self.link.send(output, payload.as_slice())
-            }
+            Some(Pause::Ended(status)) => self.tell_end(output, status),
             Some(Pause::Stopped(stopped)) => {
                 self.target.stop_at(&stopped);
                 self.tell_stop(output)
             }
-            Some(Pause::Shows) | None => self.tell_over(output),
+            Some(Pause::Shows) => self.tell_over(output),
+            None => self.tell_over(output),
         }
     }
 
     /// Tells of the last stop.
-    fn tell_stop<W: Write>(&mut self, output: &mut W) -> Result<(), Failure<'static>> {
+    fn tell_stop<W: Write>(&mut self, output: &mut W) -> Result<(), Failure<'static>>
+        ensures sent { OnOk result
+            (Sends (W.contents output.old) (W.contents output.new) (stop_told self.old.target)) }
+        ensures target { self.new.target ≡ self.old.target }
+    {
         let payload = stop_reply(self.alloc, self.target.stopped.stop())?;
         self.link.send(output, payload.as_slice())
     }
 
-    /// Goes on, and tells of the stop.
-    fn resume<W: Write>(&mut self, output: &mut W, resume: Resume) -> Result<(), Failure<'static>> {
-        let until = match resume {
-            Resume::Continue => Until::Point,
-            Resume::Step(Thread::All) => Until::AnyStep,
-            Resume::Step(thread) => match self.target.steps(thread) {
-                Some(pid) => Until::StepOf(pid),
-                None => return self.refuse_process(output),
-            },
-        };
+    /// Goes on, and tells of the pause.
+    fn go_and_tell<W: Write>(
+        &mut self,
+        output: &mut W,
+        until: Until,
+    ) -> Result<(), Failure<'static>>
+        ensures { OnOk result
+            (GoesAndTells until self.old.target self.new.target (W.contents output.old) (W.contents output.new)) }
+    {
         let pause = self.go_until(output, until)?;
+        self.show(output)?;
         self.tell(output, pause)
     }
 
+    /// Goes on as the command says, and tells of the pause.
+    fn resume<W: Write>(&mut self, output: &mut W, resume: Resume) -> Result<(), Failure<'static>>
+        ensures { OnOk result
+            (Performs (Command.Resume resume) self.old.target self.new.target (W.contents output.old) (W.contents output.new)) }
+    {
+        match self.target.until(resume) {
+            Some(until) => self.go_and_tell(output, until),
+            None => self.refuse_process(output),
+        }
+    }
+
     /// Refuses a command that names a process that doesn't live.
-    fn refuse_process<W: Write>(&mut self, output: &mut W) -> Result<(), Failure<'static>> {
+    fn refuse_process<W: Write>(&mut self, output: &mut W) -> Result<(), Failure<'static>>
+        ensures sent { OnOk result
+            (Sends (W.contents output.old) (W.contents output.new) (packets.refusal 3)) }
+        ensures target { self.new.target ≡ self.old.target }
+    {
         let payload = no_such_process(self.alloc)?;
         self.link.send(output, payload.as_slice())
     }
 
     /// Goes back, and tells of the stop.
-    fn reverse<W: Write>(&mut self, output: &mut W, back: &Back) -> Result<(), Failure<'static>> {
+    fn reverse<W: Write>(&mut self, output: &mut W, back: &Back) -> Result<(), Failure<'static>>
+        ensures { OnOk result
+            (IsReversed back.now self.old.target self.new.target (W.contents output.old) (W.contents output.new)) }
+    {
         let stopped = self.target.go_back(self.alloc, back)?;
         self.target.stop_at(&stopped);
         self.tell_stop(output)
     }
 
     /// Goes back by a step of the process that steps, and tells of the stop.
-    fn reverse_step<W: Write>(&mut self, output: &mut W) -> Result<(), Failure<'static>> {
+    fn reverse_step<W: Write>(&mut self, output: &mut W) -> Result<(), Failure<'static>>
+        ensures { OnOk result
+            (IsStepBack self.old.target self.new.target (W.contents output.old) (W.contents output.new)) }
+    {
         match self.target.steps(Thread::Any) {
             Some(pid) => self.reverse(output, &Back::StepOf(pid)),
             None => self.refuse_process(output),
+        }
+    }
+
+    /// From now on packets aren't acknowledged, if this command asks for it.
+    fn note_acks(&mut self, command: Command)
+        ensures { self.new.target ≡ self.old.target }
+    {
+        match command {
+            Command::NoAcks => self.link.acks = false,
+            _ => {}
         }
     }
 
@@ -150,17 +255,15 @@ impl Service {
         &mut self,
         output: &mut W,
         command: Command,
-    ) -> Result<After, Failure<'static>> {
+    ) -> Result<After, Failure<'static>>
+        ensures answered { OnOk result
+            (IsAnswered command self.old.target self.new.target (W.contents output.old) (W.contents output.new)) }
+        ensures next { IfOk result (λ next. next ≡ behind command) }
+    {
         let payload = self.target.answer(self.alloc, command)?;
         self.link.send(output, payload.as_slice())?;
-        if command == Command::NoAcks {
-            self.link.acks = false;
-        }
-        Ok(if command == Command::Detach {
-            After::Ends
-        } else {
-            After::GoesOn
-        })
+        self.note_acks(command);
+        Ok(behind(command))
     }
 
     /// Does what a packet asks for.
@@ -168,24 +271,53 @@ impl Service {
         &mut self,
         output: &mut W,
         command: Command,
-    ) -> Result<After, Failure<'static>> {
+    ) -> Result<After, Failure<'static>>
+        ensures { OnOk result
+            (Performs command self.old.target self.new.target (W.contents output.old) (W.contents output.new)) }
+    {
         match command {
-            Command::Resume(resume) => self.resume(output, resume)?,
-            Command::ReverseContinue => self.reverse(output, &Back::Point)?,
-            Command::ReverseStep => self.reverse_step(output)?,
-            Command::Kill => return Ok(After::Ends),
-            _ => return self.answer(output, command),
+            Command::Resume(resume) => {
+                self.resume(output, resume)?;
+                Ok(After::GoesOn)
+            }
+            Command::ReverseContinue => {
+                self.reverse(output, &Back::Point)?;
+                Ok(After::GoesOn)
+            }
+            Command::ReverseStep => {
+                self.reverse_step(output)?;
+                Ok(After::GoesOn)
+            }
+            Command::Kill => Ok(After::Ends),
+            _ => self.answer(output, command),
         }
-        Ok(After::GoesOn)
     }
 
-    /// Tells that a packet is damaged: it is to be sent again, or is refused where packets aren't acknowledged.
-    fn refuse_damaged<W: Write>(&mut self, output: &mut W) -> Result<(), Failure<'static>> {
+    /// Tells that a packet is damaged: it is to be sent again, or is refused if packets aren't acknowledged.
+    fn refuse_damaged<W: Write>(&mut self, output: &mut W) -> Result<(), Failure<'static>>
+        ensures sent { OnOk result
+            (Appends (W.contents output.old) (W.contents output.new) (damaged_told self.old.link.acks)) }
+        ensures target { self.new.target ≡ self.old.target }
+    {
         if self.link.acks {
             return self.link.acknowledge(output, false);
         }
         let payload = malformed(self.alloc)?;
         self.link.send(output, payload.as_slice())
+    }
+
+    /// Acknowledges a packet, if packets are, and does what it asks for.
+    fn take_packet<W: Write>(
+        &mut self,
+        output: &mut W,
+        payload: &[u8],
+    ) -> Result<After, Failure<'static>>
+        ensures { OnOk result
+            (Takes Piece.Packet self.old.link.acks self.old.link.last.items payload.now self.old.target
+            self.new.target (W.contents output.old) (W.contents output.new)) }
+    {
+        self.link.acknowledge(output, true)?;
+        self.perform(output, parse(payload))
     }
 
     /// Does what came to its end.
@@ -194,18 +326,27 @@ impl Service {
         output: &mut W,
         piece: Piece,
         payload: &[u8],
-    ) -> Result<After, Failure<'static>> {
+    ) -> Result<After, Failure<'static>>
+        ensures { OnOk result
+            (Takes piece self.old.link.acks self.old.link.last.items payload.now self.old.target
+            self.new.target (W.contents output.old) (W.contents output.new)) }
+    {
         match piece {
-            Piece::Ack => {}
-            Piece::Nak => self.link.send_again(output)?,
-            Piece::Interrupt => self.target.interrupted = true,
-            Piece::Damaged => self.refuse_damaged(output)?,
-            Piece::Packet => {
-                self.link.acknowledge(output, true)?;
-                return self.perform(output, parse(payload));
+            Piece::Ack => Ok(After::GoesOn),
+            Piece::Nak => {
+                self.link.send_again(output)?;
+                Ok(After::GoesOn)
             }
+            Piece::Interrupt => {
+                self.target.interrupted = true;
+                Ok(After::GoesOn)
+            }
+            Piece::Damaged => {
+                self.refuse_damaged(output)?;
+                Ok(After::GoesOn)
+            }
+            Piece::Packet => self.take_packet(output, payload),
         }
-        Ok(After::GoesOn)
     }
 
     /// Does what bytes ask for.

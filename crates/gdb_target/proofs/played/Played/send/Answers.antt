@@ -1,5 +1,6 @@
 use Rattle.std.proofs.Common.{ap}
 use Rattle.xv_session.specs.Recorded.{Recorded}
+use Rattle.gdb_target.proofs.Coming.{comes_sent}
 use Rattle.gdb_target.proofs.PlayedOn.{after_result, played_send, played_still}
 use Rattle.gdb_target.proofs.played.Played.send.Goals as goal
 
@@ -12,3 +13,6 @@ invariant_of-self c =
           (λ o sent. played_send s.rounds.keys.items s.rounds.quantum s.session.events c.send.new.self.events _ s.played c.next-next.ensures.event (ap (λ (r : Recorded). r.events) sent.1))
           (λ e same. played_still s.rounds.keys.items s.rounds.quantum s.session.events c.send.new.self.events s.played (ap (λ (r : Recorded). r.events) same));
     }
+
+pub returns-clause-comes : goal.returns-clause-comes
+returns-clause-comes c = comes_sent _ _ _ _ c.in_ok-outcome.ensures.sent

@@ -1,0 +1,35 @@
+-- What is sent of a stop.
+use Rattle.std.proofs.Common.{◌≡◌, ◌∙◌, ℕ, List, Option, ◌++◌, ap, subst, sym}
+use Rattle.std.proofs.KnownBytes.{Appends-trans}
+use Rattle.std.specs.Io.KnownBytes.{Appends}
+use Rattle.gdb_packets.specs.Packets.{packet}
+use Rattle.gdb_packets.specs.declared.answers.StopReason.{StopReason}
+use Rattle.gdb_packets.specs.declared.answers.StopReason.TheVariants.{Interrupt}
+use Rattle.gdb_target.specs.Choices.{StopsAt}
+use Rattle.gdb_target.specs.Found.{StandsFor}
+use Rattle.gdb_target.specs.LastHit.{GoesBackToLast}
+use Rattle.gdb_target.specs.Sent.{Sends, stop_told}
+use Rattle.gdb_target.specs.Served.{IsOver, IsReversed}
+use Rattle.gdb_target.specs.declared.reverse.Back.{Back}
+use Rattle.gdb_target.specs.declared.target.Target.{Target}
+
+module _ (old mid new : Target) (reason : StopReason) (p : ℕ) (h k : Option (List ℕ)) where
+  pub stops_told : StopsAt old reason p mid → new ≡ mid → Sends h k (stop_told mid) → StopsAt old reason p new × Sends h k (stop_told new)
+  stops_told stops same sent = (subst (λ (t : Target). StopsAt old reason p t) (sym same) stops, subst (λ (t : Target). Sends h k (stop_told t)) (sym same) sent)
+
+pub reversed : (back : Back) (was old mid new : Target) (reason : StopReason) (p : ℕ) (h k : Option (List ℕ)) → GoesBackToLast back was old → StandsFor old back reason p
+    → StopsAt old reason p mid → new ≡ mid → Sends h k (stop_told mid) → IsReversed back was new h k
+reversed back was old mid new reason p h k last stands stops same sent =
+    let told = stops_told old mid new reason p h k stops same sent in
+    record { to = old; last = last; reason = reason; pid = p; stands = stands; stops = told.0; sent = told.1 }
+
+pub over : (old mid new : Target) (reason : StopReason) (p : ℕ) (note : List ℕ) (h k m : Option (List ℕ)) → reason ≡ Interrupt → StopsAt old reason p mid → new ≡ mid
+    → Sends h k note → Sends k m (stop_told mid) → IsOver old new h m
+over old mid new reason p note h k m why stops same noted sent =
+    let told = stops_told old mid new reason p k m stops same sent in
+    record {
+      note = note;
+      pid = p;
+      stops = subst (λ (r : StopReason). StopsAt old r p new) why told.0;
+      sent = Appends-trans h k m (packet note) (packet (stop_told new)) noted told.1;
+    }

@@ -1,0 +1,127 @@
+-- What GDB chooses: the process that it looks at, the one that it steps, and the points at which programs stop.
+use Rattle.std.specs.Prelude.{◌≡◌, ℕ, nat_lt, Bool, true, false, ◌==◌, ◌&&◌, not, if◌then◌else◌, List, [], ◌∷◌, ◌++◌, filter, codes, Option, None, Some, is_some, IsSome}
+use Rattle.std.specs.List.{list_any}
+use Rattle.kernel_spec.specs.views.State.{live}
+use Rattle.gdb_packets.specs.Answers.{refusal}
+use Rattle.gdb_packets.specs.declared.command.Command.{Command}
+use Rattle.gdb_packets.specs.declared.command.Command.TheVariants as on
+use Rattle.gdb_packets.specs.declared.command.Point.{Point}
+use Rattle.gdb_packets.specs.declared.command.Point.TheVariants.{Breakpoint, Watchpoint}
+use Rattle.gdb_packets.specs.declared.command.Resume.{Resume}
+use Rattle.gdb_packets.specs.declared.command.Resume.TheVariants.{Continue, Step}
+use Rattle.gdb_packets.specs.declared.command.Thread.{Thread}
+use Rattle.gdb_packets.specs.declared.command.Thread.TheVariants.{All, Any, One}
+use Rattle.gdb_target.specs.declared.points.Points.{Points}
+use Rattle.gdb_target.specs.declared.points.TheConstants.{WATCHED_MOST}
+use Rattle.gdb_target.specs.declared.points.Watched.{Watched}
+use Rattle.gdb_target.specs.declared.target.Target.{Target}
+use Rattle.gdb_target.specs.declared.target.Until.{Until}
+use Rattle.gdb_target.specs.declared.target.Until.TheVariants.{StepOf, AnyStep}
+use Rattle.gdb_target.specs.declared.target.Until.TheVariants as untils
+use Rattle.gdb_target.specs.Seen.{IsNoThread}
+use Rattle.gdb_target.specs.Told.{state_of}
+
+-- ---- threads
+
+-- the process that a choice of a thread means: the one that stopped, if no thread is named; none, if no live process has the number that is named
+abbrev pub IsMeant : Target → Thread → Option ℕ → Type 0
+IsMeant t All p = p ≡ Some t.stopped.pid
+IsMeant t Any p = p ≡ Some t.stopped.pid
+IsMeant t (One n) None = IsNoThread (state_of t) n
+IsMeant t (One n) (Some p) = (p ≡ n) × IsSome (live (state_of t) n)
+
+-- the process that was chosen for steps; none, if it doesn't live
+abbrev pub chosen_for_steps : Target → Option ℕ
+chosen_for_steps t = if is_some (live (state_of t) t.stepped) then Some t.stepped else None
+
+-- the process that a step of a thread means: that one, if no thread is named
+abbrev pub IsStepped : Target → Thread → Option ℕ → Type 0
+IsStepped t All p = p ≡ chosen_for_steps t
+IsStepped t Any p = p ≡ chosen_for_steps t
+IsStepped t (One n) None = IsNoThread (state_of t) n
+IsStepped t (One n) (Some p) = (p ≡ n) × IsSome (live (state_of t) n)
+
+-- until a step of this process, if there is one
+abbrev pub step_of : Option ℕ → Option Until
+step_of None = None
+step_of (Some p) = Some (StepOf p)
+
+abbrev pub IsUntilStep : Target → Thread → Option Until → Type 0
+IsUntilStep t thread until = (p : Option ℕ) × IsStepped t thread p × (until ≡ step_of p)
+
+-- Until when a command goes on; none if the process that is to step doesn't live
+abbrev pub IsUntil : Target → Resume → Option Until → Type 0
+IsUntil t Continue until = until ≡ Some untils.Point
+IsUntil t (Step All) until = until ≡ Some AnyStep
+IsUntil t (Step Any) until = IsUntilStep t Any until
+IsUntil t (Step (One n)) until = IsUntilStep t (One n) until
+
+-- the process is chosen for commands that go on, or for those that look
+abbrev pub chosen : (resumes : Bool) → ℕ → Target → Target
+chosen true p t = record t { stepped = p }
+chosen false p t = record t { looked_at = p }
+
+-- A choice of a process that is there is answered by OK, and any other changes nothing
+abbrev pub IsChosen : Option ℕ → (resumes : Bool) → (old new : Target) → (text : List ℕ) → Type 0
+IsChosen None resumes old new text = (new ≡ old) × (text ≡ refusal 3)
+IsChosen (Some p) resumes old new text = (new ≡ chosen resumes p old) × (text ≡ codes "OK")
+
+-- ---- points
+
+-- the same bytes are watched
+abbrev pub is_same : Watched → Watched → Bool
+is_same a b = (a.address == b.address) && (a.length == b.length)
+
+-- one more, unless it is there
+abbrev pub with_breakpoint : ℕ → List ℕ → List ℕ
+with_breakpoint address points = if list_any (λ a. a == address) points then points else points ++ address ∷ []
+
+abbrev pub with_watched : Watched → List Watched → List Watched
+with_watched watched points = if list_any (λ w. is_same w watched) points then points else points ++ watched ∷ []
+
+-- all others
+abbrev pub without_breakpoint : ℕ → List ℕ → List ℕ
+without_breakpoint address points = filter (λ a. not (a == address)) points
+
+abbrev pub without_watched : Watched → List Watched → List Watched
+without_watched watched points = filter (λ w. not (is_same w watched)) points
+
+-- A point was put: the others are as they were
+abbrev pub IsPut : Point → (address length : ℕ) → (old new : Points) → Type 0
+IsPut Breakpoint address length old new = (new.breakpoints.items ≡ with_breakpoint address old.breakpoints.items) × (new.watched.items ≡ old.watched.items)
+IsPut Watchpoint address length old new = (new.breakpoints.items ≡ old.breakpoints.items) × (new.watched.items ≡ with_watched (record { address = address; length = length }) old.watched.items)
+
+-- A point was taken away: the others are as they were
+abbrev pub IsTaken : Point → (address length : ℕ) → (old new : Points) → Type 0
+IsTaken Breakpoint address length old new = (new.breakpoints.items ≡ without_breakpoint address old.breakpoints.items) × (new.watched.items ≡ old.watched.items)
+IsTaken Watchpoint address length old new = (new.breakpoints.items ≡ old.breakpoints.items) × (new.watched.items ≡ without_watched (record { address = address; length = length }) old.watched.items)
+
+-- nothing but points changed
+abbrev pub PointsAlone : (old new : Target) → Type 0
+PointsAlone old new = new ≡ record old { points = new.points }
+
+-- a point is put and answered by OK
+abbrev pub Puts : Point → (address length : ℕ) → (old new : Target) → (text : List ℕ) → Type 0
+Puts point address length old new text = PointsAlone old new × IsPut point address length old.points new.points × (text ≡ codes "OK")
+
+-- it watches too many bytes
+abbrev pub is_too_long : Point → (length : ℕ) → Bool
+is_too_long Breakpoint length = false
+is_too_long Watchpoint length = nat_lt WATCHED_MOST length
+
+-- A point that watches too many bytes is refused, and changes nothing
+abbrev pub IsInsertedIf : (too_long : Bool) → Point → (address length : ℕ) → (old new : Target) → (text : List ℕ) → Type 0
+IsInsertedIf true point address length old new text = (new ≡ old) × (text ≡ refusal 22)
+IsInsertedIf false point address length old new text = Puts point address length old new text
+
+abbrev pub IsInserted : Point → (address length : ℕ) → (old new : Target) → (text : List ℕ) → Type 0
+IsInserted point address length old new text = IsInsertedIf (is_too_long point length) point address length old new text
+
+-- ---- commands
+
+-- What a command leaves of what GDB has chosen, and what it is answered if it chooses
+abbrev pub Chooses : Target → Command → (new : Target) → (text : List ℕ) → Type 0
+Chooses old (on.Choose thread resumes) new text = (p : Option ℕ) × IsMeant old thread p × IsChosen p resumes old new text
+Chooses old (on.Insert point address length) new text = IsInserted point address length old new text
+Chooses old (on.Remove point address length) new text = PointsAlone old new × IsTaken point address length old.points new.points × (text ≡ codes "OK")
+Chooses old _ new text = new ≡ old

@@ -1,0 +1,10 @@
+-- When GDB is served no more.
+use Rattle.gdb_packets.specs.declared.command.Command.{Command}
+use Rattle.gdb_packets.specs.declared.command.Command.TheVariants.{Detach}
+use Rattle.gdb_target.specs.declared.service.serving.After.{After}
+use Rattle.gdb_target.specs.declared.service.serving.After.TheVariants.{GoesOn, Ends}
+
+-- of the commands after which the machine is where it was, one ends it
+abbrev pub behind : Command → After
+behind Detach = Ends
+behind _ = GoesOn
