@@ -7,10 +7,14 @@ pub enum End {
     Exited(i32),
     /// All its Runs are over, and at the last one no process could run.
     Waits,
+    /// The same, and the console still sends what they wrote: each of the last Sends sent a byte.
+    Floods,
     /// All its Runs are over, and at the last one a process could.
     Computes,
     /// It made more notes than are kept.
     TooManyNotes,
     /// It showed more bytes than are kept.
     TooMuchShown,
+    /// Its budget of work is used up.
+    OverBudget,
 }

@@ -4,7 +4,7 @@ use Rattle.std.specs.Fmt.{decimal}
 use Rattle.csv.specs.Writing.{default_writer, row_text}
 use Rattle.grade_sheets.specs.declared.grade.Grade.{Grade}
 use Rattle.grade_sheets.specs.declared.grade.Standing.{Standing}
-use Rattle.grade_sheets.specs.declared.grade.Standing.TheVariants.{Right, Wrong, Fault, Loops, Waits, TooMuch, Refused}
+use Rattle.grade_sheets.specs.declared.grade.Standing.TheVariants.{Right, Wrong, Fault, Loops, Waits, Floods, TooMuch, Budget, Refused}
 
 -- the word for what a submission comes to
 abbrev pub word_of : Standing → List ℕ
@@ -13,7 +13,9 @@ word_of Wrong = codes "wrong"
 word_of Fault = codes "fault"
 word_of Loops = codes "loops"
 word_of Waits = codes "waits"
+word_of Floods = codes "floods"
 word_of TooMuch = codes "too much"
+word_of Budget = codes "budget"
 word_of Refused = codes "refused"
 
 -- its fields: the submission's name, its points, of how many, what it comes to, and why

@@ -14,7 +14,7 @@ use Rattle.grade_sheets.specs.declared.asked.Check.{Check}
 use Rattle.grade_sheets.specs.declared.asked.Check.TheVariants.{Line, Predicts, Notes}
 use Rattle.grade_sheets.specs.declared.grade.RunGrade.{RunGrade}
 use Rattle.grade_sheets.specs.declared.grade.Standing.{Standing}
-use Rattle.grade_sheets.specs.declared.grade.Standing.TheVariants.{Right, Wrong, Fault, Loops, Waits, TooMuch, Refused}
+use Rattle.grade_sheets.specs.declared.grade.Standing.TheVariants.{Right, Wrong, Fault, Loops, Waits, Floods, TooMuch, Budget, Refused}
 use Rattle.grade_rules.specs.declared.ending.End.{End}
 use Rattle.grade_rules.specs.declared.ending.End.TheVariants as ends
 use Rattle.grade_sheets.specs.declared.judging.Mark.{Mark}
@@ -61,9 +61,11 @@ abbrev pub standing_of : (is_right may_fault faulted : Bool) → End → Standin
 standing_of true may_fault faulted e = Right
 standing_of false may_fault faulted (ends.Exited status) = ended may_fault faulted
 standing_of false may_fault faulted ends.Waits = Waits
+standing_of false may_fault faulted ends.Floods = Floods
 standing_of false may_fault faulted ends.Computes = Loops
 standing_of false may_fault faulted ends.TooManyNotes = TooMuch
 standing_of false may_fault faulted ends.TooMuchShown = TooMuch
+standing_of false may_fault faulted ends.OverBudget = Budget
 
 -- what is told of a run
 pub record IsGraded (asked : List Asked) (seen : Seen) (grade : RunGrade) : Type 0 where
@@ -83,7 +85,9 @@ unless_right Wrong next = Wrong
 unless_right Fault next = Fault
 unless_right Loops next = Loops
 unless_right Waits next = Waits
+unless_right Floods next = Floods
 unless_right TooMuch next = TooMuch
+unless_right Budget next = Budget
 unless_right Refused next = Refused
 
 abbrev pub first_standing : List RunGrade → Standing

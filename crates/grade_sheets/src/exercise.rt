@@ -17,11 +17,12 @@ const QUANTUM_MAX: u64 = 1_000_000;
 const NO_NAME: &str = "a name that is empty, begins with a dot, or has a slash or a line's end:";
 
 /// The keys that a run may have, beside its name and its rules.
-const RUN_KEYS: [&str; 7] = [
+const RUN_KEYS: [&str; 8] = [
     "files",
     "frames",
     "quantum",
     "most_runs",
+    "budget",
     "with",
     "texts",
     "keys",
@@ -30,6 +31,12 @@ const RUN_KEYS: [&str; 7] = [
 /// The most Runs of a run that says nothing of them. A process that computes does some hundred million Runs a second: a
 /// second, at most, for a submission that loops.
 const RUNS: u64 = 1_000_000;
+
+/// The largest budget of work.
+const BUDGET_MAX: u64 = 1_000_000_000_000;
+
+/// The work that a run which says nothing of it may do beside its Runs: that of clearing some 390,000 pages.
+const WORK: u64 = 100_000_000;
 
 /// Why variants are refused.
 const NO_VARIANTS: &str = "the variants don't have the same keys, each a text or a number";
@@ -72,6 +79,8 @@ pub struct Run {
     pub quantum: u32,
     /// The most Runs: 1 to 1,000,000,000. A round that has begun is played to its end.
     pub most_runs: u64,
+    /// The most work: 1 to 1,000,000,000,000. A Run is 1, and a page that is cleared or copied is 256.
+    pub budget: u64,
     /// Further programs, by their paths from the folder of the exercise's file.
     pub with: Vec<String>,
     /// Further files, whose bytes are these texts.
@@ -141,25 +150,39 @@ fn all_asked(alloc: Global, run: &Keys<'_>) -> Result<Vec<Asked>, SheetError> {
     Ok(all)
 }
 
-// The frames of a run, its Runs in each round, and its Runs at most.
-fn limits_of(alloc: Global, run: &Keys<'_>) -> Result<(u32, u32, u64), SheetError> {
+/// The bounds of a run.
+#[derive(Clone, Copy)]
+struct Limits {
+    frames: u32,
+    quantum: u32,
+    most_runs: u64,
+    budget: u64,
+}
+
+// The frames of a run, its Runs in each round, its Runs at most, and its budget of work.
+fn limits_of(alloc: Global, run: &Keys<'_>) -> Result<Limits, SheetError> {
     let (least, most) = (u64::from(FRAMES_MIN), u64::from(FRAMES_MAX));
-    let frames = run.number(alloc, "frames", FRAMES, least, most)? as u32;
-    let quantum = run.number(alloc, "quantum", QUANTUM, 1, QUANTUM_MAX)? as u32;
     let most_runs = run.number(alloc, "most_runs", RUNS, 1, RUNS_MAX)?;
-    Ok((frames, quantum, most_runs))
+    let usual = most_runs.saturating_add(WORK);
+    Ok(Limits {
+        frames: run.number(alloc, "frames", FRAMES, least, most)? as u32,
+        quantum: run.number(alloc, "quantum", QUANTUM, 1, QUANTUM_MAX)? as u32,
+        most_runs,
+        budget: run.number(alloc, "budget", usual, 1, BUDGET_MAX)?,
+    })
 }
 
 // The run of a table of a file.
 fn read_run(alloc: Global, run: &Keys<'_>, file: &Keys<'_>) -> Result<Run, SheetError> {
     run.check(alloc, &["name", "rule"], &RUN_KEYS)?;
-    let (frames, quantum, most_runs) = limits_of(alloc, run)?;
+    let limits = limits_of(alloc, run)?;
     let made = Run {
         name: run.text(alloc, "name")?,
         files: names_of(alloc, run, file)?,
-        frames,
-        quantum,
-        most_runs,
+        frames: limits.frames,
+        quantum: limits.quantum,
+        most_runs: limits.most_runs,
+        budget: limits.budget,
         with: run.texts(alloc, "with")?,
         texts: files_of(alloc, run)?,
         keys: run.text(alloc, "keys")?,

@@ -25,8 +25,12 @@ pub enum Standing {
     Loops,
     /// All its processes sleep when all Runs are over.
     Waits,
+    /// They do, and the console still sends what they wrote.
+    Floods,
     /// It made more notes, or showed more bytes, than are kept.
     TooMuch,
+    /// It used up its budget of work.
+    Budget,
     /// It can't be run.
     Refused,
 }
@@ -42,7 +46,9 @@ impl Standing {
             Standing::Fault => "fault",
             Standing::Loops => "loops",
             Standing::Waits => "waits",
+            Standing::Floods => "floods",
             Standing::TooMuch => "too much",
+            Standing::Budget => "budget",
             Standing::Refused => "refused",
         }
     }
@@ -173,8 +179,10 @@ fn standing_after(is_right: bool, may_fault: bool, faulted: bool, end: End) -> S
     match end {
         End::TooManyNotes => Standing::TooMuch,
         End::TooMuchShown => Standing::TooMuch,
+        End::OverBudget => Standing::Budget,
         End::Computes => Standing::Loops,
         End::Waits => Standing::Waits,
+        End::Floods => Standing::Floods,
         End::Exited(_) => {
             if faulted && !may_fault {
                 Standing::Fault

@@ -1,4 +1,8 @@
 pub mod Telling
 pub mod Going
+pub mod Counting
+pub mod Planning
+pub mod Handed
 pub mod Making
 pub mod Collecting
+mod Worked

@@ -42,7 +42,7 @@ done-more zero p t = done-one t p
 done-more (suc n) p t =
     let count : t.runs + 1 + suc n ≡ t.runs + suc (suc n) = omega arith in
     ap (λ (u : Told). told_by u (replicate (suc n) (done_by p))) (done-one t p) ∙ done-more n p (told_runs t 1 None)
-    ∙ ap (λ (k : ℕ). record { notes = t.notes; shown = t.shown; runs = k; last = t.last; idle = false }) count
+    ∙ ap (λ (k : ℕ). record { notes = t.notes; shown = t.shown; runs = k; last = t.last; idle = false; sending = t.sending }) count
 
 -- the same again and again, which tells nothing new
 again : (n : ℕ) (o : Outcome) (t : Told) → (o ≡ Idle) ⊎ (o ≡ Halted) → told_by t (replicate (suc n) (Run, o)) ≡ told_with t (suc n) o

@@ -1,2 +1,4 @@
+pub mod Files
 pub mod Plays
 pub mod Results
+pub mod Work

@@ -1,18 +1,21 @@
 -- What is told of a run: the notes of its events, what it showed, and how it ended.
-use Rattle.std.specs.Prelude.{◌≡◌, ℕ, zero, suc, ℤ, ◌+◌, ◌≤◌, Bool, true, false, if◌then◌else◌, nat_lt, List, [], ◌∷◌, ◌++◌, length, flat_map, Option, None, Some, Result, Ok, Err}
+use Rattle.std.specs.Prelude.{◌≡◌, ◌⊎◌, ℕ, zero, suc, ℤ, ◌+◌, Bool, true, false, ◌||◌, if◌then◌else◌, nat_lt, List, [], ◌∷◌, ◌++◌, length, flat_map, sum_by, is_some, Option, None, Some, Result, Ok, Err}
 use Rattle.grade_rules.specs.declared.note.Note.{Note}
 use Rattle.grade_rules.specs.declared.note.Note.TheVariants as note
 use Rattle.grade_rules.specs.declared.ending.End.{End}
 use Rattle.grade_rules.specs.declared.ending.End.TheVariants as ends
 use Rattle.kernel_spec.specs.runs.First.{first}
 use Rattle.kernel_spec.specs.runs.Run.{Event, Run, Tick, Key, Send, Outcome, Step_of, Turn, Idle, Ticked, Typed, Sent, Halted, bytes_out, out}
+use Rattle.kernel_spec.specs.runs.Rounds.{events, Planned}
 use Rattle.kernel_spec.specs.steps.Own.{Answer, Stepped, Called, Blocked, Exited, Faulted}
 use Rattle.kernel_spec.specs.views.State.{ProgramFile}
 use Rattle.xk_base.specs.Access.{code_of}
 use Rattle.xk_base.specs.declared.errors.BootError.{BootError}
+use Rattle.xv_machine.specs.Drives.{StopsInRound}
 use Rattle.xv_machine.specs.Reached.{IsReached}
 use Rattle.grade_submissions.specs.declared.playing.TheConstants.{NOTES_MAX, SHOWN_MAX}
 use Rattle.grade_submissions.specs.declared.playing.Kept.{Kept}
+use Rattle.grade_submissions.specs.declared.playing.Plan.{Plan}
 use Rattle.grade_submissions.specs.declared.playing.Played.{Played}
 
 -- ---- notes
@@ -53,9 +56,11 @@ pub record Told : Type 0 where
   pub last : Option ℕ
   -- no process could run at the last Run
   pub idle : Bool
+  -- the last Send sent a byte
+  pub sending : Bool
 
 abbrev pub nothing : Told
-nothing = record { notes = []; shown = []; runs = 0; last = None; idle = false }
+nothing = record { notes = []; shown = []; runs = 0; last = None; idle = false; sending = false }
 
 abbrev pub last_after : Option ℕ → Outcome → Option ℕ
 last_after before (Turn p) = Some p
@@ -80,15 +85,29 @@ abbrev pub idle_after : Bool → ℕ → Outcome → Bool
 idle_after before zero o = before
 idle_after before (suc more) o = is_idle o
 
+-- whether the last Send sent a byte, behind an outcome
+abbrev pub sending_after : Bool → Outcome → Bool
+sending_after before (Sent byte) = is_some byte
+sending_after before Idle = before
+sending_after before (Step_of p answer) = before
+sending_after before (Turn p) = before
+sending_after before Ticked = before
+sending_after before (Typed echo) = before
+sending_after before Halted = before
+
 abbrev pub runs_in : Event → ℕ
 runs_in Run = 1
 runs_in Tick = 0
 runs_in (Key byte) = 0
 runs_in Send = 0
 
+-- how many of these events are Runs
+abbrev pub runs_among : List Event → ℕ
+runs_among list = sum_by runs_in list
+
 -- what an outcome adds, behind so many Runs
 abbrev pub told_with : Told → ℕ → Outcome → Told
-told_with t sent o = record { notes = t.notes ++ all_of (note_of o); shown = t.shown ++ bytes_out o; runs = t.runs + sent; last = last_after t.last o; idle = idle_after t.idle sent o }
+told_with t sent o = record { notes = t.notes ++ all_of (note_of o); shown = t.shown ++ bytes_out o; runs = t.runs + sent; last = last_after t.last o; idle = idle_after t.idle sent o; sending = sending_after t.sending o }
 
 -- what is told behind a list of events
 abbrev pub told_by : Told → List (Event × Outcome) → Told
@@ -97,42 +116,73 @@ told_by t (e ∷ list) = told_by (told_with t (runs_in e.0) e.1) list
 
 -- what Runs add that were sent at once: what came of the last one, unless each was a done instruction
 abbrev pub told_runs : Told → ℕ → Option Outcome → Told
-told_runs t sent None = record { notes = t.notes; shown = t.shown; runs = t.runs + sent; last = t.last; idle = false }
+told_runs t sent None = record { notes = t.notes; shown = t.shown; runs = t.runs + sent; last = t.last; idle = false; sending = t.sending }
 told_runs t sent (Some o) = told_with t sent o
 
 abbrev pub told_of : Kept → Told
-told_of k = record { notes = k.notes.items; shown = k.shown.items; runs = k.runs; last = k.last; idle = k.idle }
+told_of k = record { notes = k.notes.items; shown = k.shown.items; runs = k.runs; last = k.last; idle = k.idle; sending = k.sending }
+
+-- ---- what stops a run
+
+-- there are more notes than are kept, or more work is done than the budget has
+abbrev pub is_full : Kept → Bool
+is_full k = nat_lt NOTES_MAX (length k.notes.items) || nat_lt k.budget k.work
+
+-- it is full, or more bytes were shown than are kept
+abbrev pub is_over : Kept → Bool
+is_over k = is_full k || nat_lt SHOWN_MAX (length k.shown.items)
 
 -- ---- a run that goes on
 
 -- The machine went on by these events, from wherever it came, and what is kept tells them
-pub record PlaysOn (old new : Played) : Type 0 where
+pub record PlaysOn (wanted : List Event) (old new : Played) : Type 0 where
   pub list : List (Event × Outcome)
+  pub those : events list ≡ wanted
   pub reaches : (frames trace : ℕ) (programs : List ProgramFile) (es : List (Event × Outcome)) → IsReached frames trace programs es old.session.machine → IsReached frames trace programs (es ++ list) new.session.machine
   pub told : told_of new.kept ≡ told_by (told_of old.kept) list
+  pub budget : new.kept.budget ≡ old.kept.budget
+
+-- It went on by the first of these events: by all of them, unless it is full then
+pub record PlaysFirst (wanted : List Event) (old new : Played) : Type 0 where
+  pub part : List Event
+  pub rest : List Event
+  pub those : part ++ rest ≡ wanted
+  pub plays : PlaysOn part old new
+  pub all : (rest ≡ []) ⊎ (is_full new.kept ≡ true)
 
 -- ---- the whole run
 
--- A machine with so many frames, a trace of so many notes and these programs was booted, and has got these events: what is kept are their notes and what they showed, and so many of them, at most, are Runs
-pub record IsRunOf (frames trace : ℕ) (programs : List ProgramFile) (most : ℕ) (p : Played) : Type 0 where
+-- The events are whole rounds of the plan, each with the next key if one is left: all that may begin, or fewer, and the first events of one more, if too much was noted, shown or done
+abbrev pub IsByPlan : Plan → (keys : List ℕ) → List (Event × Outcome) → Kept → Type 0
+IsByPlan plan keys list kept = Planned plan.rounds plan.quantum keys false list ⊎ (StopsInRound plan.rounds plan.quantum keys false list × (is_over kept ≡ true))
+
+-- A machine with so many frames, a trace of so many notes and these programs was booted, and has got these events, by the plan and with these keys: what is kept are their notes and what they showed
+pub record IsRunOf (frames trace : ℕ) (programs : List ProgramFile) (plan : Plan) (keys : List ℕ) (p : Played) : Type 0 where
   pub list : List (Event × Outcome)
   pub reached : IsReached frames trace programs list p.session.machine
+  pub rounds : IsByPlan plan keys list p.kept
   pub notes : p.kept.notes.items ≡ notes_of list
   pub shown : p.kept.shown.items ≡ out list
   pub told : told_of p.kept ≡ told_by nothing list
-  pub few : p.kept.runs ≤ most
+  pub budget : p.kept.budget ≡ plan.budget
 
 -- a run, or why none could be booted
-abbrev pub IsPlayed : (frames trace : ℕ) → List ProgramFile → (most : ℕ) → Result Played BootError → Type 0
-IsPlayed frames trace programs most (Ok p) = IsRunOf frames trace programs most p
-IsPlayed frames trace programs most (Err e) = first frames trace programs ≡ Err e
+abbrev pub IsPlayed : (frames trace : ℕ) → List ProgramFile → Plan → (keys : List ℕ) → Result Played BootError → Type 0
+IsPlayed frames trace programs plan keys (Ok p) = IsRunOf frames trace programs plan keys p
+IsPlayed frames trace programs plan keys (Err e) = first frames trace programs ≡ Err e
 
 -- ---- its end
 
--- how a run stands that hasn't ended: more notes or bytes than are kept; or it waits, or it computes
-abbrev pub unended : Told → End
-unended t = if nat_lt NOTES_MAX (length t.notes) then ends.TooManyNotes else (if nat_lt SHOWN_MAX (length t.shown) then ends.TooMuchShown else (if t.idle then ends.Waits else ends.Computes))
+-- how a run stands that hasn't ended: more notes or bytes than are kept, or more work than its budget has; or it waits, for what the console sends or for something else; or it computes
+abbrev pub waiting : (sending : Bool) → End
+waiting sending = if sending then ends.Floods else ends.Waits
 
-abbrev pub end_of : Option ℤ → Told → End
-end_of None t = unended t
-end_of (Some status) t = ends.Exited status
+abbrev pub unended : Kept → End
+unended k =
+    if nat_lt NOTES_MAX (length k.notes.items) then ends.TooManyNotes
+    else (if nat_lt SHOWN_MAX (length k.shown.items) then ends.TooMuchShown
+    else (if nat_lt k.budget k.work then ends.OverBudget else (if k.idle then waiting k.sending else ends.Computes)))
+
+abbrev pub end_of : Option ℤ → Kept → End
+end_of None k = unended k
+end_of (Some status) k = ends.Exited status

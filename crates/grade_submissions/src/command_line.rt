@@ -96,7 +96,10 @@ fn needed(alloc: Global, given: &Given, name: &str) -> Result<String, SettingsEr
 /// # Errors
 ///
 /// Those of [`Given::read`].
-pub fn read_settings<S: AsStr>(alloc: Global, words: &[S]) -> Result<Settings, SettingsError> {
+pub(crate) fn read_settings<S: AsStr>(
+    alloc: Global,
+    words: &[S],
+) -> Result<Settings, SettingsError> {
     let given = Given::read(alloc, &COMMAND_LINE, words)?;
     Ok(Settings {
         exercise: needed(alloc, &given, "EXERCISE")?,

@@ -1,4 +1,6 @@
 //! The file of an exercise: what it asks for, and what it says of files.
+ghost use Rattle.std.specs.Prelude.{◌≡◌, string_bytes, IfOk};
+
 use crate::command_line::Settings;
 use crate::host_files::{folder_of, refused, text_of};
 use grade_sheets::{Exercise, Text};
@@ -7,26 +9,42 @@ use std::alloc::Global;
 use std::io::Write;
 use std::rt::Files;
 
+/// An exercise that was read: under which path, and for the student of which name.
+#[derive(Drop)]
+pub struct ReadExercise {
+    pub exercise: Exercise,
+    pub path: String,
+    pub student: Vec<u8>,
+}
+
 /// The exercise of a file, as a student of this name has it.
 ///
 /// # Errors
 ///
 /// [`Failure::Refused`] if it can't be read, is longer than 1,048,576 bytes or is no exercise, and
 /// [`Failure::OutOfMemory`].
-pub fn read_exercise<R: Files + AllocGlobal>(
+pub(crate) fn read_exercise<R: Files + AllocGlobal>(
     rt: &R,
     path: &str,
     name: &[u8],
-) -> Result<Exercise, Failure<'static>> {
+) -> Result<ReadExercise, Failure<'static>>
+    ensures path { IfOk result (λ read. string_bytes read.path ≡ path.now) }
+    ensures student { IfOk result (λ read. read.student.items ≡ name.now) }
+{
     let alloc = rt.alloc();
     let text = text_of(rt, path)?;
-    match Exercise::read(alloc, text.as_str(), name) {
-        Ok(exercise) => Ok(exercise),
+    let exercise = match Exercise::read(alloc, text.as_str(), name) {
+        Ok(exercise) => exercise,
         Err(error) => {
             let why = format!(in alloc; "{error}")?;
-            Err(refused(alloc, path, why.as_str()))
+            return Err(refused(alloc, path, why.as_str()));
         }
-    }
+    };
+    Ok(ReadExercise {
+        exercise,
+        path: String::from_str(alloc, path)?,
+        student: Vec::from_slice(alloc, name)?,
+    })
 }
 
 // Shows a line.
@@ -80,16 +98,16 @@ fn show_inputs<W: Write>(
 /// # Errors
 ///
 /// [`Failure::Refused`] for the exercise's file, [`Failure::OutOfMemory`], and [`Failure::Write`].
-pub fn show_files<R: Files + AllocGlobal, W: Write>(
+pub(crate) fn show_files<R: Files + AllocGlobal, W: Write>(
     rt: &R,
     settings: &Settings,
     output: &mut W,
 ) -> Result<(), Failure<'static>> {
-    let exercise = read_exercise(rt, settings.exercise.as_str(), &[])?;
+    let read = read_exercise(rt, settings.exercise.as_str(), &[])?;
     if settings.inputs {
-        return show_inputs(rt.alloc(), settings, &exercise, output);
+        return show_inputs(rt.alloc(), settings, &read.exercise, output);
     }
-    for run in &exercise.runs {
+    for run in &read.exercise.runs {
         show_lines(output, run.files.as_slice())?;
     }
     Ok(())
@@ -109,14 +127,14 @@ fn show_fact<W: Write>(output: &mut W, fact: &Text) -> Result<(), Failure<'stati
 /// # Errors
 ///
 /// [`Failure::Refused`] for the exercise's file, [`Failure::OutOfMemory`], and [`Failure::Write`].
-pub fn show_variant<R: Files + AllocGlobal, W: Write>(
+pub(crate) fn show_variant<R: Files + AllocGlobal, W: Write>(
     rt: &R,
     settings: &Settings,
     name: &[u8],
     output: &mut W,
 ) -> Result<(), Failure<'static>> {
-    let exercise = read_exercise(rt, settings.exercise.as_str(), name)?;
-    for fact in &exercise.variant {
+    let read = read_exercise(rt, settings.exercise.as_str(), name)?;
+    for fact in &read.exercise.variant {
         show_fact(output, fact)?;
     }
     Ok(())

@@ -1,6 +1,8 @@
 //! A submission, from its folder to its results.
-ghost use Rattle.std.specs.Prelude.{◌≤◌, ◌*◌, IfOk, OnOk};
-ghost use Rattle.grade_submissions.specs.Results.{most_of, IsSeenOf, IsGradeOf, IsResultOf, AreResultsOf, IsWholeGrade, IsLineShown};
+ghost use Rattle.std.specs.Prelude.{◌≡◌, IfOk, OnOk, string_bytes};
+ghost use Rattle.grade_sheets.specs.Standings.{IsUngraded};
+ghost use Rattle.grade_submissions.specs.Files.{IsNameOf, IsShownAs};
+ghost use Rattle.grade_submissions.specs.Results.{plan_of, IsSeenOf, IsGradeOf, IsResultWith, IsResultIn, AreResultsOf, IsWholeGrade, IsLineShown};
 
 use crate::command_line::Settings;
 use crate::exercise_file::read_exercise;
@@ -8,7 +10,7 @@ use crate::host_files::{bytes_of, folder_of, last_part, text_of};
 use crate::playing::{Plan, Played, play};
 use crate::reasons::cause;
 use crate::results::{write_result, write_run};
-use crate::submission::{HandedIn, Submission, handed_in};
+use crate::submission::{FoundPrograms, HandedIn, Submission, handed_in, programs_of_files};
 use grade_sheets::{Exercise, Grade, Run, RunGrade, Seen, csv_line, graded, ungraded, xml_suite};
 use program_files::{Failure, put};
 use std::alloc::{AllocError, Global};
@@ -25,11 +27,13 @@ const TRACE: u32 = 4_096;
 /// # Errors
 ///
 /// [`Failure::Refused`] if that file can't be read, and [`Failure::OutOfMemory`].
-pub fn name_of<R: Files + AllocGlobal>(
+pub(crate) fn name_of<R: Files + AllocGlobal>(
     rt: &R,
     settings: &Settings,
     folder: &str,
-) -> Result<Vec<u8>, Failure<'static>> {
+) -> Result<Vec<u8>, Failure<'static>>
+    ensures { IfOk result (λ name. IsNameOf settings.now.name folder.now name.items) }
+{
     match &settings.name {
         Some(path) => bytes_of(rt, path.as_str()),
         None => Ok(Vec::from_slice(rt.alloc(), last_part(folder).as_bytes())?),
@@ -46,7 +50,9 @@ fn add_byte(alloc: Global, shown: &mut String, byte: u8) -> Result<(), AllocErro
 }
 
 // A name as text: in one that isn't UTF-8, what isn't ASCII is shown as `\xff`.
-fn shown_name(alloc: Global, name: &[u8]) -> Result<String, AllocError> {
+fn shown_name(alloc: Global, name: &[u8]) -> Result<String, AllocError>
+    ensures { IfOk result (λ shown. IsShownAs name.now (string_bytes shown)) }
+{
     if let Ok(text) = std::str::from_utf8(name) {
         return String::from_str(alloc, text);
     }
@@ -91,7 +97,7 @@ fn lines_to_the_end(alloc: Global, played: &Played) -> Result<String, AllocError
 
 // What is known of a run that was made.
 fn seen_of<'a>(played: &'a Played, trace: &'a str, handed_in: &'a str) -> Seen<'a>
-    ensures { IsSeenOf played.now result }
+    ensures { IsSeenOf played.now handed_in.now result }
 {
     Seen {
         notes: played.kept.notes.as_slice(),
@@ -109,7 +115,7 @@ fn run_grade(
     submission: &Submission,
     played: &Played,
 ) -> Result<RunGrade, Failure<'static>>
-    ensures { IfOk result (IsGradeOf run.now played.now) }
+    ensures { IfOk result (IsGradeOf run.now submission.now played.now) }
 {
     let trace = lines_to_the_end(alloc, played)?;
     let seen = seen_of(played, trace.as_str(), submission.text.as_str());
@@ -118,15 +124,16 @@ fn run_grade(
     Ok(grade)
 }
 
-// How a run is driven: as many rounds as its most Runs take.
+// How a run is played: in as many rounds as hold its most Runs.
 fn plan_of(run: &Run) -> Plan
-    ensures { result.rounds * result.quantum ≤ most_of run.now }
+    ensures { result ≡ plan_of run.now }
 {
     let quantum = u64::from(run.quantum.max(1));
     let rounds = run.most_runs.div_ceil(quantum).min(u64::from(u32::MAX));
     Plan {
         rounds: rounds as u32,
         quantum: run.quantum,
+        budget: run.budget,
     }
 }
 
@@ -139,7 +146,7 @@ fn made_run<R: Files + AllocGlobal>(
     number: usize,
     played: &Played,
 ) -> Result<RunGrade, Failure<'static>>
-    ensures { IfOk result (IsGradeOf run.now played.now) }
+    ensures { IfOk result (IsGradeOf run.now submission.now played.now) }
 {
     write_run(rt, settings, number, played)?;
     run_grade(rt.alloc(), run, submission, played)
@@ -147,25 +154,25 @@ fn made_run<R: Files + AllocGlobal>(
 
 // The grade of a run whose machine didn't boot.
 fn refused_run(alloc: Global, run: &Run, error: &BootError) -> Result<RunGrade, Failure<'static>>
-    ensures { IfOk result (IsResultOf run.now) }
+    ensures { IfOk result (IsUngraded run.now.asked.items) }
 {
     let why = format!(in alloc; "boot: {error}")?;
     Ok(ungraded(alloc, run.asked.as_slice(), why)?)
 }
 
-// Runs a submission once, and grades the run, which has this number.
-fn one_run<R: Files + AllocGlobal>(
+// What a run gives for what was handed in, with these programs of the exercise. It has this number.
+fn played_run<R: Files + AllocGlobal>(
     rt: &R,
     settings: &Settings,
     submission: &Submission,
     run: &Run,
+    files: FoundPrograms,
     number: usize,
 ) -> Result<RunGrade, Failure<'static>>
-    ensures { IfOk result (IsResultOf run.now) }
+    ensures { IfOk result (IsResultWith run.now files submission.now) }
 {
     let alloc = rt.alloc();
-    let folder = folder_of(settings.exercise.as_str());
-    let programs = submission.programs(rt, run, folder)?;
+    let programs = submission.programs(alloc, files, run.texts.as_slice())?;
     let config = Config {
         frames: run.frames,
         trace: TRACE,
@@ -177,18 +184,36 @@ fn one_run<R: Files + AllocGlobal>(
     }
 }
 
+// Runs a submission once, and grades the run, which has this number.
+fn one_run<R: Files + AllocGlobal>(
+    rt: &R,
+    settings: &Settings,
+    submission: &Submission,
+    run: &Run,
+    exercise_folder: &str,
+    number: usize,
+) -> Result<RunGrade, Failure<'static>>
+    ensures { IfOk result (IsResultIn run.now exercise_folder.now (HandedIn.File submission.now)) }
+{
+    let files = programs_of_files(rt, exercise_folder, run.with.as_slice())?;
+    played_run(rt, settings, submission, run, files, number)
+}
+
 // What the run of this number gives, for what was handed in.
 fn run_result<R: Files + AllocGlobal>(
     rt: &R,
     settings: &Settings,
     handed_in: HandedIn,
     run: &Run,
+    exercise_folder: &str,
     number: usize,
 ) -> Result<RunGrade, Failure<'static>>
-    ensures { IfOk result (IsResultOf run.now) }
+    ensures { IfOk result (IsResultIn run.now exercise_folder.now handed_in) }
 {
     match handed_in {
-        HandedIn::File(submission) => one_run(rt, settings, &submission, run, number),
+        HandedIn::File(submission) => {
+            one_run(rt, settings, &submission, run, exercise_folder, number)
+        }
         HandedIn::Refused(why) => Ok(ungraded(rt.alloc(), run.asked.as_slice(), why)?),
     }
 }
@@ -198,16 +223,17 @@ fn run_results<R: Files + AllocGlobal>(
     rt: &R,
     settings: &Settings,
     runs: &[Run],
+    exercise_folder: &str,
     folder: &str,
 ) -> Result<Vec<RunGrade>, Failure<'static>>
-    ensures { IfOk result (λ grades. AreResultsOf runs.now grades.items) }
+    ensures { IfOk result (λ grades. AreResultsOf (record { exercise = exercise_folder.now; submission = folder.now }) runs.now grades.items) }
 {
     let refused = refused_before(rt, settings)?;
     let mut grades = Vec::new(rt.alloc());
     for run in runs {
         let number = grades.len().saturating_add(1);
         let handed_in = handed_in(rt, run.files.as_slice(), folder, refused.as_str())?;
-        grades.push(run_result(rt, settings, handed_in, run, number)?)?;
+        grades.push(run_result(rt, settings, handed_in, run, exercise_folder, number)?)?;
     }
     Ok(grades)
 }
@@ -217,11 +243,18 @@ fn whole_grade<R: Files + AllocGlobal>(
     rt: &R,
     settings: &Settings,
     exercise: &Exercise,
+    exercise_folder: &str,
     folder: &str,
 ) -> Result<Grade, Failure<'static>>
-    ensures { IfOk result (IsWholeGrade exercise.now) }
+    ensures { IfOk result (IsWholeGrade (record { exercise = exercise_folder.now; submission = folder.now }) exercise.now) }
 {
-    let runs = run_results(rt, settings, exercise.runs.as_slice(), folder)?;
+    let runs = run_results(
+        rt,
+        settings,
+        exercise.runs.as_slice(),
+        exercise_folder,
+        folder,
+    )?;
     Ok(Grade::of(rt.alloc(), exercise, runs)?)
 }
 
@@ -251,17 +284,18 @@ pub fn grade_submission<R: Files + AllocGlobal, W: Write>(
     folder: &str,
     output: &mut W,
 ) -> Result<(), Failure<'static>>
-    ensures { OnOk result (IsLineShown (W.contents output.old) (W.contents output.new)) }
+    ensures { OnOk result (IsLineShown settings.now folder.now (W.contents output.old) (W.contents output.new)) }
 {
-    let name = name_of(rt, settings, folder)?;
-    let exercise = read_exercise(rt, settings.exercise.as_str(), name.as_slice())?;
-    let name = shown_name(rt.alloc(), name.as_slice())?;
-    let name = name.as_str().as_bytes();
-    let grade = whole_grade(rt, settings, &exercise, folder)?;
+    let own_name = name_of(rt, settings, folder)?;
+    let read = read_exercise(rt, settings.exercise.as_str(), own_name.as_slice())?;
+    let shown = shown_name(rt.alloc(), own_name.as_slice())?;
+    let name = shown.as_str().as_bytes();
+    let exercise_folder = folder_of(settings.exercise.as_str());
+    let grade = whole_grade(rt, settings, &read.exercise, exercise_folder, folder)?;
     let Ok(line) = csv_line(rt.alloc(), name, &grade) else {
         return Err(Failure::OutOfMemory);
     };
-    write_suite(rt, settings, &exercise, name, &grade)?;
+    write_suite(rt, settings, &read.exercise, name, &grade)?;
     write_result(rt, settings, "result.csv", line.as_slice())?;
     put(output, line.as_slice())?;
     Ok(())

@@ -1,4 +1,6 @@
 //! Small files of the host, and their paths.
+ghost use Rattle.grade_submissions.specs.Files.{IsEnd, IsFolderOf, IsLastPart};
+
 use program_files::Failure;
 use std::alloc::Global;
 use std::fs;
@@ -9,24 +11,37 @@ use std::rt::Files;
 const FILE_BYTES: u64 = 1_048_576;
 
 /// The part of a path before its last slash.
-pub fn folder_of(path: &str) -> &str {
+pub(crate) fn folder_of(path: &str) -> &str
+    ensures { IsFolderOf path.now result.now }
+{
     match path.rsplit_once('/') {
         Some((folder, _)) => folder,
         None => ".",
     }
 }
 
-/// The part of a path behind its last slash.
-pub fn last_part(path: &str) -> &str {
-    let path = path.strip_suffix("/").unwrap_or(path);
+// The part of a path behind its last slash.
+fn behind_slash(path: &str) -> &str
+    ensures { IsEnd path.now result.now }
+{
     match path.rsplit_once('/') {
         Some((_, name)) => name,
         None => path,
     }
 }
 
+/// The part of a path behind its last slash, but for one at its end.
+pub(crate) fn last_part(path: &str) -> &str
+    ensures { IsLastPart path.now result.now }
+{
+    match path.strip_suffix('/') {
+        Some(folder) => behind_slash(folder),
+        None => behind_slash(path),
+    }
+}
+
 /// The refusal of the file of a path.
-pub fn refused(alloc: Global, path: &str, why: &str) -> Failure<'static> {
+pub(crate) fn refused(alloc: Global, path: &str, why: &str) -> Failure<'static> {
     Failure::in_words(format!(in alloc; "{path}: {why}"))
 }
 
@@ -54,7 +69,10 @@ fn check_length<R: Files + AllocGlobal>(rt: &R, path: &str) -> Result<(), Failur
 ///
 /// [`Failure::Refused`] if it can't be read, has more than 1,048,576 bytes or isn't UTF-8, and
 /// [`Failure::OutOfMemory`].
-pub fn text_of<R: Files + AllocGlobal>(rt: &R, path: &str) -> Result<String, Failure<'static>> {
+pub(crate) fn text_of<R: Files + AllocGlobal>(
+    rt: &R,
+    path: &str,
+) -> Result<String, Failure<'static>> {
     check_length(rt, path)?;
     match fs::read_to_string(rt, path) {
         Ok(text) => Ok(text),
@@ -67,7 +85,10 @@ pub fn text_of<R: Files + AllocGlobal>(rt: &R, path: &str) -> Result<String, Fai
 /// # Errors
 ///
 /// [`Failure::Refused`] if it can't be read or has more than 1,048,576 bytes, and [`Failure::OutOfMemory`].
-pub fn bytes_of<R: Files + AllocGlobal>(rt: &R, path: &str) -> Result<Vec<u8>, Failure<'static>> {
+pub(crate) fn bytes_of<R: Files + AllocGlobal>(
+    rt: &R,
+    path: &str,
+) -> Result<Vec<u8>, Failure<'static>> {
     check_length(rt, path)?;
     match fs::read(rt, path) {
         Ok(bytes) => Ok(bytes),

@@ -1,9 +1,11 @@
 //! Grades what a student handed in: runs it on the machine, and asks of the run what the exercise asks. The program that
 //! does it is `xv_grade`.
 //!
-//! `play` of `playing.rt` boots a machine and plays rounds of events up to a bound. It keeps a note of each turn, call,
-//! sleep, exit and fault, and the bytes that the console showed. That these are the notes and the bytes of just the
-//! events that the machine got, and how many Runs there are at most, is `IsRunOf` in `specs/Plays.antt`.
+//! `play` of `playing.rt` boots a machine and plays the rounds of a plan, each with the next key. It keeps a note of each
+//! turn, call, sleep, exit and fault, and the bytes that the console showed. That these are the notes and the bytes of
+//! just the events that the machine got, and that these events are those of the plan, is `IsRunOf` in
+//! `specs/Plays.antt`. That a line is that of the submission, the exercise and the runs, is `IsLineShown` in
+//! `specs/Results.antt`.
 #![tactic(auto)]
 
 ghost use Rattle.program_files.specs.Statuses.{IsPlainStatus};
@@ -16,10 +18,13 @@ mod playing;
 mod reasons;
 mod results;
 mod submission;
+mod work;
 
-pub use command_line::{Settings, read_settings};
-pub use exercise_file::{show_files, show_variant};
-pub use grading::{grade_submission, name_of};
+pub use command_line::Settings;
+use command_line::read_settings;
+use exercise_file::{show_files, show_variant};
+pub use grading::grade_submission;
+use grading::name_of;
 use program_files::Failure;
 use program_files::exit_statuses::{DONE, WORDS_REFUSED};
 use std::io::Write;

@@ -1,14 +1,20 @@
 //! A run of what was handed in: what happened, and what was shown.
-ghost use Rattle.std.specs.Prelude.{◌≡◌, ◌+◌, ◌*◌, ◌<◌, ◌≤◌, ◌^◌, ◌++◌, map, option_map, IfOk};
+ghost use Rattle.std.specs.Prelude.{◌≡◌, ◌+◌, ◌*◌, ◌<◌, ◌≤◌, ◌^◌, ◌++◌, ◌∷◌, [], ◌||◌, map, option_map, replicate, slice_get, is_some, IfOk};
+ghost use Rattle.std.specs.Option.{option_to_list};
+ghost use Rattle.kernel_spec.specs.runs.Run as run_events;
+ghost use Rattle.kernel_spec.specs.runs.Rounds.{round};
 ghost use Rattle.kernel_spec.specs.views.State.{named_file};
 ghost use Rattle.xv_machine.specs.Events.{event_of, outcome_of};
+ghost use Rattle.xv_machine.specs.RoundParts.{events_of_parts};
 ghost use Rattle.xv_session.specs.Recorded.{IsRecorded};
-ghost use Rattle.grade_submissions.specs.Plays.{note_of, all_of, nothing, runs_in, told_of, told_with, told_runs, last_after, idle_after, PlaysOn, IsPlayed, end_of};
+ghost use Rattle.grade_submissions.specs.Plays.{note_of, all_of, nothing, runs_in, runs_among, told_of, told_with, told_runs, last_after, idle_after, sending_after};
+ghost use Rattle.grade_submissions.specs.Plays.{is_full, is_over, PlaysOn, PlaysFirst, IsPlayed, end_of};
 
+use crate::work::cost_of;
 use grade_rules::{End, Note};
 use std::alloc::Global;
 use xk_base::{BootError, Pid, Program};
-use xv_machine::{Config, Event, Outcome};
+use xv_machine::{Config, Event, Outcome, RoundPart, round_parts};
 use xv_session::{Session, SessionError};
 
 /// The most notes that are kept of a run.
@@ -17,9 +23,6 @@ pub const NOTES_MAX: usize = 1_000_000;
 /// The most bytes that are kept of what a run shows.
 pub const SHOWN_MAX: usize = 1_048_576;
 
-/// The most Sends in a round.
-const SENDS: u32 = 32;
-
 /// How a run is driven.
 #[derive(Clone, Copy)]
 pub struct Plan {
@@ -27,6 +30,8 @@ pub struct Plan {
     pub rounds: u32,
     /// Runs in each round.
     pub quantum: u32,
+    /// The most work.
+    pub budget: u64,
 }
 
 /// What is kept of a run, event by event.
@@ -42,6 +47,11 @@ pub struct Kept {
     pub last: Option<Pid>,
     /// Whether no process could run at the last Run.
     pub idle: bool,
+    /// Whether the last Send sent a byte.
+    pub sending: bool,
+    /// The work that was done, 2^64 - 1 at most, and how much of it may be done.
+    pub work: u64,
+    pub budget: u64,
     /// The place of the event that was a fault: that of process 1, if there is one, or else the first.
     pub fault: Option<u64>,
 }
@@ -127,6 +137,16 @@ fn idle_after(before: bool, sent: u32, outcome: &Outcome) -> bool
     }
 }
 
+// Whether the last Send sent a byte, behind what came of an event.
+fn sending_after(before: bool, outcome: &Outcome) -> bool
+    ensures { result ≡ sending_after before (outcome_of outcome.now) }
+{
+    match outcome {
+        Outcome::Sent(byte) => byte.is_some(),
+        _ => before,
+    }
+}
+
 // The place of the fault that is told, behind what came of the event at a place.
 fn fault_after(before: Option<u64>, place: u64, outcome: &Outcome) -> Option<u64> {
     match outcome {
@@ -136,9 +156,10 @@ fn fault_after(before: Option<u64>, place: u64, outcome: &Outcome) -> Option<u64
 }
 
 impl Kept {
-    // Nothing yet.
-    fn new(alloc: Global) -> Kept
-        ensures { told_of result ≡ nothing }
+    // Nothing yet, of a run that may do so much work.
+    fn new(alloc: Global, budget: u64) -> Kept
+        ensures told { told_of result ≡ nothing }
+        ensures budget { result.budget ≡ budget }
     {
         Kept {
             notes: Vec::new(alloc),
@@ -146,20 +167,47 @@ impl Kept {
             runs: 0,
             last: None,
             idle: false,
+            sending: false,
+            work: 0,
+            budget,
             fault: None,
         }
+    }
+
+    // Whether there are more notes than are kept, or more work is done than may be.
+    fn is_full(&self) -> bool
+        ensures { result ≡ is_full self.now }
+    {
+        self.notes.len() > NOTES_MAX || self.work > self.budget
+    }
+
+    // Whether it is full, or more bytes were shown than are kept.
+    fn is_over(&self) -> bool
+        ensures { result ≡ is_over self.now }
+    {
+        self.is_full() || self.shown.len() > SHOWN_MAX
+    }
+
+    // Adds work that was done.
+    fn add_work(&mut self, cost: u64)
+        ensures told { told_of self.new ≡ told_of self.old }
+        ensures budget { self.new.budget ≡ self.old.budget }
+    {
+        self.work = self.work.saturating_add(cost);
     }
 
     // Keeps what came of the event at a place, behind so many Runs.
     fn keep(&mut self, sent: u32, place: u64, outcome: &Outcome) -> Result<(), SessionError>
         requires { self.old.runs + sent < 2 ^ 64 }
-        ensures { IfOk result (λ _. told_of self.new ≡ told_with (told_of self.old) sent (outcome_of outcome.now)) }
+        ensures told { IfOk result (λ _. told_of self.new ≡ told_with (told_of self.old) sent (outcome_of outcome.now)) }
+        ensures budget { IfOk result (λ _. self.new.budget ≡ self.old.budget) }
     {
         add_bytes(&mut self.shown, outcome.shown())?;
         add_note(&mut self.notes, note_of(outcome))?;
         self.runs += u64::from(sent);
         self.last = last_after(self.last, outcome);
         self.idle = idle_after(self.idle, sent, outcome);
+        self.sending = sending_after(self.sending, outcome);
         self.fault = fault_after(self.fault, place, outcome);
         Ok(())
     }
@@ -172,7 +220,8 @@ impl Kept {
         last: &Option<Outcome>,
     ) -> Result<(), SessionError>
         requires { self.old.runs + sent < 2 ^ 64 }
-        ensures { IfOk result (λ _. told_of self.new ≡ told_runs (told_of self.old) sent (option_map outcome_of last.now)) }
+        ensures told { IfOk result (λ _. told_of self.new ≡ told_runs (told_of self.old) sent (option_map outcome_of last.now)) }
+        ensures budget { IfOk result (λ _. self.new.budget ≡ self.old.budget) }
     {
         let Some(outcome) = last else {
             self.runs += u64::from(sent);
@@ -188,86 +237,103 @@ impl Played {
     fn run(&mut self, most: u32) -> Result<u32, SessionError>
         requires some { 0 < most }
         requires room { self.old.kept.runs + most < 2 ^ 64 }
-        ensures plays { IfOk result (λ _. PlaysOn self.old self.new) }
+        ensures plays { IfOk result (λ sent. PlaysOn (replicate sent run_events.Run) self.old self.new) }
         ensures some { IfOk result (λ sent. 0 < sent) }
         ensures within { IfOk result (λ sent. sent ≤ most) }
         ensures runs { IfOk result (λ sent. self.new.kept.runs ≡ self.old.kept.runs + sent) }
     {
+        let free = self.session.machine().free_frames();
         let runs = self.session.run(most)?;
         let place = self.session.at().saturating_sub(1);
         self.kept.keep_runs(runs.sent, place, &runs.last)?;
+        self.kept
+            .add_work(cost_of(&runs, free, self.session.machine()));
         Ok(runs.sent)
     }
 
-    // The Runs of a round: fewer if more notes are there than are kept.
-    fn send_runs(&mut self, quantum: u32) -> Result<(), SessionError>
-        requires { self.old.kept.runs + quantum < 2 ^ 64 }
-        ensures plays { IfOk result (λ _. PlaysOn self.old self.new) }
-        ensures runs { IfOk result (λ _. self.new.kept.runs ≤ self.old.kept.runs + quantum) }
+    // Sends Run so many times, unless the run is full before.
+    fn run_often(&mut self, count: u32) -> Result<(), SessionError>
+        requires { self.old.kept.runs + count < 2 ^ 64 }
+        ensures plays { IfOk result (λ _. PlaysFirst (replicate count run_events.Run) self.old self.new) }
+        ensures runs { IfOk result (λ _. self.new.kept.runs ≤ self.old.kept.runs + count) }
     {
-        let mut left = quantum;
-        'runs: while left > 0 && self.kept.notes.len() <= NOTES_MAX {
+        let mut left = count;
+        'runs: while left > 0 {
+            if self.kept.is_full() {
+                return Ok(());
+            }
             left -= self.run(left)?;
         }
         Ok(())
     }
 
-    // Sends an event that isn't Run, and tells whether bytes were shown.
-    fn show(&mut self, event: Event) -> Result<bool, SessionError>
+    // Sends an event that isn't Run.
+    fn show(&mut self, event: Event) -> Result<(), SessionError>
         requires other { runs_in (event_of event) ≡ 0 }
         requires room { self.old.kept.runs < 2 ^ 64 }
-        ensures plays { IfOk result (λ _. PlaysOn self.old self.new) }
+        ensures plays { IfOk result (λ _. PlaysOn (event_of event ∷ []) self.old self.new) }
         ensures runs { IfOk result (λ _. self.new.kept.runs ≡ self.old.kept.runs) }
     {
         let outcome = self.session.send(event)?;
         let place = self.session.at().saturating_sub(1);
         self.kept.keep(0, place, &outcome)?;
-        Ok(!outcome.shown().is_empty())
+        self.kept.add_work(1);
+        Ok(())
     }
 
-    // Sends as long as bytes wait, so often at most as a round has Sends.
-    fn send_bytes(&mut self) -> Result<(), SessionError>
-        requires { self.old.kept.runs < 2 ^ 64 }
-        ensures plays { IfOk result (λ _. PlaysOn self.old self.new) }
+    // Sends an event that isn't Run, so often.
+    fn show_often(&mut self, event: Event, count: u32) -> Result<(), SessionError>
+        requires other { runs_in (event_of event) ≡ 0 }
+        requires room { self.old.kept.runs < 2 ^ 64 }
+        ensures plays { IfOk result (λ _. PlaysFirst (replicate count (event_of event)) self.old self.new) }
         ensures runs { IfOk result (λ _. self.new.kept.runs ≡ self.old.kept.runs) }
     {
-        'sends: for _ in 0..SENDS {
-            if !self.show(Event::Send)? {
-                return Ok(());
-            }
+        for sent in 0..count {
+            self.show(event)?;
         }
         Ok(())
     }
 
-    // Types a key, if there is one left.
-    fn type_key(&mut self, key: Option<u8>) -> Result<(), SessionError>
-        requires { self.old.kept.runs < 2 ^ 64 }
-        ensures plays { IfOk result (λ _. PlaysOn self.old self.new) }
-        ensures runs { IfOk result (λ _. self.new.kept.runs ≡ self.old.kept.runs) }
+    // Plays an event of a round so many times: of its Runs as many as go before the run is full.
+    fn play_part(&mut self, event: Event, count: u32) -> Result<(), SessionError>
+        requires { self.old.kept.runs + count * runs_in (event_of event) < 2 ^ 64 }
+        ensures plays { IfOk result (λ _. PlaysFirst (replicate count (event_of event)) self.old self.new) }
+        ensures runs { IfOk result (λ _. self.new.kept.runs ≤ self.old.kept.runs + count * runs_in (event_of event)) }
     {
-        let Some(key) = key else {
-            return Ok(());
-        };
-        self.show(Event::Key(key))?;
+        match event {
+            Event::Run => self.run_often(count),
+            Event::Tick | Event::Send | Event::Key(_) => self.show_often(event, count),
+        }
+    }
+
+    // Plays parts, one after another, as long as the run isn't full.
+    fn play_parts(&mut self, parts: &[RoundPart]) -> Result<(), SessionError>
+        requires { self.old.kept.runs + runs_among (events_of_parts parts.now) < 2 ^ 64 }
+        ensures plays { IfOk result (λ _. PlaysFirst (events_of_parts parts.now) self.old self.new) }
+        ensures runs { IfOk result (λ _. self.new.kept.runs ≤ self.old.kept.runs + runs_among (events_of_parts parts.now)) }
+    {
+        for part in parts {
+            if self.kept.is_full() {
+                return Ok(());
+            }
+            self.play_part(part.event, part.count)?;
+        }
         Ok(())
     }
 
-    // A round: a key, if there is one left, Runs, a tick, and Sends as long as a byte waits.
+    // A round, unless the run is full before its end.
     fn play_round(&mut self, quantum: u32, key: Option<u8>) -> Result<(), SessionError>
         requires { self.old.kept.runs + quantum < 2 ^ 64 }
-        ensures plays { IfOk result (λ _. PlaysOn self.old self.new) }
+        ensures plays { IfOk result (λ _. PlaysFirst (round quantum (option_to_list key)) self.old self.new) }
         ensures runs { IfOk result (λ _. self.new.kept.runs ≤ self.old.kept.runs + quantum) }
     {
-        self.type_key(key)?;
-        self.send_runs(quantum)?;
-        self.show(Event::Tick)?;
-        self.send_bytes()?;
-        Ok(())
+        let parts = round_parts(key, quantum);
+        self.play_parts(&parts)
     }
 
     /// How the run ended.
     pub fn end(&self) -> End
-        ensures { result ≡ end_of self.now.session.machine.world.turns.halted (told_of self.now.kept) }
+        ensures { result ≡ end_of self.now.session.machine.world.turns.halted self.now.kept }
     {
         if let Some(status) = self.session.machine().halted() {
             return End::Exited(status);
@@ -278,64 +344,77 @@ impl Played {
         if self.kept.shown.len() > SHOWN_MAX {
             return End::TooMuchShown;
         }
-        if self.kept.idle {
-            return End::Waits;
+        if self.kept.work > self.kept.budget {
+            return End::OverBudget;
         }
-        End::Computes
+        match (self.kept.idle, self.kept.sending) {
+            (true, true) => End::Floods,
+            (true, false) => End::Waits,
+            (false, _) => End::Computes,
+        }
     }
 
-    // Whether no further round is played.
-    fn is_over(&self) -> bool {
-        match self.end() {
-            End::Exited(_) => true,
-            End::TooManyNotes => true,
-            End::TooMuchShown => true,
-            End::Waits => false,
-            End::Computes => false,
-        }
+    // Whether no further round is played: `init` has ended, or the run is over.
+    fn is_ended(&self) -> bool
+        ensures { result ≡ (is_some self.now.session.machine.world.turns.halted || is_over self.now.kept) }
+    {
+        self.session.machine().halted().is_some() || self.kept.is_over()
     }
 }
 
-// A run in which nothing has happened yet.
-fn begin(alloc: Global, session: Session) -> Played
+// A run in which nothing has happened yet, and which may do so much work.
+fn begin(alloc: Global, session: Session, budget: u64) -> Played
     ensures session { result.session ≡ session }
     ensures kept { told_of result.kept ≡ nothing }
+    ensures budget { result.kept.budget ≡ budget }
     ensures recorded { IsRecorded session }
 {
     // That its events lead to where it is, is known once it is looked at.
     let _machine = session.machine();
     Played {
         session,
-        kept: Kept::new(alloc),
+        kept: Kept::new(alloc, budget),
     }
 }
 
-/// Boots a machine of these programs, and plays rounds up to the end of the plan or of `init`. A byte of the keys is
-/// typed in each round, until there is none left. A boot that is refused is no error: its refusal is the result.
+// The key at a place, if there is one.
+fn key_at(keys: &[u8], place: usize) -> Option<u8>
+    ensures { result ≡ slice_get keys.now place }
+{
+    match keys.get(place) {
+        Some(key) => Some(*key),
+        None => None,
+    }
+}
+
+/// Boots a machine of these programs, and plays the rounds of a plan, up to the end of `init`, or until too much is noted,
+/// shown or done. A byte of the keys is typed in each round, until there is none left. A boot that is refused is no error:
+/// its refusal is the result.
 ///
 /// # Errors
 ///
 /// [`SessionError`].
-pub fn play(
+pub(crate) fn play(
     alloc: Global,
     config: Config,
     plan: Plan,
     programs: Vec<Program>,
     keys: &[u8],
 ) -> Result<Result<Played, BootError>, SessionError>
-    ensures { IfOk result (IsPlayed config.frames config.trace (map named_file programs.items) (plan.rounds * plan.quantum)) }
+    ensures { IfOk result (IsPlayed config.frames config.trace (map named_file programs.items) plan keys.now) }
 {
     let session = match Session::boot(alloc, config, programs) {
         Ok(session) => session,
         Err(BootError::Memory) => return Err(SessionError::Memory),
         Err(error) => return Ok(Err(error)),
     };
-    let mut played = begin(alloc, session);
+    let mut played = begin(alloc, session, plan.budget);
     for round in 0..plan.rounds {
-        if played.is_over() {
-            break;
+        if played.is_ended() {
+            return Ok(Ok(played));
         }
-        played.play_round(plan.quantum, keys.get(round as usize).copied())?;
+        let key = key_at(keys, round as usize);
+        played.play_round(plan.quantum, key)?;
     }
     Ok(Ok(played))
 }

@@ -149,6 +149,20 @@ fn wait_text(
     format!(in alloc; "waits: {line}")
 }
 
+// That a run waits for the console alone, which still sends.
+fn flood_text(alloc: Global, played: &Played) -> Result<String, AllocError> {
+    let bytes = Grouped(played.kept.shown.len() as u64);
+    format!(in alloc; "floods: {bytes} bytes are shown, and the console still sends more")
+}
+
+// That the work of a run is more than its budget.
+fn budget_text(alloc: Global, played: &Played) -> Result<String, AllocError> {
+    let (budget, runs) = (Grouped(played.kept.budget), Grouped(played.kept.runs));
+    format!(in alloc;
+        "budget: {runs} Runs, and pages that they clear or copy, are more work than {budget}"
+    )
+}
+
 // That a run made more notes, or showed more bytes, than are kept.
 fn too_much_text(alloc: Global) -> Result<String, AllocError> {
     let (notes, bytes) = (Grouped(NOTES_MAX as u64), Grouped(SHOWN_MAX as u64));
@@ -160,7 +174,7 @@ fn too_much_text(alloc: Global) -> Result<String, AllocError> {
 /// # Errors
 ///
 /// [`Failure::OutOfMemory`].
-pub fn cause(
+pub(crate) fn cause(
     alloc: Global,
     standing: Standing,
     submission: &Submission,
@@ -170,7 +184,9 @@ pub fn cause(
         Standing::Loops => Ok(loop_text(alloc, submission, played)?),
         Standing::Waits => Ok(wait_text(alloc, submission, played)?),
         Standing::Fault => fault_text(alloc, submission, played),
+        Standing::Floods => Ok(flood_text(alloc, played)?),
         Standing::TooMuch => Ok(too_much_text(alloc)?),
+        Standing::Budget => Ok(budget_text(alloc, played)?),
         Standing::Right | Standing::Wrong | Standing::Refused => Ok(String::new(alloc)),
     }
 }

@@ -17,7 +17,7 @@ const NOTES_SHOWN: usize = 10_000;
 /// # Errors
 ///
 /// [`Failure::Write`], and [`Failure::OutOfMemory`].
-pub fn write_result<R: Files + AllocGlobal>(
+pub(crate) fn write_result<R: Files + AllocGlobal>(
     rt: &R,
     settings: &Settings,
     name: &str,
@@ -94,7 +94,7 @@ fn write_part<R: Files + AllocGlobal>(
 /// # Errors
 ///
 /// [`Failure::Write`], and [`Failure::OutOfMemory`].
-pub fn write_run<R: Files + AllocGlobal>(
+pub(crate) fn write_run<R: Files + AllocGlobal>(
     rt: &R,
     settings: &Settings,
     number: usize,

@@ -1,14 +1,17 @@
-use Rattle.std.proofs.Common.{◌*◌, map}
+use Rattle.std.proofs.Common.{◌≡◌, ℕ, List, sym, subst}
 use Rattle.std.proofs.lemmas.Result.{IfOk-weaker}
-use Rattle.kernel_spec.specs.views.State.{named_file}
-use Rattle.grade_submissions.specs.Results.{IsGradeOf, IsResultOf}
-use Rattle.grade_submissions.proofs.Making.{made}
+use Rattle.std.specs.Prelude.{String}
+use Rattle.std.specs.declared.alloc.Global.{Global}
+use Rattle.grade_submissions.specs.declared.submission.HandedIn.TheVariants.{File}
+use Rattle.grade_submissions.specs.Files.{AreFoundIn}
+use Rattle.grade_submissions.specs.Results.{Places, IsResultWith, IsResultIn}
 use Rattle.grade_submissions.proofs.grading.one_run.Goals as goal
 
--- it was run
-pub returns-in-Ok : goal.returns-in-Ok
-returns-in-Ok g c =
-    let plan = c.plan_of.result in
-    IfOk-weaker c.made_run.result (IsGradeOf c.args.run.now c.in-Ok.played) (IsResultOf c.args.run.now)
-    (λ grade graded. made c.args.run.now (map named_file c.in_ok-programs.programs.items) (plan.rounds * plan.quantum) _ _ grade
-    c.in-Ok.is graded c.plan_of.ensures c.in_ok-played.ensures) c.made_run.ensures
+pub returns : goal.returns
+returns g c =
+    let run = c.args.run.now in
+    let found = c.in_ok-files.files in
+    let here : AreFoundIn c.args.exercise_folder.now run.with.items found =
+    subst (λ (files : List (String Global)). AreFoundIn c.args.exercise_folder.now files found) c.as_slice.ensures.value c.in_ok-files.ensures in
+    IfOk-weaker c.played_run.result (IsResultWith run found c.args.submission.now) (IsResultIn run c.args.exercise_folder.now (File c.args.submission.now))
+    (λ grade given places folder one. given places (record { exercise = subst (λ (f : List ℕ). AreFoundIn f run.with.items found) (sym folder) here; handed_in = one })) c.played_run.ensures

@@ -1,6 +1,9 @@
-use Rattle.std.proofs.Common.{◌+◌, ◌<◌, List, length, take, sym, subst, arith}
+use Rattle.std.proofs.Common.{◌+◌, ◌<◌, List, length, take, refl, sym, subst, arith}
+use Rattle.std.specs.Prelude.{String}
+use Rattle.std.specs.declared.alloc.Global.{Global}
 use Rattle.grade_sheets.specs.declared.grade.RunGrade.{RunGrade}
-use Rattle.grade_submissions.specs.Results.{AreResultsOf}
+use Rattle.grade_submissions.specs.Files.{IsHandedIn}
+use Rattle.grade_submissions.specs.Results.{Places, AreResultsOf}
 use Rattle.grade_submissions.proofs.Collecting.{result_more}
 use Rattle.grade_submissions.proofs.grading.run_results.Goals as goal
 
@@ -9,6 +12,10 @@ pub loop-run-preserved : goal.loop-run-preserved
 loop-run-preserved g c =
     let runs = c.args.runs.now in
     let place = c.loop-run.run-index in
+    let places : Places = record { exercise = c.args.exercise_folder.now; submission = c.args.folder.now } in
     let within : place < length runs = omega (arith, c.loop-run-test.true) in
-    subst (λ (rs : List RunGrade). AreResultsOf (take (place + 1) runs) rs) (sym c.in_ok-push.ensures.items)
-    (result_more runs c.loop-run.grades.items place c.run-item.result c.in_ok-run_result.field-0 within c.run-item.is c.loop-run.invariant c.in_ok-run_result.ensures)
+    let handed : IsHandedIn c.args.folder.now c.run-item.result.files.items c.in_ok-handed_in.handed_in =
+    subst (λ (files : List (String Global)). IsHandedIn c.args.folder.now files c.in_ok-handed_in.handed_in) c.as_slice.ensures.value c.in_ok-handed_in.ensures in
+    subst (λ (rs : List RunGrade). AreResultsOf places (take (place + 1) runs) rs) (sym c.in_ok-push.ensures.items)
+    (result_more places runs c.loop-run.grades.items place c.run-item.result c.in_ok-run_result.field-0 within c.run-item.is c.loop-run.invariant
+    (c.in_ok-run_result.ensures places refl handed))

@@ -1,9 +1,9 @@
 use Rattle.std.proofs.Common.{◌*◌, ◌≤◌}
-use Rattle.grade_submissions.specs.Plays.{PlaysOn}
+use Rattle.grade_submissions.proofs.Planning.{HasPlayed}
 use Rattle.grade_submissions.proofs.playing.play.Given as goal
 
 abbrev pub invariant-loop-round : goal.invariant-loop-round
 invariant-loop-round l = record {
-  plays : PlaysOn l.initial.played l.played;
+  played : HasPlayed l.plan l.keys l.round l.initial.played l.played;
   few : l.played.kept.runs ≤ l.round * l.plan.quantum;
 }
