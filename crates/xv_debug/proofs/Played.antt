@@ -1,6 +1,6 @@
 -- Events that are played one behind another, and what the console shows of them.
 use Rattle.std.proofs.Common.{◌≡◌, ◌≤◌, ◌-◌, ℕ, zero, suc, Bool, true, false, ◌||◌, Option, None, Some, ◌+◌, ◌<◌, List, [], ◌∷◌, ◌++◌, length, get_or, map, replicate, take, sym, ap, ap₂, ◌∙◌, subst}
-use Rattle.std.proofs.Common.{append_assoc, add-one, refl, arith, length-append, min, Result, Ok, Err, IfErr}
+use Rattle.std.proofs.Common.{append_assoc, add-one, refl, arith, length-append, min}
 use Rattle.std.proofs.lemmas.List.{append-nil, map-append, replicate-append-replicate, take_more}
 use Rattle.std.proofs.lemmas.Grind.{flat_map-append}
 use Rattle.circular_buffer.specs.Buffer.{keep_last, buffer, Buffer}

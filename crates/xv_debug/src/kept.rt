@@ -1,7 +1,7 @@
 //! The marks that are kept, at which `c` stops.
 ghost use Rattle.std.specs.Prelude.{◌≡◌};
 ghost use Rattle.xv_session.specs.Recorded.{running_of};
-ghost use Rattle.xv_debug.specs.Kept.{is_left, marks_of};
+ghost use Rattle.xv_debug.specs.Kept.{is_left};
 
 use crate::motion::is_at_mark;
 use crate::names::Known;
@@ -78,9 +78,7 @@ fn is_left(session: &Session, kept: &Kept) -> bool
 }
 
 impl KeptMarks {
-    ghost use Rattle.std.specs.Prelude.{◌≡◌, ◌≢◌, ◌∷◌, [], ◌++◌, filter, map, IfSome, IfNone};
-    ghost use Rattle.xv_session.specs.Recorded.{running_of};
-    ghost use Rattle.xv_debug.specs.Kept.{is_left, marks_of};
+    ghost use Rattle.std.specs.Prelude.{◌≡◌, ◌∷◌, [], ◌++◌, IfSome, IfNone};
 
     /// None yet.
     pub fn new() -> KeptMarks
