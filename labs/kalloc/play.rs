@@ -80,7 +80,7 @@
             let is = listed(mine, &pool, frame);
             let wanted = if other == number { 0 } else { listed(its, &before, frame) };
             if is != wanted {
-                let _ = println!(*rt; "before: {count} of 16 frames are free; frame {number} is taken\nclause: taken\nasked: frame {other} is {wanted} times in the list\ncame: {is} times (99: the list has no end, or leads out of RAM)");
+                let _ = println!(*rt; "before: {count} of 16 frames are free; frame {number} is taken\nclause: taken\nasked: frame {other} stands {wanted} times in the list\ncame: {is} times (99: the list has no end, or leads out of RAM)");
                 return false;
             }
             let same = wanted == 1 || is_same_frame(mine, its, frame);

@@ -179,13 +179,20 @@ def judged(folder, tell=lambda text: None):
     return answer.lab.name, verdicts.judge(answer.lab, answer.body, answer.line, tell)
 
 
+def messages_of(name):
+    """What is said of each verdict in the lab of this name; of a folder whose lab isn't known, what is said of most."""
+    if name and laws.is_one(name):
+        return laws.MESSAGES
+    return rows.MESSAGES if name and rows.is_one(name) else verdicts.MESSAGES
+
+
 def check(folder):
     """Checks one folder, and shows the verdict."""
     need_kit()
     if not os.path.isdir(folder):
         raise LabError(f"there is no folder {folder}: `lab NAME` makes one")
-    _, verdict = judged(folder, say)
-    print((laws.MESSAGES if has_laws(folder) else verdicts.MESSAGES)[verdict.word])
+    name, verdict = judged(folder, say)
+    print(messages_of(name)[verdict.word])
     for line in verdict.lines:
         print(f"    {line}")
     return 0 if verdict.word == PROVED else 1

@@ -22,6 +22,12 @@ NO_WORDS = """use pub module mod data abbrev unfoldable unfolding where postulat
 search grind simp omega cc rw refl subst sym ap macro syntax rules Type prim""".split()
 MOST_LINES = 60
 
+MESSAGES = {
+    **verdicts.MESSAGES,
+    PROVED: "proved: the row meets its laws, and the body answers what the row has, for every table of processes",
+    WRONG: "wrong: here is a case, of the row or of the body",
+}
+
 
 def is_one(name):
     """Whether the lab of this name asks for a row too."""
