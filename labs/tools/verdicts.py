@@ -118,10 +118,18 @@ def played_body(lab, body):
 
 def judge(lab, body, line, say=lambda text: None):
     """The verdict on one body. It is proved first, which takes less time than a play; a body that is proved has no case in
-    which it is wrong, and isn't played."""
+    which it is wrong, and isn't played. A lab whose proofs take minutes plays first: a body that is wrong isn't proved then."""
+    play = None
+    if lab.said.get("plays_first"):
+        say("playing it beside the crate's own body, in a build without proofs")
+        play = played_body(lab, body)
+        if play.verdict == WRONG:
+            return verdict_of(lab, prover.Proof(OPEN), play)
     say("proving")
     proof, start = proved_body(lab, body, 1)
     if proof.verdict != OPEN:
         return verdict_of(lab, proof, None, (start, line))
-    say("there is no proof; playing it beside the crate's own body, in a build without proofs")
-    return verdict_of(lab, proof, played_body(lab, body), (start, line))
+    if not play:
+        say("there is no proof; playing it beside the crate's own body, in a build without proofs")
+        play = played_body(lab, body)
+    return verdict_of(lab, proof, play, (start, line))
