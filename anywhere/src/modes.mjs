@@ -1,7 +1,6 @@
 // What xv does by its words: which program runs them, and how. The modes may stand anywhere before the word `--`.
 import { isatty } from "node:tty";
 import { help, status, tell_version } from "./about.mjs";
-import { explain } from "./explain.mjs";
 import { commands_among, write_commands } from "./gdb_commands.mjs";
 import { picture } from "./picture.mjs";
 import { module_of, run } from "./program.mjs";
@@ -23,8 +22,8 @@ function gdb(words) {
 }
 
 const DOINGS = {
-  run: program("xv_run"), terminal: at_terminal, "--why": why, "--explain": explain, "--picture": picture, "--debug": debug,
-  "--gdb": gdb,
+  run: program("xv_run"), terminal: at_terminal, "--why": why, "--explain": program("xv_explain"), "--picture": picture,
+  "--debug": debug, "--gdb": gdb,
 };
 
 function say(text, status) {
@@ -53,10 +52,10 @@ function answered(first) {
   }
 }
 
-/** The one mode that these make: of two only --why and --explain go together. Null if they don't. */
+/** The one mode that these make: of two only --why and --explain go together, by which xv_why tells each event. Null if they don't. */
 function one_of(modes) {
   const kinds = [...new Set(modes)];
-  if (kinds.length === 2 && kinds.includes("--why") && kinds.includes("--explain")) return "--explain";
+  if (kinds.length === 2 && kinds.includes("--why") && kinds.includes("--explain")) return "--why";
   return kinds.length > 1 ? null : kinds[0];
 }
 
@@ -79,7 +78,7 @@ export function main() {
   if (mode === null) return say(`${modes.find((it) => it !== modes[0])} doesn't go with ${modes[0]}`, REFUSED);
   const known = status();
   if (!known.runs) return say(known.text, NOTHING_RUNS);
-  const taken = as_taken(rest);
+  const taken = as_taken(mode === "--why" && modes.includes("--explain") ? ["--explain", ...rest] : rest);
   const kind = mode ?? (are_for_terminal(taken) ? "terminal" : "run");
   const looked = looked_at(kind, taken, (text) => say(text));
   return looked.words ? DOINGS[kind](looked.words) : looked.status;

@@ -9,12 +9,14 @@ import { kinds_of } from "./words.mjs";
 const MOST_FILES = 64, MOST_NAME_BYTES = 14, MOST_MISTAKES = 20;
 const WORDS_REFUSED = 1, FILE_REFUSED = 2;
 const ALL = ["run", "terminal", "--why", "--explain", "--picture", "--debug", "--gdb"];
-const SESSION = ["terminal"], GDB = ["--gdb"];
+const SESSION = ["terminal"], GDB = ["--gdb"], CALLS = ["--explain"];
 
 /** The kinds that take an option. The last five are given by scripts. */
 const TAKERS = {
   "--frames": ALL, "--rounds": ["run", "--why", "--explain", "--picture"], "--quantum": ["run", "--why", "--explain", "--picture", "--gdb"],
-  "--trace": ["run", "terminal", "--why", "--explain", "--debug"], "--tick": SESSION, "--record": SESSION, "--replay": SESSION,
+  "--trace": ["run", "terminal", "--why", "--explain", "--debug"],
+  "--pid": CALLS, "--call": CALLS, "--failed": CALLS, "--count": CALLS, "--explain": ["--why"],
+  "--tick": SESSION, "--record": SESSION, "--replay": SESSION,
   "--most": GDB, "--keys": GDB, "--type": GDB, "--file": GDB, "--commands": GDB,
   "--notes": ALL, "--lines": ALL, "--apart": ALL, "--terminal": ALL, "--prompt": ALL,
 };

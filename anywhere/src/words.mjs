@@ -1,9 +1,9 @@
 // The words of a command line: their bytes, which of them are modes, options and FILEs, and what Windows leaves to programs.
 import { readFileSync, readdirSync } from "node:fs";
 
-const NUMBERS = ["--frames", "--rounds", "--quantum", "--trace", "--tick", "--most"];
+const NUMBERS = ["--frames", "--rounds", "--quantum", "--trace", "--tick", "--most", "--pid"];
 const PATHS = ["--record", "--replay", "--lines", "--keys", "--file", "--commands"];
-const VALUED = [...NUMBERS, ...PATHS, "--type"];
+const VALUED = [...NUMBERS, ...PATHS, "--type", "--call"];
 
 /**
  * The words of this process. Node reads bytes that aren't UTF-8 as U+FFFD: where one stands, the word is taken as it came, as a

@@ -120,8 +120,6 @@ machine.calls.xv_page_assemble(source, 8n, machine.room, 65536n, machine.table, 
 for (const [call, place, answer] of [["xv_page_line", 0n, 0], ["xv_page_line", 1n, 4], ["xv_page_line", 2n ** 63n, 4], ["xv_page_label", 0n, 4]]) is(row(call, place), answer, `${call} at the place ${place}`);
 machine.calls.xv_page_assemble(at, 3n, machine.room, 65536n, machine.table, machine.told);
 is(row("xv_page_line", 0n), 4, "a line of what is no text");
-// The same calls as in the list of --explain, which has no module to ask.
-is([...machine.kernel_calls].map(([number, name]) => `${number} ${name}\n`).join(""), readFileSync(new URL("../../programs/host/calls.txt", import.meta.url), "utf8"), "the kernel's calls");
 is(machine.calls.xv_page_call(16n, machine.told, machine.room, 65536n) & 255, 4, "a call behind the last");
 machine.memory().fill(0, machine.room_at, machine.room_at + 4);
 is(machine.calls.xv_page_call(0n, machine.told, machine.room, 3n) & 255, 0, "a call");

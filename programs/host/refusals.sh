@@ -26,6 +26,8 @@ takers() {
         --rounds) echo 'run --why --explain --picture' ;;
         --quantum) echo 'run --why --explain --picture --gdb' ;;
         --trace) echo 'run terminal --why --explain --debug' ;;
+        --pid | --call | --failed | --count) echo --explain ;;
+        --explain) echo --why ;;
         --tick | --record | --replay) echo terminal ;;
         --most | --keys | --type | --file | --commands) echo --gdb ;;
         # The options that scripts give.
@@ -36,7 +38,7 @@ takers() {
 
 has_value() {
     case $1 in
-        --notes | --apart | --terminal | --prompt) return 1 ;;
+        --explain | --failed | --count | --notes | --apart | --terminal | --prompt) return 1 ;;
     esac
 }
 

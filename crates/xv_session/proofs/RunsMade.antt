@@ -56,7 +56,7 @@ no-other None o idle halted e = idle e
 no-other (Some status) o idle halted e = halted e
 
 -- no instruction is done where nobody runs
-first-no-step : (w t : World) (p : ℕ) → w.turns.current ≡ None → Happens w Run (Step_of p Stepped) t → ⊥
+pub first-no-step : (w t : World) (p : ℕ) → w.turns.current ≡ None → Happens w Run (Step_of p Stepped) t → ⊥
 first-no-step w t p stopped h = elim (one-passes w t (Step_of p Stepped) stopped h) [
   | inl turn ↦ let e : Step_of p Stepped ≡ Turn turn.0 = turn.1 in let bad : ⊥ = cc in bad
   | inr same ↦ no-step w.turns.halted p same.1
@@ -164,7 +164,7 @@ one-stays w t p is h = by w.turns.halted w.turns.current is h
         h.turns.current ∙ ap (stays_current q) same ∙ e
 
 -- it runs on, as long as its instructions are done
-runs-on : (n : ℕ) (w t : World) (p : ℕ) → w.turns.current ≡ Some p → IsPromised w (replicate n (done_by p)) t → t.turns.current ≡ Some p
+pub runs-on : (n : ℕ) (w t : World) (p : ℕ) → w.turns.current ≡ Some p → IsPromised w (replicate n (done_by p)) t → t.turns.current ≡ Some p
 runs-on zero w t p is run = ap (λ (v : World). v.turns.current) run ∙ is
 runs-on (suc n) w t p is (mid, one, more) = runs-on n mid t p (one-stays w mid p is one.0) more
 

@@ -1,9 +1,9 @@
-//! The programs around the machine, in one file: `xv_debugger`, `xv_gdb`, `xv_grade`, `xv_picture`, `xv_terminal` and
-//! `xv_why`.
+//! The programs around the machine, in one file: `xv_debugger`, `xv_explain`, `xv_gdb`, `xv_grade`, `xv_picture`,
+//! `xv_terminal` and `xv_why`.
 //!
 //! It is the one by whose name it is called (as in a release). Called by another name, as `xv_tools`, it
 //! is the one that its first word names. What each of them does is a library's, which is proved once. To prove a program
-//! means to read all modules below it, so one program costs what each of the six would cost.
+//! means to read all modules below it, so one program costs what each of the seven would cost.
 #![tactic(auto)]
 
 mod behind;
@@ -11,6 +11,7 @@ mod tool;
 
 use crate::behind::Behind;
 use crate::tool::{NAMES, Tool};
+use explained_run::explain_by_words;
 use gdb_target::serve_gdb;
 use grade_submissions::grade_by_words;
 use program_files::exit_statuses::DONE;
@@ -39,6 +40,7 @@ fn draw(rt: &HostRuntime) -> u8 {
 fn use_tool<W: Env + AllocGlobal>(rt: &HostRuntime, words: &W, tool: Tool) -> u8 {
     match tool {
         Tool::Debugger => debug_by_words(rt, words),
+        Tool::Explain => explain_by_words(rt, words),
         Tool::Gdb => serve_gdb(rt, words),
         Tool::Grade => grade_by_words(rt, words),
         Tool::Picture => draw(rt),

@@ -6,6 +6,8 @@ use std::rt::Env;
 pub(crate) enum Tool {
     /// `xv_debugger`: looks into a run, forth and back.
     Debugger,
+    /// `xv_explain`: tells the kernel calls of a run.
+    Explain,
     /// `xv_gdb`: serves GDB.
     Gdb,
     /// `xv_grade`: grades what a student handed in.
@@ -19,7 +21,8 @@ pub(crate) enum Tool {
 }
 
 /// The names, in the order of the alphabet.
-pub(crate) const NAMES: &str = "xv_debugger, xv_gdb, xv_grade, xv_picture, xv_terminal, xv_why";
+pub(crate) const NAMES: &str =
+    "xv_debugger, xv_explain, xv_gdb, xv_grade, xv_picture, xv_terminal, xv_why";
 
 /// The longest path of a program, in bytes. A host's paths have 4,095 at most.
 const PATH_BYTES: usize = 4096;
@@ -29,6 +32,7 @@ impl Tool {
     fn named(name: &str) -> Option<Tool> {
         match name {
             "xv_debugger" => Some(Tool::Debugger),
+            "xv_explain" => Some(Tool::Explain),
             "xv_gdb" => Some(Tool::Gdb),
             "xv_grade" => Some(Tool::Grade),
             "xv_picture" => Some(Tool::Picture),

@@ -1,0 +1,55 @@
+-- Which lines are asked for.
+use Rattle.std.specs.Prelude.{ℕ, ℤ, pos, negsuc, Bool, true, false, not, ◌&&◌, if◌then◌else◌, nat_eq, Option, None, Some}
+use Rattle.std.specs.Ordering.{int_eq}
+use Rattle.kernel_calls.specs.Table.{entry_of}
+use Rattle.kernel_calls.specs.declared.call.KernelCall.{KernelCall}
+use Rattle.kernel_spec.specs.runs.Run.{Outcome, Step_of}
+use Rattle.kernel_spec.specs.steps.Own.{Answer, Stepped, Called, Blocked, Exited, Faulted}
+use Rattle.explained_run.specs.declared.choice.Choice.{Choice}
+use Rattle.explained_run.specs.Seen.{Before}
+
+-- this process, or any if none is asked for
+abbrev pub is_process : Option ℕ → (p : ℕ) → Bool
+is_process None p = true
+is_process (Some chosen) p = nat_eq chosen p
+
+-- lines of process p are asked for
+abbrev pub shows_process : Choice → (p : ℕ) → Bool
+shows_process choice p = choice.lines && is_process choice.pid p
+
+-- this call, or any if none is asked for
+abbrev pub is_call : Option KernelCall → (number : ℤ) → Bool
+is_call None number = true
+is_call (Some call) number = int_eq (pos (entry_of call).number) number
+
+abbrev pub shows_call : Choice → (number : ℤ) → Bool
+shows_call choice number = is_call choice.call number
+
+-- lines of calls are asked for that haven't failed
+abbrev pub shows_unfailed : Choice → (number : ℤ) → Bool
+shows_unfailed choice number = not choice.failed && shows_call choice number
+
+-- the line of a call that has answered: one that has answered less than 0 has failed
+abbrev pub shows_answer : Choice → (number value : ℤ) → Bool
+shows_answer choice number (pos n) = shows_unfailed choice number
+shows_answer choice number (negsuc k) = shows_call choice number
+
+-- that a process is gone without the call exit: unless one call is asked for
+abbrev pub is_any_call : Option KernelCall → Bool
+is_any_call None = true
+is_any_call (Some call) = false
+
+abbrev pub shows_ends : Choice → Bool
+shows_ends choice = is_any_call choice.call
+
+-- what comes of a step of a process that is seen so before it; call 2 is exit
+abbrev pub shows_step : Choice → Before → Answer → Bool
+shows_step choice seen Stepped = false
+shows_step choice seen (Called number value) = shows_answer choice number value
+shows_step choice seen (Blocked number) = not seen.resumed && shows_unfailed choice number
+shows_step choice seen (Exited status) = if seen.marked then shows_ends choice else shows_unfailed choice (pos 2)
+shows_step choice seen (Faulted cause) = shows_ends choice
+
+abbrev pub shows : Choice → Before → Outcome → Bool
+shows choice seen (Step_of p answer) = shows_step choice seen answer
+shows choice seen _ = false

@@ -1,0 +1,87 @@
+//! Which lines are asked for.
+ghost use Rattle.std.specs.Prelude.{◌≡◌};
+ghost use Rattle.xv_machine.specs.Events.{outcome_of};
+ghost use Rattle.explained_run.specs.Chosen as meant;
+ghost use Rattle.explained_run.specs.Seen.{seen_of};
+
+use crate::seen::Seen;
+use kernel_calls::KernelCall;
+use xk_base::Pid;
+use xv_machine::Outcome;
+
+/// The number of the kernel call exit.
+const EXIT: i32 = 2;
+
+/// Which lines are asked for.
+#[derive(Clone, Copy)]
+pub struct Choice {
+    /// Lines are written at all.
+    pub lines: bool,
+    /// Those of this process alone.
+    pub pid: Option<Pid>,
+    /// Those of this call alone.
+    pub call: Option<KernelCall>,
+    /// Those of calls that have failed, and of what ends a process.
+    pub failed: bool,
+}
+
+impl Choice {
+    /// Whether lines of a process are asked for.
+    pub(crate) fn shows_process(&self, pid: Pid) -> bool
+        ensures { result ≡ meant.shows_process self.now pid }
+    {
+        match self.pid {
+            Some(chosen) => self.lines && chosen.number() == pid.number(),
+            None => self.lines,
+        }
+    }
+
+    // Whether lines of a call are asked for.
+    fn shows_call(&self, number: i32) -> bool
+        ensures { result ≡ meant.shows_call self.now number }
+    {
+        match self.call {
+            Some(call) => call.number() == number,
+            None => true,
+        }
+    }
+
+    // Whether lines of calls that haven't failed are asked for.
+    fn shows_unfailed(&self, number: i32) -> bool
+        ensures { result ≡ meant.shows_unfailed self.now number }
+    {
+        !self.failed && self.shows_call(number)
+    }
+
+    // Whether the line of a call with this answer is asked for.
+    fn shows_answer(&self, number: i32, value: i64) -> bool
+        ensures { result ≡ meant.shows_answer self.now number value }
+    {
+        if value < 0 {
+            self.shows_call(number)
+        } else {
+            self.shows_unfailed(number)
+        }
+    }
+
+    // Whether it is told that a process is gone without the call exit.
+    fn shows_ends(&self) -> bool
+        ensures { result ≡ meant.shows_ends self.now }
+    {
+        self.call.is_none()
+    }
+
+    /// Whether what came of a step is told.
+    pub(crate) fn shows(&self, seen: &Seen, outcome: &Outcome) -> bool
+        ensures { result ≡ meant.shows self.now (seen_of seen.now) (outcome_of outcome.now) }
+    {
+        match outcome {
+            Outcome::Called { number, value, .. } => self.shows_answer(*number, *value),
+            Outcome::Blocked { number, .. } => !seen.resumed && self.shows_unfailed(*number),
+            Outcome::Exited { .. } if seen.marked => self.shows_ends(),
+            Outcome::Exited { .. } => self.shows_unfailed(EXIT),
+            Outcome::Faulted { .. } => self.shows_ends(),
+            _ => false,
+        }
+    }
+}

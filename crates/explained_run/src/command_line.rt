@@ -1,0 +1,117 @@
+//! The words of the command line.
+ghost use Rattle.std.specs.Prelude.{◌≡◌, ◌≤◌, IfOk};
+ghost use Rattle.explained_run.specs.Ranges.{AreInRange};
+ghost use Rattle.xk_base.specs.declared.limits.TheConstants.{PID_MAX};
+
+use crate::NAME;
+use crate::line::Settings;
+use program_files::{
+    CommandLine, CommandWord, FRAMES, NumberOption, QUANTUM, ROUNDS, TRACE, WordsError, given_words,
+};
+use std::rt::Env;
+use xk_base::Pid;
+use xk_base::limits::PID_MAX;
+
+/// The word that names a process.
+const PID: NumberOption = NumberOption {
+    name: "pid",
+    help: "Tell of this process alone; 0: of all",
+    default: "0",
+    least: 0,
+    most: PID_MAX,
+};
+
+/// The word that names a kernel call.
+const CALL: &str = "call";
+
+/// The word that asks for calls that failed.
+const FAILED: &str = "failed";
+
+/// The word that asks for a table.
+const COUNT: &str = "count";
+
+/// What stands below the list of options in the text of `--help`.
+const MORE_HELP: &str = "\
+It runs programs as xv_run does: the FILEs, the rounds, the keys from standard input, what goes to
+standard output, and the exit status are the same.
+
+On standard error stands a line for each kernel call that is done, with what was passed to it and
+what it answered:
+
+  3 (wc): read(0, \"echo hi\\n\", 64) = 8
+
+A call that waits has a line that ends with `..waits`; its name has two dots before it once it is
+done. Bytes are written as strings of C, 32 at most. Of what a process reads or is told the line has
+what was stored. `killed` and `fault` tell that a process is gone without a call; xv_why tells more.
+
+With --count a table tells at the end how many calls each process has done, how many of them
+answered less than 0, and how many instructions it has done. It stands in place of the lines.";
+
+const COMMAND_LINE: CommandLine = CommandLine {
+    name: NAME,
+    about: "Runs programs as xv_run does, and tells their kernel calls",
+    more_help: MORE_HELP,
+    words: &[
+        CommandWord::Number(&FRAMES),
+        CommandWord::Number(&ROUNDS),
+        CommandWord::Number(&QUANTUM),
+        CommandWord::Number(&TRACE),
+        CommandWord::Number(&PID),
+        CommandWord::Text {
+            name: CALL,
+            value: "NAME",
+            help: "Tell this kernel call alone, as read",
+        },
+        CommandWord::Flag {
+            name: FAILED,
+            help: "Tell only calls that answered less than 0, and faults and kills",
+        },
+        CommandWord::Flag {
+            name: COUNT,
+            help: "Count the calls of each process in place of the lines",
+        },
+        CommandWord::Files,
+    ],
+};
+
+// The process that is named, if any.
+fn chosen_pid(number: u32) -> Option<Pid>
+    requires { number ≤ PID_MAX }
+{
+    if number == 0 {
+        return None;
+    }
+    Some(Pid::new(number))
+}
+
+/// What the words of the command line ask for.
+///
+/// # Errors
+///
+/// Those of [`given_words`]: if a word is neither an option nor a FILE, if a number isn't in its range, if no FILE is
+/// given, if a word isn't text, if help is asked for, or if the host has too little memory.
+pub fn settings<R: Env + AllocGlobal>(rt: &R) -> Result<Settings, WordsError>
+    ensures { IfOk result (λ s. AreInRange s) }
+{
+    let given = given_words(rt, &COMMAND_LINE)?;
+    let frames = given.number(&FRAMES)?;
+    let rounds = given.number(&ROUNDS)?;
+    let quantum = given.number(&QUANTUM)?;
+    let trace = given.number(&TRACE)?;
+    let pid = given.number(&PID)?;
+    let call = given.text(CALL)?;
+    let failed = given.flag(FAILED);
+    let count = given.flag(COUNT);
+    let files = given.files()?;
+    Ok(Settings {
+        frames,
+        rounds: u64::from(rounds),
+        quantum,
+        trace,
+        pid: chosen_pid(pid),
+        call,
+        failed,
+        count,
+        files,
+    })
+}

@@ -1,0 +1,134 @@
+//! A machine that goes on, and what is told of it.
+ghost use Rattle.std.specs.Prelude.{◌≡◌, ◌≤◌, ◌<◌, false, Some, string_bytes};
+ghost use Rattle.kernel_spec.specs.runs.Run as runs;
+ghost use Rattle.xv_session.specs.Names.{AreLive};
+ghost use Rattle.explained_run.specs.LiveFact.{live-prop};
+ghost use Rattle.explained_run.specs.Told.{IsTold};
+
+use crate::choice::Choice;
+use crate::counts::Counts;
+use crate::seen::{Seen, is_marked};
+use crate::telling::tell;
+use std::alloc::Global;
+use xk_base::{BootError, Pid, Program};
+use xv_machine::{Config, Event, Machine, Outcome};
+use xv_session::Running;
+
+/// A machine that goes on, and what is told of it since its boot.
+#[derive(Drop)]
+pub(crate) struct Explained {
+    pub alloc: Global,
+    /// Which lines are asked for.
+    pub choice: Choice,
+    pub running: Running,
+    pub counts: Counts,
+    /// Whether there was memory for each line.
+    pub complete: bool,
+    /// The lines since the boot.
+    pub text: String,
+    ghost live: { AreLive running.machine.world.state running.names } by { live-prop running.machine.world.state running.names },
+    ghost told: { ∥ IsTold choice running complete (string_bytes text) ∥₁ },
+}
+
+impl Explained {
+    ghost use Rattle.std.specs.Prelude.{map};
+    ghost use Rattle.kernel_spec.specs.runs.First.{first};
+    ghost use Rattle.kernel_spec.specs.views.State.{named_file};
+    ghost use Rattle.xv_machine.specs.Boots.{Boots};
+    ghost use Rattle.xv_machine.specs.Drives.{Ran};
+    ghost use Rattle.xv_machine.specs.Events.{event_of, outcome_of};
+    ghost use Rattle.xv_machine.specs.Reached.{IsEvent};
+    ghost use Rattle.xv_machine.specs.Sound.{IsSoundMachine};
+    ghost use Rattle.xv_session.specs.Steps.{Advances};
+    ghost use Rattle.explained_run.specs.Booted.{machine_of};
+    ghost use Rattle.explained_run.specs.Sent.{is_run};
+
+    /// A machine of these programs, which has got no event.
+    ///
+    /// # Errors
+    ///
+    /// Those of [`Machine::boot`].
+    pub fn boot(
+        alloc: Global,
+        config: Config,
+        programs: Vec<Program>,
+        choice: Choice,
+    ) -> Result<Explained, BootError>
+        ensures { Boots config.frames (machine_of result) (first config.frames config.trace (map named_file programs.items)) }
+    {
+        match Machine::boot(alloc, config, programs) {
+            Ok(machine) => Ok(Explained {
+                alloc,
+                choice,
+                running: Running::new(machine),
+                counts: Counts::new(alloc),
+                complete: true,
+                text: String::new(alloc),
+            }),
+            Err(error) => Err(error),
+        }
+    }
+
+    // Sends Run to the process that runs, once, and tells what comes of it.
+    fn step(&mut self, pid: Pid) -> Outcome
+        requires current { self.old.running.machine.world.turns.current ≡ Some pid }
+        requires sound { IsSoundMachine self.old.running.machine }
+        ensures { Advances self.old.running runs.Run (outcome_of result) self.new.running }
+    {
+        if !self.choice.shows_process(pid) {
+            return self.running.event(Event::Run);
+        }
+        let seen = Seen::of(self.alloc, &self.running, pid);
+        let outcome = self.running.event(Event::Run);
+        let Ok(seen) = seen else {
+            self.complete = false;
+            return outcome;
+        };
+        let told = tell(
+            self.alloc,
+            &self.choice,
+            &self.running.machine,
+            pid,
+            &seen,
+            &outcome,
+            &mut self.text,
+        );
+        if told.is_err() {
+            self.complete = false;
+        }
+        outcome
+    }
+
+    /// Sends Run, `most` times at most, up to the first of which no done instruction comes, and tells what comes of it.
+    /// If no process may run, all of them are sent.
+    pub fn run(&mut self, most: u32) -> u32
+        ensures ran { Ran most result self.old.running.machine self.new.running.machine }
+        ensures within { result ≤ most }
+        ensures some { 0 < most → 0 < result }
+    {
+        let Some(pid) = self.running.machine.current() else {
+            return self.running.run(most).sent;
+        };
+        let place = self.running.names.place(pid);
+        let made = self.running.machine.instructions(most);
+        self.counts.add_instructions(pid, place, made);
+        if made == most {
+            return most;
+        }
+        let marked = is_marked(&self.running.machine.process(pid));
+        let outcome = self.step(pid);
+        let place = self.running.names.place(pid);
+        self.counts.add_outcome(pid, place, marked, &outcome);
+        made + 1
+    }
+
+    /// Sends an event that isn't Run. Nothing is told of it.
+    pub fn send(&mut self, event: Event) -> Outcome
+        requires { is_run (event_of event) ≡ false }
+        ensures { IsEvent self.old.running.machine (event_of event) (outcome_of result) self.new.running.machine }
+    {
+        // (It says that the machine is sound.)
+        let _halted = self.running.machine.halted();
+        self.running.event(event)
+    }
+}

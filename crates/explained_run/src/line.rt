@@ -1,0 +1,25 @@
+//! What a command line asks for.
+use xk_base::Pid;
+
+/// What the words of a command line ask for.
+#[derive(Drop)]
+pub struct Settings {
+    /// Frames of RAM: 16 to 32,768.
+    pub frames: u32,
+    /// The most rounds that are made: 0 to 1,000,000,000.
+    pub rounds: u64,
+    /// Runs in each round: 1 to 1,000,000.
+    pub quantum: u32,
+    /// The most notes that the trace keeps: 0 to 65,536.
+    pub trace: u32,
+    /// The process whose lines alone are asked for, if there is one.
+    pub pid: Option<Pid>,
+    /// The name of the call whose lines alone are asked for, if there is one.
+    pub call: Option<String>,
+    /// Whether only calls that have failed are to be told, and faults and kills.
+    pub failed: bool,
+    /// Whether a table of what each process has done is asked for, in place of the lines.
+    pub count: bool,
+    /// The path of each FILE, in the order of the words: at least one.
+    pub files: Vec<String>,
+}

@@ -1,0 +1,39 @@
+//! The table of what each process has done.
+use crate::counts::Count;
+use crate::explained::Explained;
+use debug_words::texts::{Grouped, Plain};
+use std::io::Write;
+
+// The name of the program that a process ran last.
+fn name_of<'a>(explained: &'a Explained, count: &Count) -> &'a [u8] {
+    match count.program {
+        Some(place) => match explained.running.machine.programs().get(place) {
+            Some(program) => program.name.as_slice(),
+            None => b"?".as_slice(),
+        },
+        None => b"?".as_slice(),
+    }
+}
+
+/// Writes the table, a process in each row. What can't be written is left out.
+pub(crate) fn write_table<E: Write>(explained: &Explained, errors: &mut E) {
+    let Some(counts) = explained.counts.all() else {
+        let _ = writeln!(errors, "there was too little memory to count calls");
+        return;
+    };
+    let _ = writeln!(
+        errors,
+        "  pid  program          calls  failed    instructions"
+    );
+    for count in counts {
+        let pid = count.pid.number();
+        let name = Plain(name_of(explained, count));
+        let calls = Grouped(count.calls);
+        let failed = Grouped(count.failed);
+        let instructions = Grouped(count.instructions);
+        let _ = writeln!(
+            errors,
+            "{pid:>5}  {name:<14} {calls:>7} {failed:>7} {instructions:>15}"
+        );
+    }
+}
