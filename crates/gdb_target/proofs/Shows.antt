@@ -10,9 +10,6 @@ use Rattle.gdb_target.specs.Served.{ShowsAlone, shown_told}
 use Rattle.gdb_target.specs.declared.target.Pause.{Pause}
 use Rattle.gdb_target.specs.declared.target.Pause.TheVariants as pauses
 
-pub shows-none : (h : Option (List ℕ)) → ShowsAlone h h
-shows-none h = record { texts = []; sent = Appends-nil h }
-
 pub shows-more : (h k m : Option (List ℕ)) (text : List ℕ) → ShowsAlone h k → Appends k m (shown_told text) → ShowsAlone h m
 shows-more h k m text shows more = record {
   texts = shows.texts ++ text ∷ [];

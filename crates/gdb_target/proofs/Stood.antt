@@ -1,19 +1,11 @@
 -- A process that stands at a breakpoint.
 use Rattle.std.proofs.Common.{◌≡◌, ◌∙◌, ℕ, Bool, List, Option, None, Some, true, false, ap, refl}
 use Rattle.std.specs.Prelude.{◌&&◌}
-use Rattle.std.proofs.lemmas.Bool.{false≢true, eqb-true}
+use Rattle.std.proofs.lemmas.Bool.{false≢true, eqb-true, and_parts}
 use Rattle.kcall_core.specs.Observers.{registers_of}
 use Rattle.xv_session.specs.Names.{place_in}
 use Rattle.gdb_target.specs.Standing.{StandsAt, Starts, is_among, is_place, stands_at}
 use Rattle.gdb_target.specs.declared.played.Played.{Played}
-
-first-of : (a b : Bool) → (a && b) ≡ true → a ≡ true
-first-of true b both = refl
-first-of false b both = absurd (false≢true both)
-
-second-of : (a b : Bool) → (a && b) ≡ true → b ≡ true
-second-of true b both = both
-second-of false b both = absurd (false≢true both)
 
 is-place : (program : ℕ) (place : Option ℕ) → is_place program place ≡ true → place ≡ Some program
 is-place program None is = absurd (false≢true is)
@@ -23,4 +15,5 @@ pub stands_there : (run : Played) (program : ℕ) (addresses : List ℕ) (p : �
 stands_there run program addresses p starts stands =
     let at = is_among addresses (registers_of run.session.machine.world.state p) in
     let runs = is_place program (place_in p run.session.names) in
-    record { starts = starts; runs = is-place program (place_in p run.session.names) (second-of at runs stands); at = first-of at runs stands }
+    let both = and_parts at runs stands in
+    record { starts = starts; runs = is-place program (place_in p run.session.names) both.1; at = both.0 }

@@ -1,7 +1,8 @@
 -- Rounds of a plan, one behind another, and how they end.
-use Rattle.std.proofs.Common.{◌≡◌, ◌⊎◌, ◌∙◌, ℕ, zero, suc, ◌+◌, ◌*◌, ◌<◌, ◌≤◌, arith, Bool, true, false, ◌||◌, cond, List, [], ◌∷◌, ◌++◌, length, replicate, drop, slice_get, Option, None, Some, Result, Ok, Err, inl, inr, refl, sym, ap, subst, append-nil, append_assoc}
+use Rattle.std.proofs.Common.{◌≡◌, ◌⊎◌, ◌∙◌, ℕ, zero, suc, ◌+◌, ◌*◌, ◌<◌, ◌≤◌, arith, Bool, true, false, ◌||◌, cond, List, [], ◌∷◌}
+use Rattle.std.proofs.Common.{◌++◌, length, replicate, drop, slice_get, Option, None, Some, Result, Ok, Err, inl, inr, refl, sym, ap, subst, append-nil, append_assoc}
 use Rattle.std.specs.Prelude.{ℤ, is_some, nat_lt}
-use Rattle.std.proofs.lemmas.Bool.{true≢false}
+use Rattle.std.proofs.lemmas.Bool.{true≢false, or_parts}
 use Rattle.std.specs.Option.{option_to_list}
 use Rattle.xk_base.specs.Loaded.{Loaded, loaded}
 use Rattle.xk_base.specs.declared.limits.TheConstants.{SEND_BYTES, TRACE_MAX}
@@ -74,21 +75,18 @@ round-key quantum keys count key is =
 
 -- ---- neither halted nor over
 
-neither-of : (a b : Bool) → (a || b) ≡ false → (a ≡ false) × (b ≡ false)
-neither-of true b is = absurd (true≢false is)
-neither-of false b is = (refl, is)
-
 pub neither : (p : Played) → (is_some p.session.machine.world.turns.halted || is_over p.kept) ≡ false → (is_some p.session.machine.world.turns.halted ≡ false) × (is_full p.kept ≡ false)
 neither p is =
-    let both = neither-of (is_some p.session.machine.world.turns.halted) (is_over p.kept) is in
-    (both.0, (neither-of (is_full p.kept) (nat_lt SHOWN_MAX (length p.kept.shown.items)) both.1).0)
+    let both = or_parts (is_some p.session.machine.world.turns.halted) (is_over p.kept) is in
+    (both.0, (or_parts (is_full p.kept) (nat_lt SHOWN_MAX (length p.kept.shown.items)) both.1).0)
 
 -- ---- rounds so far
 
 -- So many rounds were played; or fewer, and a part of one more, and the run is full
 pub record HasPlayed (plan : Plan) (keys : List ℕ) (count : ℕ) (booted now : Played) : Type 0 where
   pub list : Steps
-  pub reaches : (frames trace : ℕ) (programs : List ProgramFile) (es : Steps) → IsReached frames trace programs es booted.session.machine → IsReached frames trace programs (es ++ list) now.session.machine
+  pub reaches : (frames trace : ℕ) (programs : List ProgramFile) (es : Steps)
+      → IsReached frames trace programs es booted.session.machine → IsReached frames trace programs (es ++ list) now.session.machine
   pub told : told_of now.kept ≡ told_by (told_of booted.kept) list
   pub budget : now.kept.budget ≡ booted.kept.budget
   pub so : AreRounds count plan.quantum keys false list ⊎ (StopsInRound plan.rounds plan.quantum keys false list × (is_full now.kept ≡ true))

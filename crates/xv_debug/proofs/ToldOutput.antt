@@ -1,5 +1,6 @@
 -- Bytes that the console showed, one by one.
-use Rattle.std.proofs.Common.{◌≡◌, ℕ, ◌+◌, ◌<◌, ◌≤◌, Bool, true, false, List, [], ◌∷◌, ◌++◌, codes, length, drop, slice_get, get_or, None, Some, Result, OnOk, sym, ◌∙◌, ap, append_assoc, append-nil, drop_of_length-le, ne_eqb}
+use Rattle.std.proofs.Common.{◌≡◌, ℕ, ◌+◌, ◌<◌, ◌≤◌, Bool, true, false, List, [], ◌∷◌, ◌++◌, codes, length}
+use Rattle.std.proofs.Common.{drop, slice_get, get_or, None, Some, Result, OnOk, sym, ◌∙◌, ap, append_assoc, append-nil, drop_of_length-le, ne_eqb}
 use Rattle.std.specs.Prelude.{◌==◌, if◌then◌else◌}
 use Rattle.std.proofs.lemmas.List.{drop_more}
 use Rattle.std.proofs.lemmas.Option.{none-some, slice_get_within, slice_get-get_or, get_or_from_slice_get}

@@ -12,7 +12,8 @@ returns-then-lives c =
     let p = c.args.pid in
     let new = string_bytes c.show_known.new.answer in
     let is : true ≡ is_some (live s.machine.world.state p) = sym c.if-lives.true ∙ c.lives.ensures ∙ ap (λ (m : Meaning). is_some (live m.world.state p)) c.machine.ensures.machine in
-    subst (λ (b : Bool). OnOk c.show_known.result (new ≡ string_bytes c.args.answer.now ++ (if b then numbers_text s c.args.size p c.args.address c.args.count else no_process p))) is c.show_known.ensures
+    subst (λ (b : Bool). OnOk c.show_known.result
+    (new ≡ string_bytes c.args.answer.now ++ (if b then numbers_text s c.args.size p c.args.address c.args.count else no_process p))) is c.show_known.ensures
 
 pub returns-else-lives : goal.returns-else-lives
 returns-else-lives c =
@@ -20,4 +21,5 @@ returns-else-lives c =
     let p = c.args.pid in
     let new = string_bytes c.show_none.new.answer in
     let is : false ≡ is_some (live s.machine.world.state p) = sym c.if-lives.false ∙ c.lives.ensures ∙ ap (λ (m : Meaning). is_some (live m.world.state p)) c.machine.ensures.machine in
-    subst (λ (b : Bool). OnOk c.show_none.result (new ≡ string_bytes c.args.answer.now ++ (if b then numbers_text s c.args.size p c.args.address c.args.count else no_process p))) is c.show_none.ensures
+    subst (λ (b : Bool). OnOk c.show_none.result
+    (new ≡ string_bytes c.args.answer.now ++ (if b then numbers_text s c.args.size p c.args.address c.args.count else no_process p))) is c.show_none.ensures

@@ -7,7 +7,11 @@ use Rattle.grade_submissions.proofs.playing.Played.run_often.Goals as goal
 pub runs-init : goal.runs-init
 runs-init c =
     let none : 0 ≡ c.args.count - c.args.count = omega arith in
-    record { plays = plays-those [] (replicate (c.args.count - c.args.count) Run) c.args.self.now c.args.self.now (ap (λ (n : ℕ). replicate n Run) none) (plays-none c.args.self.now); within = omega arith; few = omega arith }
+    record {
+      plays = plays-those [] (replicate (c.args.count - c.args.count) Run) c.args.self.now c.args.self.now (ap (λ (n : ℕ). replicate n Run) none) (plays-none c.args.self.now);
+      within = omega arith;
+      few = omega arith;
+    }
 
 pub runs-preserved : goal.runs-preserved
 runs-preserved c =
