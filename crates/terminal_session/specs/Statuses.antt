@@ -5,6 +5,8 @@ use Rattle.xv_session.specs.Recorded.{Recorded}
 use Rattle.xv_debug.specs.declared.debugger.Next.{Next}
 use Rattle.xv_debug.specs.declared.debugger.Next.TheVariants as behind
 use Rattle.xv_live.specs.Resting.{NothingHappens}
+use Rattle.xv_live.specs.declared.pauses.Pause.{Pause}
+use Rattle.xv_live.specs.declared.pauses.Pause.TheVariants as pauses
 use Rattle.terminal_session.specs.declared.ending.End.{End}
 use Rattle.terminal_session.specs.declared.ending.End.TheVariants as ends
 
@@ -32,3 +34,14 @@ abbrev pub end_behind_prompt : Next → (halted : Option ℤ) → Option End
 end_behind_prompt behind.Ends halted = Some (asked_end halted)
 end_behind_prompt behind.Continues halted = None
 end_behind_prompt behind.Stays halted = None
+
+-- the end that some line of the prompt leads to, or none
+abbrev pub IsEndBehindPrompt : (halted : Option ℤ) → Option End → Type 0
+IsEndBehindPrompt halted e = (next : Next) × (e ≡ end_behind_prompt next halted)
+
+-- the end behind a pause; the machine goes on behind none but the prompt
+abbrev pub IsEndBehind : Pause → (halted : Option ℤ) → Option End → Type 0
+IsEndBehind (pauses.Halted status) halted e = e ≡ Some (ends.Halted status)
+IsEndBehind pauses.Debugger halted e = IsEndBehindPrompt halted e
+IsEndBehind pauses.End halted e = e ≡ Some (asked_end halted)
+IsEndBehind pauses.NoKeys halted e = e ≡ Some ends.NoKeys

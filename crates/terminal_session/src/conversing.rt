@@ -3,7 +3,7 @@ ghost use Rattle.std.specs.Prelude.{◌≡◌, OnOk, IfOk, IfSome};
 ghost use Rattle.xv_debug.specs.Conversations.{Converses};
 ghost use Rattle.xv_live.specs.Pauses.{IsPauseOf};
 ghost use Rattle.xv_live.specs.Plays.{Plays, events_of_lines};
-ghost use Rattle.terminal_session.specs.Statuses.{IsEndOf, asked_end, end_behind_prompt};
+ghost use Rattle.terminal_session.specs.Statuses.{IsEndBehind, IsEndBehindPrompt, IsEndOf, asked_end, end_behind_prompt};
 ghost use Rattle.terminal_session.specs.Stretches.{Lives, Stretch};
 ghost use Rattle.terminal_session.specs.Tells.{Tells, outcome_status};
 
@@ -50,6 +50,7 @@ fn prompt<H: Host, E: Write>(
     notes: &mut Notes<E>,
 ) -> Result<Option<End>, Failure<'static>>
     ensures end { IfOk result (λ e. IfSome e (λ f. IsEndOf session.new f)) }
+    ensures is { IfOk result (IsEndBehindPrompt session.new.machine.world.turns.halted) }
     ensures lines { Converses session.old session.new }
 {
     let next = stop(session, host, debugger, notes)?;
@@ -67,6 +68,7 @@ fn end_behind<H: Host, E: Write>(
 ) -> Result<Option<End>, Failure<'static>>
     requires { IsPauseOf session.old pause }
     ensures end { IfOk result (λ e. IfSome e (λ f. IsEndOf session.new f)) }
+    ensures is { IfOk result (IsEndBehind pause session.new.machine.world.turns.halted) }
     ensures lines { Converses session.old session.new }
 {
     match pause {
@@ -109,7 +111,8 @@ fn converse<H: Host, W: ByteSink, E: Write>(
             return Ok(end);
         }
     }
-    Ok(asked_end(session))
+    // (So many turns take longer than a clock counts.)
+    Err(Failure::Clock)
 }
 
 // Plays a record.

@@ -1,4 +1,5 @@
 pub mod Joined
+pub mod Led
 pub mod Lines
 pub mod Played
 pub mod Typed

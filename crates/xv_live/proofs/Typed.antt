@@ -12,7 +12,8 @@ use Rattle.xv_live.specs.Attends.{Types, TypesFirst, Attends}
 use Rattle.std.specs.Option.{option_to_list}
 use Rattle.xv_live.specs.declared.host.Look.{Look}
 use Rattle.xv_live.specs.declared.host.Look.TheVariants.{Came}
-use Rattle.xv_live.specs.Keys.{Looks, bytes_in, key_in, keys_of, key_of, typed_by, typed_of}
+use Rattle.xv_live.specs.Keys.{Looks, bytes_in, key_in, keys_of, key_of, leading_of, leads, typed_by, typed_of}
+use Rattle.xv_live.specs.declared.pauses.Pause.{Pause}
 use Rattle.xv_live.specs.Plays.{Plays}
 use Rattle.xv_live.proofs.Joined.{shown-none, shown-join}
 
@@ -21,6 +22,9 @@ keys-join xs ys = flat_map-append key_in xs ys
 
 typed-join : (xs ys : List ℕ) → typed_of (xs ++ ys) ≡ typed_of xs ++ typed_of ys
 typed-join xs ys = flat_map-append (λ b. typed_by (key_of b)) xs ys
+
+leading-join : (xs ys : List ℕ) → leading_of (xs ++ ys) ≡ leading_of xs ++ leading_of ys
+leading-join xs ys = flat_map-append (λ b. leads (key_of b)) xs ys
 
 runs-keys : (n : ℕ) → keys_of (replicate n runs.Run) ≡ []
 runs-keys zero = refl
@@ -69,43 +73,51 @@ first-then s t u h k m w v p q = record {
 
 -- ---- bytes that came
 
-pub looks-join : (c d e : Option (List ℕ)) (w v x : List ℕ) → Looks c d w v → Looks d e v x → Looks c e w x
-looks-join c d e w v x p q = record {
+pub looks-none : (c : Option (List ℕ)) (w : List ℕ) → Looks [] c c w w
+looks-none c w = record { bytes = []; came = Consumes-nil c; kept = sym (append-nil w); asked_for = refl }
+
+pub looks-join : (l m : List Pause) (c d e : Option (List ℕ)) (w v x : List ℕ) → Looks l c d w v → Looks m d e v x → Looks (l ++ m) c e w x
+looks-join l m c d e w v x p q = record {
   bytes = p.bytes ++ q.bytes;
   came = Consumes-trans c d e p.bytes q.bytes p.came q.came;
   kept = q.kept ∙ (ap (λ (ks : List ℕ). ks ++ typed_of q.bytes) p.kept
       ∙ (append_assoc w (typed_of p.bytes) (typed_of q.bytes) ∙ ap (λ (ks : List ℕ). w ++ ks) (sym (typed-join p.bytes q.bytes))));
+  asked_for = leading-join p.bytes q.bytes ∙ ap₂ (λ (us vs : List Pause). us ++ vs) p.asked_for q.asked_for;
 }
 
-pub looks-came : (l : Look) (b : ℕ) (c d e : Option (List ℕ)) (w v x : List ℕ) → Looks c d w v → l ≡ Came b → Consumes d e (bytes_in l) → x ≡ v ++ typed_by (key_of b) → Looks c e w x
-looks-came l b c d e w v x p is came kept = looks-join c d e w v x p (record {
+pub looks-came : (l : Look) (b : ℕ) (led : List Pause) (c d e : Option (List ℕ)) (w v x : List ℕ) → Looks [] c d w v → l ≡ Came b → Consumes d e (bytes_in l) → x ≡ v ++ typed_by (key_of b)
+    → leads (key_of b) ≡ led → Looks led c e w x
+looks-came l b led c d e w v x p is came kept leading = looks-join [] led c d e w v x p (record {
   bytes = b ∷ [];
   came = subst (λ (m : Look). Consumes d e (bytes_in m)) is came;
   kept = kept ∙ ap (λ (ks : List ℕ). v ++ ks) (sym (append-nil (typed_by (key_of b))));
+  asked_for = append-nil (leads (key_of b)) ∙ leading;
 })
 
 -- ---- a machine that is attended to
 
-pub attends-none : (s : Recorded) (h c : Option (List ℕ)) (w : List ℕ) → Attends s s h h c c w w
+pub attends-none : (s : Recorded) (h c : Option (List ℕ)) (w : List ℕ) → Attends [] s s h h c c w w
 unfolding shown-none
-attends-none s h c w = record { shown = shown-none s h; bytes = []; came = Consumes-nil c; keys = append-nil w }
+attends-none s h c w = record { shown = shown-none s h; bytes = []; came = Consumes-nil c; keys = append-nil w; asked_for = refl }
 
 -- bytes came, and nothing else
-pub attends-looks : (s : Recorded) (h k c d : Option (List ℕ)) (w v : List ℕ) → k ≡ h → Looks c d w v → Attends s s h k c d w v
+pub attends-looks : (led : List Pause) (s : Recorded) (h k c d : Option (List ℕ)) (w v : List ℕ) → k ≡ h → Looks led c d w v → Attends led s s h k c d w v
 unfolding shown-none
-attends-looks s h k c d w v same p = subst (λ (x : Option (List ℕ)). Attends s s x k c d w v) same (record { shown = shown-none s k; bytes = p.bytes; came = p.came; keys = sym p.kept })
+attends-looks led s h k c d w v same p =
+    subst (λ (x : Option (List ℕ)). Attends led s s x k c d w v) same (record { shown = shown-none s k; bytes = p.bytes; came = p.came; keys = sym p.kept; asked_for = p.asked_for })
 
-pub attends-types : (s t : Recorded) (h k c d : Option (List ℕ)) (w v : List ℕ) → d ≡ c → TypesFirst s t h k w v → Attends s t h k c d w v
+pub attends-types : (s t : Recorded) (h k c d : Option (List ℕ)) (w v : List ℕ) → d ≡ c → TypesFirst s t h k w v → Attends [] s t h k c d w v
 attends-types s t h k c d w v same p = record {
   shown = p.typed.shown;
   bytes = [];
   came = subst (λ (x : Option (List ℕ)). Consumes x d []) same (Consumes-nil d);
   keys = append-nil w ∙ (p.first ∙ ap (λ (ks : List ℕ). ks ++ v) (sym p.typed.those));
+  asked_for = refl;
 }
 
-pub attends-join : (s t u : Recorded) (h k m c d e : Option (List ℕ)) (w v x : List ℕ) → Attends s t h k c d w v → Attends t u k m d e v x → Attends s u h m c e w x
+pub attends-join : (l n : List Pause) (s t u : Recorded) (h k m c d e : Option (List ℕ)) (w v x : List ℕ) → Attends l s t h k c d w v → Attends n t u k m d e v x → Attends (l ++ n) s u h m c e w x
 unfolding shown-join
-attends-join s t u h k m c d e w v x p q = record {
+attends-join l n s t u h k m c d e w v x p q = record {
   shown = shown-join s t u h k m p.shown q.shown;
   bytes = p.bytes ++ q.bytes;
   came = Consumes-trans c d e p.bytes q.bytes p.came q.came;
@@ -117,4 +129,8 @@ attends-join s t u h k m c d e w v x p q = record {
       ∙ (ap (λ (ks : List ℕ). keys_of (events p.shown.list) ++ ks) q.keys
       ∙ (sym (append_assoc (keys_of (events p.shown.list)) (keys_of (events q.shown.list)) x)
       ∙ ap (λ (ks : List ℕ). ks ++ x) (sym (keys-join (events p.shown.list) (events q.shown.list)) ∙ ap keys_of (sym (events-join p.shown.list q.shown.list))))))));
+  asked_for = leading-join p.bytes q.bytes ∙ ap₂ (λ (us vs : List Pause). us ++ vs) p.asked_for q.asked_for;
 }
+
+pub attends-led : (l n : List Pause) (s t : Recorded) (h k c d : Option (List ℕ)) (w v : List ℕ) → l ≡ n → Attends l s t h k c d w v → Attends n s t h k c d w v
+attends-led l n s t h k c d w v same p = subst (λ (x : List Pause). Attends x s t h k c d w v) same p

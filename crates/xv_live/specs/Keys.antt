@@ -7,6 +7,8 @@ use Rattle.xv_live.specs.declared.host.Look.{Look}
 use Rattle.xv_live.specs.declared.host.Look.TheVariants.{Came, NoneNow, Ended}
 use Rattle.xv_live.specs.declared.keys.Key.{Key}
 use Rattle.xv_live.specs.declared.keys.Key.TheVariants.{Typed, Debugger, Processes, End}
+use Rattle.xv_live.specs.declared.pauses.Pause.{Pause}
+use Rattle.xv_live.specs.declared.pauses.Pause.TheVariants as pauses
 use Rattle.xv_live.specs.declared.pending.Pending.{Pending}
 
 -- Ctrl-C opens the debugger, Ctrl-P tells the processes, Ctrl-\ ends the machine; any other key is the machine's
@@ -23,6 +25,24 @@ typed_by End = []
 -- of bytes that came from the keyboard, those that are the machine's
 abbrev pub typed_of : List ℕ → List ℕ
 typed_of bytes = flat_map (λ b. typed_by (key_of b)) bytes
+
+-- the pause that a key asks for, if it leads away from the machine
+abbrev pub leads : Key → List Pause
+leads (Typed byte) = []
+leads Debugger = pauses.Debugger ∷ []
+leads Processes = []
+leads End = pauses.End ∷ []
+
+-- those that bytes of the keyboard ask for
+abbrev pub leading_of : List ℕ → List Pause
+leading_of bytes = flat_map (λ b. leads (key_of b)) bytes
+
+-- those that were asked for by keys where this one came: one, if it is one that a key asks for; else none
+abbrev pub led_to : Pause → List Pause
+led_to (pauses.Halted status) = []
+led_to pauses.Debugger = pauses.Debugger ∷ []
+led_to pauses.End = pauses.End ∷ []
+led_to pauses.NoKeys = []
 
 -- the bytes that a look at the keyboard gives
 abbrev pub bytes_in : Look → List ℕ
@@ -45,8 +65,9 @@ keys_of list = flat_map key_in list
 abbrev pub waiting : Pending → List ℕ
 waiting p = p.keys.items
 
--- bytes came from the keyboard; those that are the machine's wait behind the others
-pub record Looks (coming coming_after : Option (List ℕ)) (keys keys_after : List ℕ) : Type 0 where
+-- bytes came from the keyboard; those that are the machine's wait behind the others, and these pauses are what the others ask for
+pub record Looks (led : List Pause) (coming coming_after : Option (List ℕ)) (keys keys_after : List ℕ) : Type 0 where
   pub bytes : List ℕ
   pub came : Consumes coming coming_after bytes
   pub kept : keys_after ≡ keys ++ typed_of bytes
+  pub asked_for : leading_of bytes ≡ led

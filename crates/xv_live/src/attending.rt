@@ -1,9 +1,9 @@
 //! A machine that is attended to: keys go in, bytes come out, and the clock ticks.
 ghost use Rattle.std.specs.Prelude.{◌≡◌, [], ◌++◌, OnOk, IfOk, IfSome};
 ghost use Rattle.xv_live.specs.Attends.{Types, TypesFirst, Attends};
-ghost use Rattle.xv_live.specs.Keys.{Looks, key_of, typed_by, waiting};
+ghost use Rattle.xv_live.specs.Keys.{Looks, key_of, led_to, typed_by, waiting};
 ghost use Rattle.xv_live.specs.Pauses.{IsPauseOf};
-ghost use Rattle.xv_live.specs.Asks.{IsAskedOf};
+ghost use Rattle.xv_live.specs.Asks.{IsAskedOf, asked_by, led_by, led_if, pause_of};
 
 use crate::events::{drain, send, some_runs};
 use crate::host::{Host, Look};
@@ -41,17 +41,22 @@ fn take_key<W: ByteSink, T: Teller>(
     pending: &mut Pending,
     screen: &mut Screen<W, T>,
 ) -> Result<Asked, Failure<'static>>
-    ensures asked { IfOk result (IsAskedOf session.now) }
+    ensures asked { IfOk result (λ asked. asked ≡ asked_by (key_of byte)) }
     ensures sink { W.sink screen.new.sink ≡ W.sink screen.old.sink }
     ensures waits { OnOk result (waiting pending.new ≡ waiting pending.old ++ typed_by (key_of byte)) }
 {
     match Key::of(byte) {
-        Key::Typed(key) => pending.add(key)?,
-        Key::Processes => screen.teller.tell_processes(session),
-        Key::Debugger => return Ok(Asked::Debugger),
-        Key::End => return Ok(Asked::End),
+        Key::Typed(key) => {
+            pending.add(key)?;
+            Ok(Asked::Nothing)
+        }
+        Key::Processes => {
+            screen.teller.tell_processes(session);
+            Ok(Asked::Nothing)
+        }
+        Key::Debugger => Ok(Asked::Debugger),
+        Key::End => Ok(Asked::End),
     }
-    Ok(Asked::Nothing)
 }
 
 // How many bytes of the keyboard may be looked at now. A keyboard that isn't a terminal is looked at where nothing may
@@ -76,7 +81,9 @@ fn look<H: Host, W: ByteSink, T: Teller>(
 ) -> Result<Asked, Failure<'static>>
     ensures asked { IfOk result (IsAskedOf session.now) }
     ensures sink { W.sink screen.new.sink ≡ W.sink screen.old.sink }
-    ensures looks { OnOk result (Looks (H.coming host.old) (H.coming host.new) (waiting pending.old) (waiting pending.new)) }
+    ensures looks { IfOk result
+        (λ asked. Looks (led_by asked) (H.coming host.old) (H.coming host.new)
+        (waiting pending.old) (waiting pending.new)) }
 {
     'looks: for _ in 0..most {
         let asked = match host.look()? {
@@ -85,9 +92,9 @@ fn look<H: Host, W: ByteSink, T: Teller>(
             Look::Ended if goes_on_without_keys(session.machine()) => return Ok(Asked::Nothing),
             Look::Ended => return Ok(Asked::NoKeys),
         };
-        if asked != Asked::Nothing {
+        let Asked::Nothing = asked else {
             return Ok(asked);
-        }
+        };
     }
     Ok(Asked::Nothing)
 }
@@ -148,7 +155,8 @@ fn tick<H: Host, W: ByteSink, T: Teller>(
 // What leads away from the machine.
 fn pause_for(session: &Session, asked: Asked) -> Option<Pause>
     requires { IsAskedOf session.now asked }
-    ensures { IfSome result (λ p. IsPauseOf session.now p) }
+    ensures pause { IfSome result (λ p. IsPauseOf session.now p) }
+    ensures is { result ≡ pause_of asked }
 {
     match asked {
         Asked::Nothing => None,
@@ -187,6 +195,7 @@ fn pause_behind<H: Host>(
 ) -> Result<Option<Pause>, Failure<'static>>
     ensures coming { H.coming host.new ≡ H.coming host.old }
     ensures pause { IfOk result (λ p. IfSome p (λ q. IsPauseOf session.now q)) }
+    ensures led { IfOk result (λ p. led_if p ≡ []) }
 {
     if let Some(status) = session.machine().halted() {
         return Ok(Some(Pause::Halted(status)));
@@ -205,13 +214,16 @@ fn turn<H: Host, W: ByteSink, T: Teller>(
     screen: &mut Screen<W, T>,
 ) -> Result<Option<Pause>, Failure<'static>>
     ensures pause { IfOk result (λ p. IfSome p (λ q. IsPauseOf session.new q)) }
-    ensures attends { OnOk result (Attends session.old session.new (W.sink screen.old.sink).held (W.sink screen.new.sink).held (H.coming host.old) (H.coming host.new) (waiting pending.old) (waiting pending.new)) }
+    ensures attends { IfOk result
+        (λ p. Attends (led_if p) session.old session.new (W.sink screen.old.sink).held
+        (W.sink screen.new.sink).held (H.coming host.old) (H.coming host.new) (waiting pending.old)
+        (waiting pending.new)) }
 {
     let most = looks_now(session, host, pending);
     let asked = look(session, host, most, pending, screen)?;
-    let pause = pause_for(session, asked);
-    if pause.is_some() {
-        return Ok(pause);
+    match pause_for(session, asked) {
+        Some(pause) => return Ok(Some(pause)),
+        None => {}
     }
     go_on(session, host, pending, screen)?;
     pause_behind(session, host, pending)
@@ -229,12 +241,18 @@ pub fn attend<H: Host, W: ByteSink, T: Teller>(
     screen: &mut Screen<W, T>,
 ) -> Result<Pause, Failure<'static>>
     ensures pause { IfOk result (λ p. IsPauseOf session.new p) }
-    ensures attends { OnOk result (Attends session.old session.new (W.sink screen.old.sink).held (W.sink screen.new.sink).held (H.coming host.old) (H.coming host.new) (waiting pending.old) (waiting pending.new)) }
+    // a key asked for the pause, if it is one that a key asks for, and no other key asked for any
+    ensures attends { IfOk result
+        (λ p. Attends (led_to p) session.old session.new (W.sink screen.old.sink).held
+        (W.sink screen.new.sink).held (H.coming host.old) (H.coming host.new) (waiting pending.old)
+        (waiting pending.new)) }
 {
     'turns: for _ in 0..u64::MAX {
-        if let Some(pause) = turn(session, host, pending, screen)? {
-            return Ok(pause);
+        match turn(session, host, pending, screen)? {
+            Some(pause) => return Ok(pause),
+            None => {}
         }
     }
-    Ok(Pause::End)
+    // (So many turns take longer than a clock counts.)
+    Err(Failure::Clock)
 }
