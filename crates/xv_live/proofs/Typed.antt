@@ -73,9 +73,6 @@ first-then s t u h k m w v p q = record {
 
 -- ---- bytes that came
 
-pub looks-none : (c : Option (List ℕ)) (w : List ℕ) → Looks [] c c w w
-looks-none c w = record { bytes = []; came = Consumes-nil c; kept = sym (append-nil w); asked_for = refl }
-
 pub looks-join : (l m : List Pause) (c d e : Option (List ℕ)) (w v x : List ℕ) → Looks l c d w v → Looks m d e v x → Looks (l ++ m) c e w x
 looks-join l m c d e w v x p q = record {
   bytes = p.bytes ++ q.bytes;
