@@ -8,6 +8,7 @@
 #![tactic(auto)]
 
 mod command_line;
+mod ends;
 mod letters;
 mod line;
 mod running;

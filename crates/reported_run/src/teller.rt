@@ -4,6 +4,7 @@ ghost use Rattle.program_files.specs.Failures.{failure_status};
 ghost use Rattle.program_files.specs.Statuses.{status_of};
 
 use crate::NAME;
+use crate::ends::{AskedBefore, Ends};
 use crate::letters::{Key, Letter};
 use crate::line::Telling;
 use program_files::{Failure, close_run, show_trace};
@@ -11,9 +12,9 @@ use std::alloc::Global;
 use std::io::Write;
 use xk_base::Pid;
 use xk_base::limits::NPROC;
-use xv_machine::{DriveEnd, DriveError, Event, Outcome, ProcessState};
-use xv_report::text::{Asleep, FaultText, Name, WaitLine, Who};
-use xv_report::{FaultReport, Sources, call_name, report_at, source_of, waits_for};
+use xv_machine::{DriveEnd, DriveError, Event, Outcome};
+use xv_report::text::{Asleep, FaultText, KillText, Name, Place, RefusedText, WaitLine, Who};
+use xv_report::{FaultReport, Hint, Sources, call_name, hint_at, report_at, source_of, waits_for};
 use xv_session::{Named, Runs, Session};
 
 /// The process that runs, as it is before Runs are sent: behind them it may be gone.
@@ -43,6 +44,8 @@ pub(crate) struct Teller<E> {
     idles: u64,
     /// Whether it is told that the machine has halted.
     halted: bool,
+    /// Kills and refused growths, which may be told of later ends.
+    ends: Ends,
 }
 
 /// The process that runs.
@@ -65,6 +68,18 @@ fn who<'a>(session: &'a Session, pid: Pid, program: Option<usize>) -> Who<'a> {
         None => None,
     };
     Who { pid, program: name }
+}
+
+/// Where a call was made.
+fn place_of<'a>(
+    sources: Option<&'a Sources>,
+    session: &'a Session,
+    call: &AskedBefore,
+) -> Place<'a> {
+    Place {
+        address: call.at,
+        source: source_of(sources, session, call.program),
+    }
 }
 
 /// A fault, as text; `None` if there is no memory for it.
@@ -114,6 +129,7 @@ impl<E: Write> Teller<E> {
             },
             idles: 0,
             halted: false,
+            ends: Ends::new(alloc),
         }
     }
 
@@ -124,8 +140,65 @@ impl<E: Write> Teller<E> {
             Telling::Words => self.explain_runs(session, runner, runs),
             Telling::Notes => self.note_runs(session, runner, runs),
         }
-        if let Some(Outcome::Faulted { pid, .. }) = &runs.last {
-            self.tell_fault(session, *pid, runner);
+        if let Some(last) = &runs.last {
+            self.tell_end(session, runner, last);
+        }
+    }
+
+    /// Tells why a process is gone, if it is by a fault or a kill.
+    fn tell_end(&mut self, session: &Session, runner: &Runner, last: &Outcome) {
+        match last {
+            Outcome::Called { pid, number, value } => {
+                self.ends
+                    .note_call(session.machine(), *pid, runner.program, *number, *value);
+            }
+            Outcome::Faulted { pid, .. } => {
+                self.tell_fault(session, *pid, runner);
+                self.tell_hints(session, *pid, runner);
+                self.ends.forget(*pid);
+            }
+            Outcome::Exited { pid, .. } => {
+                self.tell_kill(session, *pid, runner);
+                self.ends.forget(*pid);
+            }
+            _ => {}
+        }
+    }
+
+    /// Tells who has killed a process that is gone, if it was killed.
+    fn tell_kill(&mut self, session: &Session, pid: Pid, runner: &Runner) {
+        let Some(kill) = self.ends.kill_of(pid) else {
+            return;
+        };
+        let text = KillText {
+            victim: pid,
+            program: who(session, pid, runner.program).program,
+            killer: kill.caller,
+            killer_program: who(session, kill.caller, kill.program).program,
+            place: place_of(Some(&self.sources), session, &kill),
+        };
+        let _ = writeln!(self.errors, "{text}");
+    }
+
+    /// Tells what may have led to the fault of the last event.
+    fn tell_hints(&mut self, session: &Session, pid: Pid, runner: &Runner) {
+        let place = session.at().saturating_sub(1);
+        let Ok(Some(report)) = report_at(self.alloc, session, place) else {
+            return;
+        };
+        let Some(hint) = hint_at(self.alloc, session, place, &report.fault) else {
+            return;
+        };
+        let _ = writeln!(self.errors, "  {hint}");
+        let Some(refused) = self.ends.refused_of(pid) else {
+            return;
+        };
+        if hint == Hint::NullStore && refused.program == runner.program {
+            let text = RefusedText {
+                call: call_name(refused.number).unwrap_or("sbrk"),
+                place: place_of(Some(&self.sources), session, &refused),
+            };
+            let _ = writeln!(self.errors, "  {text}");
         }
     }
 
@@ -394,11 +467,8 @@ impl<E: Write> Teller<E> {
         }
     }
 
-    /// Tells why a live process doesn't go on.
+    /// Tells why a live process doesn't go on, or that nobody has waited for one that is gone.
     fn tell_wait(&mut self, session: &Session, pid: Pid) {
-        let Some(ProcessState::Live { .. }) = session.machine().process(pid) else {
-            return;
-        };
         if let Some(text) = wait_text(self.alloc, &self.sources, session, pid) {
             let _ = writeln!(self.errors, "{text}");
         }

@@ -1,6 +1,7 @@
 pub mod Waits
 pub mod Wakers
 pub mod Names
+pub mod Hints
 pub mod Jumps
 pub mod Callers
 pub mod Reports

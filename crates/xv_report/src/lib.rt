@@ -13,6 +13,7 @@
 
 mod callers;
 mod fault;
+mod hints;
 mod jumps;
 mod lines;
 mod names;
@@ -24,6 +25,7 @@ mod waking;
 
 pub use callers::{CALLERS_MAX, Caller, Callers, callers_of};
 pub use fault::{FaultReport, report_at, report_of_run};
+pub use hints::{Hint, hint_at, is_guarded};
 pub use jumps::jump_target;
 pub use lines::Lines;
 pub use names::{call_name, program_name};
