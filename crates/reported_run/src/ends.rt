@@ -81,7 +81,7 @@ impl Ends {
             at,
         };
         match KernelCall::of_number(number) {
-            Some(KernelCall::Kill) if value == 0 => self.note_kill(machine, call),
+            Some(KernelCall::Kill) if value == 0 => self.note_kill(machine, &call),
             Some(KernelCall::Sbrk | KernelCall::Sbrklazy) if value < 0 => {
                 forget(&mut self.refused, caller);
                 let _ = self.refused.push(call);
@@ -91,21 +91,21 @@ impl Ends {
     }
 
     /// Notes a kill of whoever is marked now and was not before.
-    fn note_kill(&mut self, machine: &Machine, call: AskedBefore) {
+    fn note_kill(&mut self, machine: &Machine, call: &AskedBefore) {
         for slot in 0..NPROC {
             self.note_victim(machine, machine.pid_in(slot), call);
         }
     }
 
     /// Notes a kill of a process, if it is marked now and was not before.
-    fn note_victim(&mut self, machine: &Machine, victim: Option<Pid>, call: AskedBefore) {
+    fn note_victim(&mut self, machine: &Machine, victim: Option<Pid>, call: &AskedBefore) {
         let Some(pid) = victim else {
             return;
         };
         if !is_marked(machine, pid) || about(&self.kills, pid).is_some() {
             return;
         }
-        let _ = self.kills.push(AskedBefore { about: pid, ..call });
+        let _ = self.kills.push(AskedBefore { about: pid, ..*call });
     }
 
     /// The kill of a process, if it was killed.
