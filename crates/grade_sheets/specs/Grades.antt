@@ -2,6 +2,7 @@
 use Rattle.std.specs.Prelude.{◌≡◌, ◌↔◌, ℕ, Bool, IsTrue, is_none, List, [], ◌∷◌, string_bytes}
 use Rattle.std.specs.List.{list_all}
 use Rattle.std.specs.Fmt.{signed_decimal}
+use Rattle.std.specs.Str.Iter.{HasSubslice}
 use Rattle.grade_rules.specs.Judged.{HoldsOf}
 use Rattle.grade_sheets.specs.declared.asked.Answer.{Answer}
 use Rattle.grade_sheets.specs.declared.asked.Answer.TheVariants as answer
@@ -11,6 +12,7 @@ use Rattle.grade_sheets.specs.declared.asked.Check.TheVariants.{Status, Shown, S
 use Rattle.grade_rules.specs.declared.ending.End.{End}
 use Rattle.grade_rules.specs.declared.ending.End.TheVariants.{Exited}
 use Rattle.grade_sheets.specs.Answers.{IsOnlyAnswer}
+use Rattle.grade_sheets.specs.Predictions.{IsPredicted}
 use Rattle.grade_sheets.specs.declared.judging.Seen.{Seen}
 use Rattle.grade_sheets.specs.declared.judging.Mark.{Mark}
 
@@ -28,10 +30,10 @@ IsSaid question answer.Status seen = IsStatusSaid question seen.handed_in.now se
 abbrev pub IsAnswered : Check → Seen → Bool → Type 0
 IsAnswered (Status wanted) seen has = IsTrue has ↔ (seen.end ≡ Exited wanted)
 IsAnswered (Shown wanted) seen has = IsTrue has ↔ (string_bytes wanted ≡ seen.shown.now)
-IsAnswered (Shows part) seen has = Unit {0}
+IsAnswered (Shows part) seen has = IsTrue has ↔ HasSubslice seen.shown.now (string_bytes part)
 IsAnswered (Rise least) seen has = Unit {0}
 IsAnswered (Line question wanted) seen has = IsTrue has ↔ IsSaid (string_bytes question) wanted seen
-IsAnswered (Predicts words) seen has = Unit {0}
+IsAnswered (Predicts words) seen has = IsTrue has ↔ IsPredicted words.items seen
 IsAnswered (Notes rule texts) seen has = IsTrue has ↔ HoldsOf rule seen.notes.now
 
 -- an answer for each thing, in their order

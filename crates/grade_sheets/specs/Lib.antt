@@ -1,4 +1,5 @@
 pub mod Answers
+pub mod Predictions
 pub mod Grades
 pub mod Points
 pub mod Standings

@@ -1,10 +1,13 @@
 //! What is asked of texts: of what the console showed, and of what was handed in. Each function here tells why it isn't
 //! there, in a student's words; `None` if it is.
-ghost use Rattle.std.specs.Prelude.{◌≡◌, ◌↔◌, ◌==◌, IsTrue, is_none, IfOk, map, count_by};
-ghost use Rattle.std.specs.List.{list_any, after_first};
+ghost use Rattle.std.specs.Prelude.{◌≡◌, ◌↔◌, ◌==◌, ◌≤◌, IsTrue, is_none, IfOk, map, count_by, length, drop, eqb, ◌++◌, string_bytes};
+ghost use Rattle.std.specs.List.{list_any, after_first, starts_with};
+ghost use Rattle.std.specs.Str.Iter.{HasSubslice};
 ghost use Rattle.std.specs.Str.Lines.{lines};
 ghost use Rattle.grade_sheets.specs.Answers.{question_of, answer_of, asks, says, IsOnlyAnswer};
+ghost use Rattle.grade_rules.specs.Notes.{note_text};
 ghost use Rattle.grade_sheets.specs.Grades.{IsSaid};
+ghost use Rattle.grade_sheets.specs.Predictions.{first_word, is_one_of, line_if, lines_if, begins_note, predicted, without_end, IsPredicted};
 
 use crate::asked::Answer;
 use crate::judging::Seen;
@@ -73,17 +76,24 @@ pub(crate) fn other_text(
     first_difference(alloc, wanted, shown).map(Some)
 }
 
+// Whether bytes begin what stands in others from a place on.
+fn begins_at(part: &[u8], shown: &[u8], place: usize) -> bool
+    requires { place ≤ length shown.now }
+    ensures { result ≡ starts_with eqb (drop place shown.now) part.now }
+{
+    shown[place..].starts_with(part)
+}
+
 // Whether bytes stand somewhere in others.
-fn stands_in(part: &[u8], shown: &[u8]) -> bool {
-    if part.is_empty() {
-        return true;
-    }
-    for window in shown.windows(part.len()) {
-        if window == part {
+fn stands_in(part: &[u8], shown: &[u8]) -> bool
+    ensures { IsTrue result ↔ HasSubslice shown.now part.now }
+{
+    for place in 0..shown.len() {
+        if begins_at(part, shown, place) {
             return true;
         }
     }
-    false
+    part.is_empty()
 }
 
 /// Why bytes don't stand somewhere in what was shown.
@@ -91,7 +101,9 @@ pub(crate) fn not_shown(
     alloc: Global,
     part: &[u8],
     shown: &[u8],
-) -> Result<Option<String>, AllocError> {
+) -> Result<Option<String>, AllocError>
+    ensures { IfOk result (λ why. IsTrue (is_none why) ↔ HasSubslice shown.now part.now) }
+{
     if stands_in(part, shown) {
         return Ok(None);
     }
@@ -142,29 +154,36 @@ pub(crate) fn no_rise(
     Ok(None)
 }
 
-// Whether each of these words begins a note that is kept of the whole run.
-fn are_kept(words: &[String]) -> bool {
-    for word in words {
-        if !matches!(word.as_str(), "turn" | "call" | "block" | "exit" | "fault") {
-            return false;
-        }
-    }
-    true
+// Whether a word begins a note, which is kept of the whole run.
+fn begins_note(word: &String) -> bool
+    ensures { result ≡ begins_note word.now }
+{
+    let word = word.as_str();
+    word == "turn" || word == "call" || word == "block" || word == "exit" || word == "fault"
 }
 
 // Whether a word is one of these.
-fn is_one_of(word: &str, words: &[String]) -> bool {
-    for other in words {
-        if other.as_str() == word {
-            return true;
-        }
+fn is_one_of(word: &str, words: &[String]) -> bool
+    ensures { result ≡ is_one_of word.now words.now }
+{
+    words.iter().any(|other| other.as_str() == word)
+}
+
+// The first word of a line.
+fn first_word(line: &str) -> &str
+    ensures { result.now ≡ first_word line.now }
+{
+    match line.split_once(' ') {
+        Some((word, _)) => word,
+        None => line,
     }
-    false
 }
 
 // Adds a line, if its first word is one of these.
-fn add_line(lines: &mut String, words: &[String], line: &str) -> Result<(), AllocError> {
-    if is_one_of(line.split(' ').next().unwrap_or(""), words) {
+fn add_line(lines: &mut String, words: &[String], line: &str) -> Result<(), AllocError>
+    ensures { IfOk result (λ _. string_bytes lines.new ≡ string_bytes lines.old ++ line_if words.now line.now) }
+{
+    if is_one_of(first_word(line), words) {
         lines.push_str(line)?;
         lines.push_str("\n")?;
     }
@@ -172,7 +191,9 @@ fn add_line(lines: &mut String, words: &[String], line: &str) -> Result<(), Allo
 }
 
 // The notes whose lines begin with one of these words, as lines.
-fn kept_lines(alloc: Global, words: &[String], notes: &[Note]) -> Result<String, AllocError> {
+fn kept_lines(alloc: Global, words: &[String], notes: &[Note]) -> Result<String, AllocError>
+    ensures { IfOk result (λ text. string_bytes text ≡ lines_if words.now (map note_text notes.now)) }
+{
     let mut lines = String::new(alloc);
     for note in notes {
         let line = format!(in alloc; "{note}")?;
@@ -181,16 +202,34 @@ fn kept_lines(alloc: Global, words: &[String], notes: &[Note]) -> Result<String,
     Ok(lines)
 }
 
-// The lines that begin with one of these words: of the notes, or of the trace if there are words of other lines.
-fn predicted(alloc: Global, words: &[String], seen: &Seen<'_>) -> Result<String, AllocError> {
-    if are_kept(words) {
-        return kept_lines(alloc, words, seen.notes);
-    }
+// Those of these lines that begin with one of these words.
+fn chosen_lines(alloc: Global, words: &[String], list: &[&str]) -> Result<String, AllocError>
+    ensures { IfOk result (λ text. string_bytes text ≡ lines_if words.now (map (λ line. line.now) list.now)) }
+{
     let mut lines = String::new(alloc);
-    for line in seen.trace.lines() {
+    for line in list {
         add_line(&mut lines, words, line)?;
     }
     Ok(lines)
+}
+
+// The lines that begin with one of these words: of the notes, or of the trace if there are words of other lines.
+fn predicted(alloc: Global, words: &[String], seen: &Seen<'_>) -> Result<String, AllocError>
+    ensures { IfOk result (λ text. string_bytes text ≡ predicted words.now seen.now) }
+{
+    if words.iter().all(begins_note) {
+        return kept_lines(alloc, words, seen.notes);
+    }
+    let list = lines_in(alloc, seen.trace)?;
+    chosen_lines(alloc, words, list.as_slice())
+}
+
+// A text without the blanks and empty lines at its end.
+#[tactic(auto, using(std::proofs::lemmas::Str::Ascii::trim_ascii_end_is))]
+fn without_end(text: &str) -> &[u8]
+    ensures { result.now ≡ without_end text.now }
+{
+    text.as_bytes().trim_ascii_end()
 }
 
 /// Why a text isn't what was to be predicted: its first line that differs. Blanks and empty lines at its end don't count.
@@ -198,10 +237,15 @@ pub(crate) fn not_predicted(
     alloc: Global,
     words: &[String],
     seen: &Seen<'_>,
-) -> Result<Option<String>, AllocError> {
+) -> Result<Option<String>, AllocError>
+    ensures { IfOk result (λ why. IsTrue (is_none why) ↔ IsPredicted words.now seen.now) }
+{
     let wanted = predicted(alloc, words, seen)?;
-    let wanted = wanted.as_str().as_bytes().trim_ascii_end();
-    other_text(alloc, wanted, seen.handed_in.as_bytes().trim_ascii_end())
+    other_text(
+        alloc,
+        without_end(wanted.as_str()),
+        without_end(seen.handed_in),
+    )
 }
 
 // The lines of a text.
