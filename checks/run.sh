@@ -43,7 +43,7 @@ tell_others() {
     tell commands.py 'commands.py --tell' 'which commands of the pages are run by hand alone; the others are run here'
     tell terminal/by_hand.sh 'terminal/by_hand.sh [FOLDER]' 'sessions at a real terminal, with their screens: a minute; needs tmux'
     tell terminal/measure.py 'terminal/measure.py' 'the terminal'"'"'s speed beside xv_run, its echo, and what it takes while all sleep: a minute'
-    tell grading/run.sh 'grading/run.sh --all' '207 submissions, twice, in two orders, with a kill and a second start: a minute'
+    tell grading/run.sh 'grading/run.sh --all' '210 submissions, twice, in two orders, with a kill and a second start: a minute'
     tell grading/run.sh 'grading/run.sh --many' 'a thousand submissions by GNU parallel (Debian: parallel): two minutes'
     tell c-lines.py 'c-lines.py' 'the lines of the programs in C are those of addr2line: half a minute; needs the C compiler'
     tell gdb.sh 'gdb.sh' 'gdb-multiarch finds a planted bug, forth and back: a minute; needs gdb-multiarch and the C compiler'

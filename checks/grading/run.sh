@@ -1,6 +1,6 @@
 #!/bin/bash
 # Grades made-up submissions, and compares what comes out with what is stored: checks/grading/run.sh [PROGRAM] grades the quick
-# ones, two or three of each kind, in some seconds; checks/grading/run.sh --all [PROGRAM] all 209 of them, twice, in two orders, on
+# ones, two or three of each kind, in some seconds; checks/grading/run.sh --all [PROGRAM] all 210 of them, twice, in two orders, on
 # one process and on four, with a kill and a second start in between; checks/grading/run.sh --many [PROGRAM] a thousand, made of these
 # under other names, by GNU parallel on two processes; checks/grading/run.sh --store [PROGRAM] stores anew.
 # Before that it grades the answers of the course's exercises (answers/EXERCISE/NAME): right ones in several variants, wrong ones, and

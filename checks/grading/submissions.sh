@@ -59,7 +59,7 @@ done < <(printf '%s\0' 'Müller, Anna' "O'Brien \"Pat\"" $'new\nline' $'tab\ther
     '*' '$(touch owned)' '`touch owned`' '; touch owned' '| touch owned' '> owned' $'not UTF-8: \xff\xfe' '=1+1' '<b>&amp;' \
     $'\x1b[31mred' '..hidden' "$(printf 'long%.0s' {1..60})")
 
-# ---- hostile by their files: 28
+# ---- hostile by their files: 29
 program "$closes_write" '' 1 "$exits" >../outside.s
 mkdir -p link-to-a-host-file link-to-a-right-file fifo folder-as-file sparse-and-large empty no-file
 ln -sf /etc/passwd link-to-a-host-file/init.s
@@ -80,6 +80,7 @@ printf '\177ELF' >elf-that-ends/init
 printf '#!/bin/sh\ntouch owned\ncat /etc/passwd\n' >no-elf/init
 printf 'again:\n  li a7, 1\n  ecall\n  j again\n' | put fork-bomb
 printf 'again:\n  li a0, 4096\n  li a7, 12\n  ecall\n  j again\n' | put grows-for-ever
+printf 'again:\n  li a0, 15728640\n  li a7, 12\n  ecall\n  li a0, -15728640\n  li a7, 12\n  ecall\n  j again\n' | put grows-and-shrinks-for-ever
 printf 'again:\n  li a7, 11\n  ecall\n  j again\n' | put calls-for-ever
 printf '  li a0, 1000000000\n  li a7, 13\n  ecall\n' | put sleeps-for-ever
 printf '  la a0, name\n  li a1, 1\n  li a7, 15\n  ecall\nagain:\n  li a0, 0\n  la a1, name\n  li a2, 60000\n  li a7, 16\n  ecall\n  j again\n.data\nname: .asciz "console"\n.space 60000\n' | put floods-the-console
