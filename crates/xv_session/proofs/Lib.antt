@@ -2,6 +2,8 @@ pub mod Again
 pub mod AtBoot
 pub mod Children
 pub mod GoesOn
+pub mod LastRuns
+pub mod LastSteps
 pub mod NamesGo
 pub mod NamesLive
 pub mod Plays
@@ -12,3 +14,5 @@ pub mod Searches
 pub mod Spans
 pub mod Stretches
 pub mod Texts
+mod WorkedSpans
+mod WorkedSteps

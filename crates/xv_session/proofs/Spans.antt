@@ -1,5 +1,5 @@
 -- The events of spans, from the first on.
-use Rattle.std.proofs.Common.{◌≡◌, ℕ, zero, suc, ◌+◌, ◌-◌, ◌<◌, ◌≤◌, List, [], ◌∷◌, ◌++◌, length, take}
+use Rattle.std.proofs.Common.{◌≡◌, ◌≢◌, ℕ, zero, suc, ◌+◌, ◌-◌, ◌<◌, ◌≤◌, List, [], ◌∷◌, ◌++◌, length, take}
 use Rattle.std.proofs.Common.{drop, get_or, replicate, min, None, Some, inl, inr, refl, sym, ap, ◌∙◌, subst, arith}
 use Rattle.std.specs.Prelude.{slice_get}
 use Rattle.std.proofs.lemmas.Bool.{cases_lt}
@@ -10,7 +10,7 @@ use Rattle.kernel_spec.specs.runs.Run.{Event}
 use Rattle.xv_machine.specs.Events.{event_of}
 use Rattle.xv_machine.proofs.Kept.{drop-none}
 use Rattle.xv_session.specs.declared.history.Span.{Span}
-use Rattle.xv_session.specs.Spans.{span_events, all_events, Kept, kept}
+use Rattle.xv_session.specs.Spans.{span_events, all_events, Kept, kept, AreApart, Closes, Reopens, next_span}
 
 -- ---- the first elements of two lists
 
@@ -48,7 +48,61 @@ long-span s = length-replicate s.count (event_of s.event)
 pub longer : (before : List Event) (count more : ℕ) (e : Event) → before ++ replicate (count + more) e ≡ (before ++ replicate count e) ++ replicate more e
 longer before count more e = ap (λ es. before ++ es) (sym (replicate-append-replicate count more e)) ∙ sym (append_assoc before (replicate count e) (replicate more e))
 
+pub all-push : (over : List Span) (s : Span) → all_events (over ++ s ∷ []) ≡ all_events over ++ span_events s
+all-push over s = flat_map-append span_events over (s ∷ []) ∙ ap (λ es. all_events over ++ es) (append-nil (span_events s))
+
+-- ---- spans that are apart
+
+next-push : (over : List Span) (s last : Span) → next_span (over ++ s ∷ []) last ≡ next_span over s
+next-push [] s last = refl
+next-push (x ∷ over) s last = refl
+
+-- one more is over
+pub apart-push : (over : List Span) (last s : Span) → AreApart over last → 0 < last.count → event_of s.event ≢ event_of last.event → AreApart (over ++ last ∷ []) s
+apart-push [] last s apart some other = (some, other, tt)
+apart-push (x ∷ over) last s apart some other = (
+  apart.0,
+  subst (λ (n : Span). event_of n.event ≢ event_of x.event) (sym (next-push over last s)) apart.1,
+  apart-push over last s apart.2 some other,
+)
+
+-- the last that is over goes on
+pub apart-pop : (over : List Span) (s last : Span) → AreApart (over ++ s ∷ []) last → AreApart over s × (0 < s.count)
+apart-pop [] s last apart = (tt, apart.0)
+apart-pop (x ∷ over) s last apart =
+    let rest = apart-pop over s last apart.2 in
+    ((apart.0, subst (λ (n : Span). event_of n.event ≢ event_of x.event) (next-push over s last) apart.1, rest.0), rest.1)
+
+-- the last is of so many
+pub apart-count : (over : List Span) (last : Span) (n : ℕ) → AreApart over last → AreApart over (record last { count = n })
+apart-count [] last n apart = tt
+apart-count (x ∷ []) last n apart = (apart.0, apart.1, tt)
+apart-count (x ∷ y ∷ over) last n apart = (apart.0, apart.1, apart-count (y ∷ over) last n apart.2)
+
+-- if the last is empty, the one before it goes on
+pub reopens : (old new : List Span) (last s : Span) → old ≡ new ++ s ∷ [] → last.count ≡ 0 → Reopens old last new s
+reopens old new last s all none = record {
+  events = sym (all-push new s) ∙ ap all_events (sym all) ∙ sym (append-nil (all_events old)) ∙ ap (λ n. all_events old ++ replicate n (event_of last.event)) (sym none);
+  apart = λ apart. (apart-pop new s last (subst (λ (o : List Span). AreApart o last) all apart)).0;
+  opens = λ apart. inl (apart-pop new s last (subst (λ (o : List Span). AreApart o last) all apart)).1;
+}
+
+-- if it isn't, it is over
+pub closes : (over new : List Span) (last : Span) → new ≡ over ++ last ∷ [] → 0 < last.count → Closes over last new
+closes over new last all some = subst (λ (o : List Span). Closes over last o) (sym all) (record { events = all-push over last; apart = λ s other apart. apart-push over last s apart some other })
+
 -- ---- a history
+
+-- so many events more
+pub count-more : (over : List Span) (last : Span) (count more again : ℕ) → count ≡ length (kept over last).events → again ≡ more
+    → count + again ≡ length (kept over (record last { count = last.count + more })).events
+count-more over last count more again all same =
+    let xs = all_events over in
+    let e = event_of last.event in
+    let was : length (xs ++ replicate last.count e) ≡ length xs + last.count = length-append xs (replicate last.count e) ∙ ap (λ n. length xs + n) (length-replicate last.count e) in
+    let is : length (xs ++ replicate (last.count + more) e) ≡ length xs + (last.count + more) =
+    length-append xs (replicate (last.count + more) e) ∙ ap (λ n. length xs + n) (length-replicate (last.count + more) e) in
+    omega (arith, was, is, all, same)
 
 -- more of the last kind
 pub kept-more : (over : List Span) (last : Span) (more : ℕ)
@@ -79,6 +133,17 @@ cut-last over last count place all before few =
     let apart : xs ++ replicate last.count e ≡ (xs ++ replicate less e) ++ replicate (last.count - less) e = ap (λ es. xs ++ es) parts
     ∙ sym (append_assoc xs (replicate less e) (replicate (last.count - less) e)) in
     (ends, sym (ap (take place) apart ∙ take-append-le place (xs ++ replicate less e) (replicate (last.count - less) e) (omega (arith, ends))))
+
+-- the last span is cut off
+pub cut-off : (old new : List Span) (last s : Span) (count place : ℕ) → old ≡ new ++ s ∷ [] → count ≡ length (kept old last).events → place < count → last.count < count - place
+    → (count - last.count ≡ length (kept new s).events) × (take place (kept new s).events ≡ take place (kept old last).events)
+cut-off old new last s count place all counted inside past =
+    let same : all_events old ≡ (kept new s).events = ap all_events all ∙ all-push new s in
+    let long : length (all_events old ++ span_events last) ≡ length (all_events old) + last.count =
+    length-append (all_events old) (span_events last) ∙ ap (λ n. length (all_events old) + n) (long-span last) in (
+      omega (arith, counted, long, ap length same, past),
+      ap (take place) (sym same) ∙ sym (take-append-le place (all_events old) (span_events last) (omega (arith, counted, long, inside, past))),
+    )
 
 -- what one more span adds to the events before a place
 pub first-more : (spans : List Span) (place most : ℕ) (d : Span) → place < length spans

@@ -5,6 +5,8 @@ pub mod Steps
 pub mod Spans
 pub mod Codes
 pub mod Answers
+pub mod LastStep
+pub mod Follows
 pub mod Inside
 pub mod Until
 pub mod Stops

@@ -1,5 +1,5 @@
 -- How a session keeps its events: equal ones, one behind another, as one span. Only this crate's private functions speak of it.
-use Rattle.std.specs.Prelude.{ℕ, List, ◌++◌, flat_map, replicate}
+use Rattle.std.specs.Prelude.{◌≡◌, ◌≢◌, ◌⊎◌, ℕ, ◌<◌, List, [], ◌∷◌, ◌++◌, flat_map, replicate}
 use Rattle.kernel_spec.specs.runs.Run.{Event}
 use Rattle.xv_machine.specs.Events.{event_of}
 use Rattle.xv_machine.specs.declared.event.Event as declared
@@ -25,3 +25,26 @@ pub record Kept : Type 0 where
 -- of the spans that are over, and the one that may go on
 abbrev pub kept : List Span → Span → Kept
 kept over last = record { events = all_events over ++ span_events last; next = event_of last.event }
+
+-- ---- as few spans as there may be
+
+-- the span behind these: the next one that is over, or the last
+abbrev pub next_span : (over : List Span) → (last : Span) → Span
+next_span [] last = last
+next_span (s ∷ over) last = s
+
+-- Equal events, one behind another, stand in one span: each span that is over has events, and the one behind it is of another event
+abbrev pub AreApart : (over : List Span) → (last : Span) → Type 0
+AreApart [] last = Unit {0}
+AreApart (s ∷ over) last = (0 < s.count) × (event_of (next_span over last).event ≢ event_of s.event) × AreApart over last
+
+-- These spans have the events of those, and may go on by any event: the last of them isn't empty, or it is the only one
+pub record Reopens (over : List Span) (last : Span) (over_now : List Span) (now : Span) : Type 0 where
+  pub events : all_events over_now ++ span_events now ≡ all_events over ++ span_events last
+  pub apart : AreApart over last → AreApart over_now now
+  pub opens : AreApart over last → (0 < now.count) ⊎ (over_now ≡ [])
+
+-- Behind these spans, which have the events of those, one of another event may begin
+pub record Closes (over : List Span) (last : Span) (over_now : List Span) : Type 0 where
+  pub events : all_events over_now ≡ all_events over ++ span_events last
+  pub apart : (s : Span) → event_of s.event ≢ event_of last.event → AreApart over last → AreApart over_now s

@@ -1,15 +1,15 @@
 //! The events of a run, kept as spans: equal events, one behind another, take the room of one.
-ghost use Rattle.std.specs.Prelude.{◌≡◌, ◌+◌, ◌<◌, ◌≤◌, ◌^◌, [], ◌++◌, replicate, length, take, OnOk, OnErr, IfOk, IfErr};
+ghost use Rattle.std.specs.Prelude.{◌≡◌, ◌⊎◌, ◌+◌, ◌<◌, ◌≤◌, ◌^◌, [], ◌++◌, replicate, length, take, OnOk, OnErr, IfOk, IfErr};
 ghost use Rattle.kernel_spec.specs.runs.Run as runs;
 ghost use Rattle.xv_machine.specs.Events.{event_of};
 ghost use Rattle.xv_session.specs.Answers.{IsReason};
-ghost use Rattle.xv_session.specs.Spans.{all_events, span_events};
+ghost use Rattle.xv_session.specs.Spans.{Closes, Reopens, all_events, span_events};
 ghost use Rattle.xv_session.specs.declared.history.TheConstants.{EVENTS_MAX};
 
 use crate::SessionError;
+use crate::followed::Followed;
 use crate::playing::{play, play_first};
-use crate::running::Running;
-use std::alloc::Global;
+use std::alloc::{AllocError, Global};
 use std::marker::Model;
 use xv_machine::Event;
 
@@ -34,9 +34,35 @@ pub(crate) struct History {
     count: u64,
 }
 
+/// The span that may go on: the last one; if that is empty, the one before it.
+fn reopened(over: &mut Vec<Span>, last: Span) -> Span
+    ensures { Reopens over.old.items last over.new.items result }
+{
+    if last.count > 0 {
+        return last;
+    }
+    match over.pop() {
+        Some(span) => span,
+        None => last,
+    }
+}
+
+/// The last span is over, unless it is empty.
+fn close(over: &mut Vec<Span>, last: Span) -> Result<(), AllocError>
+    requires { (0 < last.count) ⊎ (over.old.items ≡ []) }
+    ensures closes { OnOk result (Closes over.old.items last over.new.items) }
+    ensures refused { OnErr result (over.new.items ≡ over.old.items) }
+{
+    if last.count == 0 {
+        return Ok(());
+    }
+    over.push(last)?;
+    Ok(())
+}
+
 impl Model for History {
     ghost use Rattle.std.specs.Prelude.{◌≡◌, length};
-    ghost use Rattle.xv_session.specs.Spans.{Kept, kept};
+    ghost use Rattle.xv_session.specs.Spans.{AreApart, Kept, kept};
     ghost use Rattle.xv_session.specs.Codes.{kept_code};
 
     ghost Value = { Kept };
@@ -45,7 +71,7 @@ impl Model for History {
 
     ghost view = { λ h. kept h.over.items h.last };
 
-    ghost invariant = { λ h. h.count ≡ length (kept h.over.items h.last).events };
+    ghost invariant = { λ h. (h.count ≡ length (kept h.over.items h.last).events) × AreApart h.over.items h.last };
 }
 
 impl History {
@@ -80,10 +106,11 @@ impl History {
         if self.count >= EVENTS_MAX {
             return Err(SessionError::Full);
         }
+        self.last = reopened(&mut self.over, self.last);
         if self.last.event == event {
             return Ok(());
         }
-        let Ok(()) = self.over.push(self.last) else {
+        let Ok(()) = close(&mut self.over, self.last) else {
             return Err(SessionError::Memory);
         };
         self.last = Span { event, count: 0 };
@@ -127,7 +154,7 @@ impl History {
 impl History {
     ghost use Rattle.std.specs.Prelude.{◌≡◌, take};
     ghost use Rattle.xv_session.specs.Steps.{IsSound};
-    ghost use Rattle.xv_session.specs.Recorded.{GoesBy};
+    ghost use Rattle.xv_session.specs.Follows.{Follows};
 
     /// Forgets the events from a place on.
     pub fn cut(&mut self, place: u64)
@@ -149,12 +176,12 @@ impl History {
     }
 
     /// Sends the events before a place to a machine, from the first on.
-    pub fn play(&self, running: &mut Running, place: u64)
-        requires { IsSound running.old }
-        ensures goes { GoesBy (take place self.now.events) running.old running.new }
-        ensures sound { IsSound running.new }
+    pub fn play(&self, followed: &mut Followed, place: u64)
+        requires { IsSound followed.old.running }
+        ensures goes { Follows (take place self.now.events) followed.old followed.new }
+        ensures sound { IsSound followed.new.running }
     {
-        let left = play_first(running, self.over.as_slice(), place);
-        play(running, self.last.event, self.last.count.min(left));
+        let left = play_first(followed, self.over.as_slice(), place);
+        play(followed, self.last.event, self.last.count.min(left));
     }
 }

@@ -5,6 +5,7 @@
 //! and its events. A [`Running`] keeps no events. A contract sees a session as `Recorded` of `specs/Recorded.antt`.
 #![tactic(auto)]
 
+mod followed;
 mod history;
 pub mod laws;
 mod looking;

@@ -2,10 +2,11 @@
 ghost use Rattle.std.specs.Prelude.{◌≡◌, IfOk, map};
 ghost use Rattle.kernel_spec.specs.views.State.{named_file};
 
+use crate::followed::Followed;
 use crate::history::History;
 use crate::names::Named;
 use crate::running::{Running, Runs};
-use crate::stops::run_to_stop;
+use crate::stops::is_before_stop;
 use crate::until::{Condition, Search, run_until};
 use std::alloc::{AllocError, Global};
 use std::marker::Model;
@@ -50,7 +51,7 @@ fn copied(alloc: Global, programs: &[Program]) -> Result<Vec<Program>, AllocErro
 /// A machine, with the events that it got since it was booted.
 pub struct Session {
     config: Config,
-    running: Running,
+    followed: Followed,
     history: History,
 }
 
@@ -59,25 +60,25 @@ impl Drop for Session {
     fn drop(self) {
         let Session {
             config: _,
-            running: _,
+            followed: _,
             history: _,
         } = self;
     }
 }
 
 impl Model for Session {
-    ghost use Rattle.xv_session.specs.Recorded.{Recorded, IsRecorded};
+    ghost use Rattle.xv_session.specs.Recorded.{Recorded};
     ghost use Rattle.xv_session.specs.Codes.{recorded_code};
 
     ghost Value = { Recorded };
 
     ghost coded = { recorded_code };
 
-    ghost use Rattle.xv_session.specs.Inside.{recorded};
+    ghost use Rattle.xv_session.specs.Inside.{recorded, IsSessions};
 
     ghost view = { recorded };
 
-    ghost invariant = { λ s. IsRecorded (recorded s) };
+    ghost invariant = { λ s. IsSessions s };
 }
 
 impl Session {
@@ -89,8 +90,10 @@ impl Session {
     ghost use Rattle.xv_machine.specs.Sound.{IsSoundMachine};
     ghost use Rattle.xv_session.specs.Recorded.{IsPlayed, IsLed, IsRecorded};
     ghost use Rattle.xv_session.specs.Answers.{machine_of, IsNew, Sent, RunsSent, Found, Stopped, WentBack, AreEqualFrom, IsReason};
+    ghost use Rattle.xv_session.specs.LastStep.{HasLast, IsLastStep};
     ghost use Rattle.xv_session.specs.Names.{place_in, AreLive};
     ghost use Rattle.xv_session.specs.Spans.{pair_of};
+    ghost use Rattle.xv_session.specs.Stops.{is_before_stop};
 
     /// A session whose machine was just booted, and has got no event. The refusals are those of
     /// [`Machine::boot`].
@@ -105,7 +108,7 @@ impl Session {
         match Machine::boot(alloc, config, programs) {
             Ok(machine) => Ok(Session {
                 config,
-                running: Running::new(machine),
+                followed: Followed::new(machine),
                 history: History::new(alloc),
             }),
             Err(error) => Err(error),
@@ -124,7 +127,7 @@ impl Session {
         ensures reason { IfErr result (λ e. IsReason e (length self.old.events)) }
     {
         self.history.make_room(event)?;
-        let outcome = self.running.event(event);
+        let outcome = self.followed.event(event);
         self.history.add(1);
         Ok(outcome)
     }
@@ -140,7 +143,7 @@ impl Session {
         ensures reason { IfErr result (λ e. IsReason e (length self.old.events)) }
     {
         self.history.make_room(Event::Run)?;
-        let runs = self.running.run(most);
+        let runs = self.followed.run(most);
         self.history.add(runs.sent);
         Ok(runs)
     }
@@ -157,7 +160,7 @@ impl Session {
         ensures reason { IfErr result (λ e. IsReason e (length self.old.events)) }
     {
         self.history.make_room(Event::Run)?;
-        let found = run_until(&mut self.running, most, &condition);
+        let found = run_until(&mut self.followed, most, &condition);
         self.history.add(found.sent);
         Ok(found)
     }
@@ -180,9 +183,16 @@ impl Session {
         ensures reason { IfErr result (λ e. IsReason e (length self.old.events)) }
     {
         self.history.make_room(Event::Run)?;
-        let found = run_to_stop(&mut self.running, most, addresses, bytes);
+        let found = self.followed.run_to_stop(most, addresses, bytes);
         self.history.add(found.sent);
         Ok(found)
+    }
+
+    /// Whether the process that runs stands before a stop, as [`run_to_stop`](Session::run_to_stop) means it.
+    pub fn is_before_stop(&self, addresses: &[u64], bytes: &[u64]) -> bool
+        ensures { result ≡ is_before_stop addresses.now bytes.now self.now.machine.world }
+    {
+        is_before_stop(&self.followed.running.machine, addresses, bytes)
     }
 
     /// How many events the machine has got since it was booted.
@@ -211,20 +221,21 @@ impl Session {
         self.history.from_on(place)
     }
 
-    /// The machine as it was after the first events, so many, booted anew, with its names.
-    fn running_at(&self, alloc: Global, place: u64) -> Result<Running, SessionError>
-        ensures led { IfOk result (IsLed self.now.frames self.now.trace self.now.programs (take place self.now.events)) }
+    /// The machine as it was after the first events, so many, booted anew, with its names and whose step was last.
+    fn followed_at(&self, alloc: Global, place: u64) -> Result<Followed, SessionError>
+        ensures led { IfOk result (λ f. IsLed self.now.frames self.now.trace self.now.programs (take place self.now.events) f.running) }
+        ensures last { IfOk result (λ f. HasLast self.now.frames self.now.trace self.now.programs (take place self.now.events) f.running.machine f.last) }
         ensures memory { IfErr result (λ e. e ≡ SessionError.Memory) }
     {
-        let Ok(programs) = copied(alloc, self.running.machine.programs()) else {
+        let Ok(programs) = copied(alloc, self.followed.running.machine.programs()) else {
             return Err(SessionError::Memory);
         };
         let Ok(machine) = Machine::boot(alloc, self.config, programs) else {
             return Err(SessionError::Memory);
         };
-        let mut running = Running::new(machine);
-        self.history.play(&mut running, place);
-        Ok(running)
+        let mut followed = Followed::new(machine);
+        self.history.play(&mut followed, place);
+        Ok(followed)
     }
 
     /// The machine as it was after the first events, so many, as a machine of its own; as it is, where there were no
@@ -237,7 +248,8 @@ impl Session {
         ensures played { IfOk result (IsPlayed self.now.frames self.now.trace self.now.programs (take place self.now.events)) }
         ensures memory { IfErr result (λ e. e ≡ SessionError.Memory) }
     {
-        let Running { machine, names: _ } = self.running_at(alloc, place)?;
+        let Followed { running, last: _ } = self.followed_at(alloc, place)?;
+        let Running { machine, names: _ } = running;
         Ok(machine)
     }
 
@@ -253,8 +265,8 @@ impl Session {
         ensures memory { IfErr result (λ e. e ≡ SessionError.Memory) }
         ensures recorded { IsRecorded self.new }
     {
-        let running = self.running_at(alloc, place)?;
-        self.running = running;
+        let followed = self.followed_at(alloc, place)?;
+        self.followed = followed;
         self.history.cut(place);
         Ok(())
     }
@@ -264,7 +276,14 @@ impl Session {
         ensures machine { result.now ≡ self.now.machine }
         ensures recorded { IsRecorded self.now }
     {
-        &self.running.machine
+        &self.followed.running.machine
+    }
+
+    /// The process whose step was last; `None` if no event made a step.
+    pub fn last_step(&self) -> Option<Pid>
+        ensures { IsLastStep self.now result }
+    {
+        self.followed.last
     }
 
     /// The place, among the machine's programs, of the program that a live process runs: process 1 runs `init`, a
@@ -273,7 +292,7 @@ impl Session {
         ensures place { result ≡ place_in pid self.now.names }
         ensures live { IfSome result (λ _. IsSome (live self.now.machine.world.state pid)) }
     {
-        self.running.names.place(pid)
+        self.followed.running.names.place(pid)
     }
 
     /// The live processes, each with its program's place.
@@ -281,6 +300,6 @@ impl Session {
         ensures names { result.now ≡ self.now.names }
         ensures live { AreLive self.now.machine.world.state result.now }
     {
-        self.running.names.as_slice()
+        self.followed.running.names.as_slice()
     }
 }

@@ -43,7 +43,7 @@ fn stores_to_one(machine: &Machine, pid: Pid, bytes: &[u64]) -> bool
 
 /// Whether the process that runs stands before a stop: its next instruction stands at one of the addresses, or stores
 /// to one of the bytes.
-fn is_before_stop(machine: &Machine, addresses: &[u64], bytes: &[u64]) -> bool
+pub(crate) fn is_before_stop(machine: &Machine, addresses: &[u64], bytes: &[u64]) -> bool
     ensures { result ≡ is_before_stop addresses.now bytes.now machine.now.world }
 {
     let Some(pid) = machine.current() else {

@@ -1,13 +1,15 @@
 //! Running on up to what is waited for.
-ghost use Rattle.std.specs.Prelude.{◌≡◌, ◌&&◌, Some, option_map};
+ghost use Rattle.std.specs.Prelude.{◌≡◌, ◌&&◌, Some, option_map, replicate};
 ghost use Rattle.rv64i_core.specs.Memory.{bytes_of_width};
 ghost use Rattle.rv64i_core.specs.Step.{store_width};
+ghost use Rattle.kernel_spec.specs.runs.Run as runs;
 ghost use Rattle.xv_machine.specs.Events.{outcome_of};
+ghost use Rattle.xv_session.specs.Follows.{Follows};
 ghost use Rattle.xv_session.specs.Steps.{IsSound};
 ghost use Rattle.xv_session.specs.Until.{makes_step, is_on_call, faults, ends, stands_at, is_done, instruction_in, puts_at, is_storing, store_awaited, meets_with, Searched};
 
+use crate::followed::Followed;
 use crate::looking::next_step;
-use crate::running::Running;
 use rv64i_core::{Instr, StoreOp, decode};
 use xk_base::Pid;
 use xv_machine::{Machine, Outcome};
@@ -183,14 +185,15 @@ impl Condition {
 }
 
 /// Sends Run, one by one, up to the first that is what is waited for, `most` at most.
-pub(crate) fn run_until(running: &mut Running, most: u32, condition: &Condition) -> Search
-    requires { IsSound running.old }
-    ensures { Searched condition.now most result.met (option_map outcome_of result.last) running.old running.new result.sent }
+pub(crate) fn run_until(followed: &mut Followed, most: u32, condition: &Condition) -> Search
+    requires { IsSound followed.old.running }
+    ensures searched { Searched condition.now most result.met (option_map outcome_of result.last) followed.old.running followed.new.running result.sent }
+    ensures follows { Follows (replicate result.sent runs.Run) followed.old followed.new }
 {
     for before in 0..most {
-        let stores = condition.is_at_store(&running.machine);
-        let outcome = running.run_once();
-        let met = condition.is_met(stores, &outcome, &running.machine);
+        let stores = condition.is_at_store(&followed.running.machine);
+        let outcome = followed.run_once();
+        let met = condition.is_met(stores, &outcome, &followed.running.machine);
         let sent = before + 1;
         if met {
             return Search {

@@ -2,12 +2,11 @@ use Rattle.std.proofs.Common.{◌≡◌, ◌-◌, ◌∙◌, ℕ, List, length, 
 use Rattle.kernel_spec.specs.runs.Run.{Event}
 use Rattle.xv_machine.specs.Events.{event_of}
 use Rattle.xv_machine.specs.declared.event.Event.TheVariants.{Run}
-use Rattle.xv_session.specs.Recorded.{GoesBy}
+use Rattle.xv_session.specs.Follows.{Follows}
 use Rattle.xv_session.specs.Spans.{all_events}
 use Rattle.xv_session.specs.declared.history.Span.{Span}
-use Rattle.xv_session.proofs.Plays.{goes-by-join}
+use Rattle.xv_session.proofs.LastSteps.{follows-join, follows-sound}
 use Rattle.xv_session.proofs.Spans.{first-more}
-use Rattle.xv_session.proofs.NamesLive.{goes-by-sound}
 use Rattle.xv_session.proofs.playing.play_first.Goals as goal
 
 pub loop-place-preserved : goal.loop-place-preserved
@@ -20,15 +19,15 @@ loop-place-preserved c =
     let left = c.args.most - length xs in
     let count : c.min-count.result ≡ min s.count left = c.min-count.ensures ∙ ap (min s.count) c.loop-place.invariant.0 in
     let more = first-more spans place c.args.most none c.loop-place-test.true in
-    let now : GoesBy (replicate (min s.count left) (event_of s.event)) c.loop-place.running c.play.new.running =
-    subst (λ (n : ℕ). GoesBy (replicate n (event_of s.event)) c.loop-place.running c.play.new.running) count c.play.ensures.goes in (
+    let now : Follows (replicate (min s.count left) (event_of s.event)) c.loop-place.followed c.play.new.followed =
+    subst (λ (n : ℕ). Follows (replicate n (event_of s.event)) c.loop-place.followed c.play.new.followed) count c.play.ensures.goes in (
       (λ i. c.loop-place.invariant.0 i - count i) ∙ sym more.0,
-      subst (λ (es : List Event). GoesBy es c.args.running.now c.play.new.running) (sym more.1)
-          (goes-by-join (take c.args.most xs) (replicate (min s.count left) (event_of s.event)) c.args.running.now c.loop-place.running c.play.new.running c.loop-place.invariant.1 now),
+      subst (λ (es : List Event). Follows es c.args.followed.now c.play.new.followed) (sym more.1)
+          (follows-join (take c.args.most xs) (replicate (min s.count left) (event_of s.event)) c.args.followed.now c.loop-place.followed c.play.new.followed c.loop-place.invariant.1 now),
     )
 
 pub play-requires : goal.play-requires
-play-requires c = goes-by-sound _ c.args.running.now c.loop-place.running c.requires c.loop-place.invariant.1
+play-requires c = follows-sound _ c.args.followed.now c.loop-place.followed c.requires c.loop-place.invariant.1
 
 pub returns-clause-sound : goal.returns-clause-sound
-returns-clause-sound c = goes-by-sound _ c.args.running.now c.loop-place.running c.requires c.loop-place.invariant.1
+returns-clause-sound c = follows-sound _ c.args.followed.now c.loop-place.followed c.requires c.loop-place.invariant.1

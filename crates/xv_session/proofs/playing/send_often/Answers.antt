@@ -1,18 +1,17 @@
 use Rattle.std.proofs.Common.{arith}
-use Rattle.xv_machine.specs.Events.{event_of, outcome_of}
-use Rattle.xv_session.proofs.Plays.{more-sent, goes-by-one}
-use Rattle.xv_session.proofs.NamesLive.{goes-by-sound}
+use Rattle.xv_machine.specs.Events.{event_of}
+use Rattle.xv_session.proofs.LastSteps.{follows-sound, more-followed}
 use Rattle.xv_session.proofs.playing.send_often.Goals as goal
 
 pub sends-preserved : goal.sends-preserved
 sends-preserved c = (
   omega (arith, c.sends.invariant.0),
-  more-sent c.args.count c.sends.left 1 (event_of c.args.event) c.args.running.now c.sends.running c.event.new.self c.sends.invariant.0 (omega (arith, c.sends-test.true)) c.sends.invariant.1
-      (goes-by-one (event_of c.args.event) (outcome_of c.event.result) c.sends.running c.event.new.self c.event.ensures),
+  more-followed c.args.count c.sends.left 1 (event_of c.args.event) c.args.followed.now c.sends.followed c.event.new.self c.sends.invariant.0 (omega (arith, c.sends-test.true)) c.sends.invariant.1
+      c.event.ensures.follows,
 )
 
 pub event-requires : goal.event-requires
-event-requires c = record { sound = goes-by-sound _ c.args.running.now c.sends.running c.requires c.sends.invariant.1 }
+event-requires c = record { sound = follows-sound _ c.args.followed.now c.sends.followed c.requires c.sends.invariant.1 }
 
 pub returns-clause-sound : goal.returns-clause-sound
-returns-clause-sound c = goes-by-sound _ c.args.running.now c.sends.running c.requires c.sends.invariant.1
+returns-clause-sound c = follows-sound _ c.args.followed.now c.sends.followed c.requires c.sends.invariant.1

@@ -1,10 +1,10 @@
 use Rattle.std.proofs.Common.{◌-◌, ◌≤◌, replicate}
 use Rattle.xv_machine.specs.Events.{event_of}
-use Rattle.xv_session.specs.Recorded.{GoesBy}
+use Rattle.xv_session.specs.Follows.{Follows}
 use Rattle.xv_session.proofs.playing.send_often.Given as goal
 
 abbrev pub invariant-sends : goal.invariant-sends
-invariant-sends l = (l.left ≤ l.count) × GoesBy (replicate (l.count - l.left) (event_of l.event)) l.fn.running l.running
+invariant-sends l = (l.left ≤ l.count) × Follows (replicate (l.count - l.left) (event_of l.event)) l.fn.followed l.followed
 
 abbrev pub decreases-sends : goal.decreases-sends
 decreases-sends l = l.left

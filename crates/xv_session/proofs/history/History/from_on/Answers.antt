@@ -33,6 +33,6 @@ returns c =
     let h = c.self.inside in
     let all : length h.over.items ≤ c.loop-at.at = omega arith in
     let inside : c.args.place < h.count = omega arith in
-    let r = from-last h.over.items h.last c.loop-at.at c.loop-at.before c.args.place h.count all c.loop-at.invariant c.self.invariant inside in
+    let r = from-last h.over.items h.last c.loop-at.at c.loop-at.before c.args.place h.count all c.loop-at.invariant c.self.invariant.0 inside in
     let some : 0 < h.last.count - c.loop-at.before = omega (arith, r.0) in
     subst (λ (k : Kept). AreEqualFrom k.events c.args.place (Some (event_of h.last.event, h.last.count - c.loop-at.before))) c.self.view_is (some, r.1)

@@ -10,4 +10,4 @@ pub returns-clause-live : goal.returns-clause-live
 returns-clause-live c =
     let r = recorded c.self.inside in
     subst (λ (s : Recorded). AreLive s.machine.world.state c.as_slice.result.now) c.self.view_is
-    (subst (λ (ns : List Named). AreLive r.machine.world.state ns) (sym c.as_slice.ensures) (recorded-live r c.self.invariant))
+    (subst (λ (ns : List Named). AreLive r.machine.world.state ns) (sym c.as_slice.ensures) (recorded-live r c.self.invariant.0))
