@@ -40,6 +40,7 @@ tell_others() {
     tell imports.py 'imports.py [--tell] CRATE..' 'writes the heads of the proofs, and the module that hands on their words: a second'
     tell html-links.py 'html-links.py FOLDER' 'the links of a release that was untarred'
     tell exercise_8.py 'exercise_8.py' "what the kit says of the mistake in the course's exercise 8 is what the page shows: a minute; needs rt"
+    tell cases.py 'cases.py --tell [WORD]' 'what tries a case that a reader would ask for by name'
     tell commands.py 'commands.py --tell' 'which commands of the pages are run by hand alone; the others are run here'
     tell terminal/by_hand.sh 'terminal/by_hand.sh [FOLDER]' 'sessions at a real terminal, with their screens: a minute; needs tmux'
     tell terminal/measure.py 'terminal/measure.py' 'the terminal'"'"'s speed beside xv_run, its echo, and what it takes while all sleep: a minute'

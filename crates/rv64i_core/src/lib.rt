@@ -30,7 +30,7 @@ pub use decoding::decode;
 pub use encoding::encode;
 pub use execution::{Stop, execute};
 pub use fast::action::Action;
-pub use fast::decode_cache::DecodeCache;
+pub use fast::decode_cache::{DecodeCache, rest_of_line};
 pub use fast::flow::Pc;
 pub use fast::performing::{Way, execute_cached, execute_kept};
 pub use flat_memory::FlatMemory;

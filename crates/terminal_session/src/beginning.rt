@@ -1,6 +1,7 @@
 //! A session, from the files to its end.
 use crate::NAME;
 use crate::conversing::{live, replay};
+use crate::first_screen::FirstScreen;
 use crate::host::Desk;
 use crate::line::Settings;
 use crate::notes::{Notes, OpenLine};
@@ -64,7 +65,7 @@ fn record_file<'a>(
     }
 }
 
-// Attends to a session at the keyboard up to its end, which is told.
+// Attends to a session at the keyboard up to its end, which is told. A terminal is told first what there is to type.
 fn attend_to<W: ByteSink, E: Write>(
     rt: &HostRuntime,
     session: &mut Session,
@@ -72,6 +73,10 @@ fn attend_to<W: ByteSink, E: Write>(
     settings: &Settings,
     screen: &mut Screen<W, Notes<E>>,
 ) -> u8 {
+    if settings.terminal && !settings.apart {
+        let programs = session.machine().programs();
+        screen.teller.write_note(FirstScreen { programs });
+    }
     let tick = Duration::from_millis(u64::from(settings.tick));
     let mut desk = Desk::new(rt.stdin(), rt, settings.terminal, tick);
     live(session, &mut desk, debugger, screen)

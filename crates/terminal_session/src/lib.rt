@@ -15,6 +15,7 @@ mod command_line;
 mod conversing;
 mod debugging;
 mod ending;
+mod first_screen;
 mod host;
 mod line;
 mod line_editor;

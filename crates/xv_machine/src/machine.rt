@@ -213,13 +213,13 @@ impl Machine {
         ensures trace { IfOk result (HasEmptyTrace notes) }
     {
         match Trace::with_capacity(alloc, notes) {
-            Ok(trace) => Machine::start(kernel, trace),
+            Ok(trace) => Machine::start(alloc, kernel, trace),
             Err(_) => Err(BootError::Memory),
         }
     }
 
     // A machine with this kernel, which has no process yet, and this trace, which has no note yet.
-    fn start(mut kernel: Kernel, trace: Trace) -> Result<Machine, BootError>
+    fn start(alloc: Global, mut kernel: Kernel, trace: Trace) -> Result<Machine, BootError>
         requires blank { IsBlank kernel }
         requires whole { (hart : Hart) → kernels.IsIdle hart → IsWhole kernel hart }
         requires program { is_some (init_of (map named_file kernel.programs.items)) ≡ true }
@@ -228,7 +228,7 @@ impl Machine {
         ensures sound { IfOk result IsSoundMachine }
         ensures trace { IfOk result (HasEmptyTrace trace.capacity) }
     {
-        let mut hart = Hart::new();
+        let mut hart = Hart::with_room(alloc);
         match kernel.start(&mut hart) {
             Ok(()) => Ok(Machine {
                 kernel,

@@ -11,25 +11,25 @@ use Rattle.xv_machine.proofs.Starts.{kernel-free, kernel-console, kernel-clock, 
 use Rattle.xv_machine.proofs.machine.Machine.start.Goals as goal
 
 pub start-requires-clause-whole : goal.start-requires-clause-whole
-start-requires-clause-whole c = c.requires.whole c.new-hart.result (ap (λ (h : Hart). h.root) c.new-hart.ensures, ap (λ (h : Hart). h.cache) c.new-hart.ensures)
+start-requires-clause-whole c = c.requires.whole c.with_room-hart.result (ap (λ (h : Hart). h.root) c.with_room-hart.ensures, ap (λ (h : Hart). h.cache) c.with_room-hart.ensures)
 
 pub start-requires-clause-program : goal.start-requires-clause-program
-start-requires-clause-program c = kernel-init c.args.kernel c.new-hart.result c.requires.program
+start-requires-clause-program c = kernel-init c.args.kernel c.with_room-hart.result c.requires.program
 
 pub invariant_of-result : goal.invariant_of-result
 invariant_of-result c = record {
   whole = c.start.ensures.whole;
   kept = empty-kept c.args.trace c.requires.empty;
-  halted = started-lives (world_of c.start.new.self c.start.new.hart None) c.in-Ok.ensures.started.0 (state_of c.args.kernel c.new-hart.result) c.in-Ok.ensures.started.3;
+  halted = started-lives (world_of c.start.new.self c.start.new.hart None) c.in-Ok.ensures.started.0 (state_of c.args.kernel c.with_room-hart.result) c.in-Ok.ensures.started.3;
 }
 
 pub returns-in-Ok-clause-boots : goal.returns-in-Ok-clause-boots
 returns-in-Ok-clause-boots c =
-    let s = state_of c.args.kernel c.new-hart.result in
+    let s = state_of c.args.kernel c.with_room-hart.result in
     boots-started (length c.args.kernel.memories.ram) (map named_file c.args.kernel.programs.items) s
-    (kernel-free c.args.kernel c.new-hart.result c.requires.blank) (kernel-programs c.args.kernel c.new-hart.result) c.requires.program
-    (kernel-console c.args.kernel c.new-hart.result c.requires.blank)
-    (kernel-clock c.args.kernel c.new-hart.result c.requires.blank) c.in-Ok.ensures.started.0
+    (kernel-free c.args.kernel c.with_room-hart.result c.requires.blank) (kernel-programs c.args.kernel c.with_room-hart.result) c.requires.program
+    (kernel-console c.args.kernel c.with_room-hart.result c.requires.blank)
+    (kernel-clock c.args.kernel c.with_room-hart.result c.requires.blank) c.in-Ok.ensures.started.0
     (meaning_of (record { kernel = c.start.new.self; hart = c.start.new.hart; halted = None; trace = c.args.trace })) c.in-Ok.ensures.started.1
     c.in-Ok.ensures.started.2 c.in-Ok.ensures.started.3
     (count-is c.start.new.self ∙ c.start.ensures.frames)
@@ -37,11 +37,11 @@ returns-in-Ok-clause-boots c =
 pub returns-in-Ok-clause-sound : goal.returns-in-Ok-clause-sound
 returns-in-Ok-clause-sound c =
     sound-of c.start.new.self c.start.new.hart None c.args.trace (empty-kept c.args.trace c.requires.empty) c.start.ensures.whole
-    (started-lives (world_of c.start.new.self c.start.new.hart None) c.in-Ok.ensures.started.0 (state_of c.args.kernel c.new-hart.result) c.in-Ok.ensures.started.3)
+    (started-lives (world_of c.start.new.self c.start.new.hart None) c.in-Ok.ensures.started.0 (state_of c.args.kernel c.with_room-hart.result) c.in-Ok.ensures.started.3)
 
 pub returns-in-Err-clause-boots : goal.returns-in-Err-clause-boots
 returns-in-Err-clause-boots c =
-    let s = state_of c.args.kernel c.new-hart.result in
+    let s = state_of c.args.kernel c.with_room-hart.result in
     boots-refused (length c.args.kernel.memories.ram) (map named_file c.args.kernel.programs.items) s
-    (kernel-free c.args.kernel c.new-hart.result c.requires.blank) (kernel-programs c.args.kernel c.new-hart.result) c.requires.program
+    (kernel-free c.args.kernel c.with_room-hart.result c.requires.blank) (kernel-programs c.args.kernel c.with_room-hart.result) c.requires.program
     c.in-Err.refusal c.in-Err.ensures.refused.0
