@@ -1,6 +1,5 @@
 -- Events that are sent one after another, and those of spans.
-use Rattle.std.proofs.Common.{ℕ, ◌-◌, ◌≤◌, List, [], ◌∷◌, ◌++◌, replicate, Option, refl, sym, ap, ap₂, ◌∙◌, subst, arith}
-use Rattle.std.proofs.lemmas.List.{replicate-append-replicate}
+use Rattle.std.proofs.Common.{ℕ, List, [], ◌∷◌, ◌++◌, replicate, Option, refl, sym, ap₂, ◌∙◌, subst}
 use Rattle.kernel_spec.specs.views.State.{ProgramFile}
 use Rattle.kernel_spec.specs.runs.Run.{Event, Run, Outcome}
 use Rattle.xv_machine.specs.Meaning.{Meaning}
@@ -59,10 +58,3 @@ led-sound frames trace programs xs r led = played-sound frames trace programs xs
 -- Runs that a machine was sent at once
 pub goes-by-runs : (most sent : ℕ) (last : Option Outcome) (a b : Running) → RunsMade most sent last a b → GoesBy (replicate sent Run) a b
 goes-by-runs most sent last a b made = record { list = made.list; goes = made.goes; named = made.named; those = made.those }
-
--- some of so many equal events, and then more
-pub more-sent : (count left sent : ℕ) (e : Event) (a b c : Running) → left ≤ count → sent ≤ left → GoesBy (replicate (count - left) e) a b
-    → GoesBy (replicate sent e) b c → GoesBy (replicate (count - (left - sent)) e) a c
-more-sent count left sent e a b c within few before now =
-    subst (λ es. GoesBy es a c) (replicate-append-replicate (count - left) sent e ∙ ap (λ n. replicate n e) (omega (arith, within, few)))
-    (goes-by-join (replicate (count - left) e) (replicate sent e) a b c before now)

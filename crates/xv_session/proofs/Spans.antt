@@ -1,6 +1,6 @@
 -- The events of spans, from the first on.
 use Rattle.std.proofs.Common.{◌≡◌, ◌≢◌, ℕ, zero, suc, ◌+◌, ◌-◌, ◌<◌, ◌≤◌, List, [], ◌∷◌, ◌++◌, length, take}
-use Rattle.std.proofs.Common.{drop, get_or, replicate, min, None, Some, inl, inr, refl, sym, ap, ◌∙◌, subst, arith}
+use Rattle.std.proofs.Common.{drop, get_or, replicate, min, Option, None, Some, inl, inr, refl, sym, ap, ◌∙◌, subst, arith}
 use Rattle.std.specs.Prelude.{slice_get}
 use Rattle.std.proofs.lemmas.Bool.{cases_lt}
 use Rattle.std.proofs.lemmas.Grind.{flat_map-append}
@@ -224,3 +224,58 @@ first-equal (x ∷ list) zero e (suc k) some same =
     let is : x ≡ e = cc in
     ap Some (sym is)
 first-equal (x ∷ list) (suc place) e (suc k) some same = first-equal list place e (suc k) some same
+
+-- ---- the event behind equal ones
+
+past-both : (xs ys : List Event) (k : ℕ) → slice_get (xs ++ ys) (k + length xs) ≡ slice_get ys k
+past-both [] ys k = let same : k + 0 ≡ k = omega arith in ap (slice_get ys) same
+past-both (x ∷ xs) ys k = let more : k + suc (length xs) ≡ suc (k + length xs) = omega arith in ap (slice_get (x ∷ (xs ++ ys))) more ∙ past-both xs ys k
+
+-- the first of so many equal ones, or of what is behind them
+first-of : (n : ℕ) (e f : Event) (rest : List Event) → f ≢ e → slice_get rest 0 ≢ Some e → slice_get (replicate n f ++ rest) 0 ≢ Some e
+first-of zero e f rest other none = none
+first-of (suc n) e f rest other none = λ is. (let same : f ≡ e = cc in other same)
+
+none-is-some : (e : Event) → ◌≢◌ {A = Option Event} None (Some e)
+none-is-some e is = cc
+
+next-other : (over : List Span) (last : Span) (e : Event) → AreApart over last → event_of (next_span over last).event ≢ e → slice_get (all_events over ++ span_events last) 0 ≢ Some e
+next-other [] last e apart other = subst (λ es. slice_get es 0 ≢ Some e) (append-nil (span_events last)) (first-of last.count e (event_of last.event) [] other (none-is-some e))
+next-other (s ∷ over) last e (some, behind, apart) other = by s.count some
+  where
+    by : (n : ℕ) → 0 < n → slice_get ((replicate n (event_of s.event) ++ all_events over) ++ span_events last) 0 ≢ Some e
+    by zero none = absurd (omega (arith, none))
+    by (suc n) some = λ is. (let same : event_of s.event ≡ e = cc in other same)
+
+-- behind the events of a span there is another one, or none
+rest-other : (over : List Span) (last : Span) (at : ℕ) (d : Span) → AreApart over last → at < length over
+    → slice_get (all_events (drop (at + 1) over) ++ span_events last) 0 ≢ Some (event_of (get_or over at d).event)
+rest-other [] last at d apart lt = absurd (omega (arith, lt))
+rest-other (s ∷ over) last zero d (some, behind, apart) lt =
+    subst (λ (ss : List Span). slice_get (all_events ss ++ span_events last) 0 ≢ Some (event_of s.event)) (sym (drop-none over)) (next-other over last (event_of s.event) apart behind)
+rest-other (s ∷ over) last (suc at) d (some, behind, apart) lt =
+    let next : suc (at + 1) ≡ suc at + 1 = omega arith in
+    subst (λ (n : ℕ). slice_get (all_events (drop n (s ∷ over)) ++ span_events last) 0 ≢ Some (event_of (get_or over at d).event)) next
+    (rest-other over last at d apart (omega (arith, lt)))
+
+pub other-there : (over : List Span) (last : Span) (at before place : ℕ) (d : Span) → AreApart over last → at < length over → before + length (all_events (take at over)) ≡ place
+    → before < (get_or over at d).count → slice_get (kept over last).events (place + ((get_or over at d).count - before)) ≢ Some (event_of (get_or over at d).event)
+other-there over last at before place d apart lt is inside =
+    let xs = all_events (take at over) in
+    let s = get_or over at d in
+    let rest = all_events (drop (at + 1) over) ++ span_events last in
+    let end : place + (s.count - before) ≡ s.count + length xs = omega (arith, is, inside) in
+    let two : s.count ≡ 0 + length (span_events s) = omega (arith, long-span s) in
+    let there : slice_get (kept over last).events (place + (s.count - before)) ≡ slice_get rest 0 =
+    ap (slice_get (all_events over ++ span_events last)) end ∙ ap (λ es. slice_get es (s.count + length xs)) (around over (span_events last) at d lt)
+    ∙ past-both xs (span_events s ++ rest) s.count ∙ ap (slice_get (span_events s ++ rest)) two ∙ past-both (span_events s) rest 0 in
+    λ same. rest-other over last at d apart lt (sym there ∙ same)
+
+-- behind the last span there is none
+pub none-behind : (over : List Span) (last : Span) (at before place count : ℕ) → length over ≤ at → before + length (all_events (take at over)) ≡ place
+    → count ≡ length (kept over last).events → place < count → slice_get (kept over last).events (place + (last.count - before)) ≢ Some (event_of last.event)
+none-behind over last at before place count all is counted inside =
+    let xs = all_events over in
+    let there : before + length xs ≡ place = ap (λ (ss : List Span). before + length (all_events ss)) (sym (take_all at over all)) ∙ is in
+    let long : length (xs ++ span_events last) ≡ length xs + last.count = length-append xs (span_events last) ∙ ap (λ n. length xs + n) (long-span last) in
+    λ same. none-is-some (event_of last.event) (none-there (xs ++ span_events last) (place + (last.count - before)) (omega (arith, there, long, counted, inside)) ∙ same)

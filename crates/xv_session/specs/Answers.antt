@@ -1,5 +1,5 @@
 -- What the calls of a session answer, and what they leave.
-use Rattle.std.specs.Prelude.{◌≡◌, ℕ, ◌<◌, ◌≤◌, Bool, List, [], ◌∷◌, ◌++◌, take, drop, length, replicate, Option, None, Some, Result, Ok, Err}
+use Rattle.std.specs.Prelude.{◌≡◌, ◌≢◌, ℕ, ◌+◌, ◌<◌, ◌≤◌, Bool, List, [], ◌∷◌, ◌++◌, take, drop, length, replicate, slice_get, Option, None, Some, Result, Ok, Err}
 use Rattle.xk_base.specs.declared.errors.BootError.{BootError}
 use Rattle.kernel_spec.specs.views.State.{ProgramFile}
 use Rattle.kernel_spec.specs.runs.Run.{Event, Run, Outcome}
@@ -57,6 +57,11 @@ WentBack place old new = new ≡ stands old (take place old.events) new.machine 
 abbrev pub AreEqualFrom : List Event → (place : ℕ) → Option (Event × ℕ) → Type 0
 AreEqualFrom list place None = length list ≤ place
 AreEqualFrom list place (Some (e, count)) = (0 < count) × (take count (drop place list) ≡ replicate count e)
+
+-- the event behind them is another, or there is none
+abbrev pub EndThere : List Event → (place : ℕ) → Option (Event × ℕ) → Type 0
+EndThere list place None = Unit {0}
+EndThere list place (Some (e, count)) = slice_get list (place + count) ≢ Some e
 
 -- Why no event is taken: the host has too little memory, of which nothing is said here; or the session keeps all that it may
 abbrev pub IsReason : SessionError → (kept : ℕ) → Type 0

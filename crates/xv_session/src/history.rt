@@ -129,12 +129,13 @@ impl History {
 
 impl History {
     ghost use Rattle.std.specs.Prelude.{◌≡◌, option_map};
-    ghost use Rattle.xv_session.specs.Answers.{AreEqualFrom};
+    ghost use Rattle.xv_session.specs.Answers.{AreEqualFrom, EndThere};
     ghost use Rattle.xv_session.specs.Spans.{pair_of};
 
     /// The event at a place, and how many events from there on are equal to it; `None` where there are fewer.
     pub fn from_on(&self, place: u64) -> Option<(Event, u64)>
-        ensures { AreEqualFrom self.now.events place (option_map pair_of result) }
+        ensures equal { AreEqualFrom self.now.events place (option_map pair_of result) }
+        ensures all { EndThere self.now.events place (option_map pair_of result) }
     {
         if place >= self.count {
             return None;

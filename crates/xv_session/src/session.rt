@@ -89,7 +89,7 @@ impl Session {
     ghost use Rattle.xv_machine.specs.Events.{event_of, outcome_of};
     ghost use Rattle.xv_machine.specs.Sound.{IsSoundMachine};
     ghost use Rattle.xv_session.specs.Recorded.{IsPlayed, IsLed, IsRecorded};
-    ghost use Rattle.xv_session.specs.Answers.{machine_of, IsNew, Sent, RunsSent, Found, Stopped, WentBack, AreEqualFrom, IsReason};
+    ghost use Rattle.xv_session.specs.Answers.{machine_of, IsNew, Sent, RunsSent, Found, Stopped, WentBack, AreEqualFrom, EndThere, IsReason};
     ghost use Rattle.xv_session.specs.LastStep.{HasLast, IsLastStep};
     ghost use Rattle.xv_session.specs.Names.{place_in, AreLive};
     ghost use Rattle.xv_session.specs.Spans.{pair_of};
@@ -212,11 +212,11 @@ impl Session {
         }
     }
 
-    /// The event at a place of the run, and how many events from there on are equal to it, one at least, as many as
-    /// are kept together; `None` where there were fewer. So all events are listed by a place that goes on from 0 by
-    /// these counts.
+    /// The event at a place of the run, and how many events from there on are equal to it, one at least, up to another
+    /// one; `None` where there were fewer. So all events are listed by a place that goes on from 0 by these counts.
     pub fn events_from(&self, place: u64) -> Option<(Event, u64)>
-        ensures { AreEqualFrom self.now.events place (option_map pair_of result) }
+        ensures equal { AreEqualFrom self.now.events place (option_map pair_of result) }
+        ensures all { EndThere self.now.events place (option_map pair_of result) }
     {
         self.history.from_on(place)
     }
