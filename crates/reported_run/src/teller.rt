@@ -17,7 +17,9 @@ use xk_base::Pid;
 use xk_base::limits::NPROC;
 use xv_machine::{DriveEnd, DriveError, Event, Outcome};
 use xv_report::text::{Asleep, FaultText, KillText, Name, Place, RefusedText, WaitLine, Who};
-use xv_report::{FaultReport, Hint, Sources, call_name, cause_text, report_at, source_of, waits_for};
+use xv_report::{
+    FaultReport, Hint, Sources, call_name, cause_text, report_at, source_of, waits_for,
+};
 use xv_session::{Named, Runs, Session};
 
 /// The process that runs, as it is before Runs are sent: behind them it may be gone.
@@ -163,14 +165,7 @@ impl<E: Write> Teller<E> {
     }
 
     /// Notes the call of the last event.
-    fn note_call(
-        &mut self,
-        session: &Session,
-        runner: &Runner,
-        pid: Pid,
-        number: i32,
-        value: i64,
-    ) {
+    fn note_call(&mut self, session: &Session, runner: &Runner, pid: Pid, number: i32, value: i64) {
         let Some(regs) = session.machine().registers(pid) else {
             return;
         };
@@ -214,13 +209,7 @@ impl<E: Write> Teller<E> {
     }
 
     /// Tells the growth that a process was refused, if its fault is one of a null pointer.
-    fn tell_refused(
-        &mut self,
-        session: &Session,
-        pid: Pid,
-        runner: &Runner,
-        hint: Option<Hint>,
-    ) {
+    fn tell_refused(&mut self, session: &Session, pid: Pid, runner: &Runner, hint: Option<Hint>) {
         let Some(Hint::NullPointer { .. }) = hint else {
             return;
         };

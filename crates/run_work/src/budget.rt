@@ -19,7 +19,7 @@ const MILLION: u64 = 1_000_000;
 /// `--budget`: the most work.
 pub const BUDGET: NumberOption = NumberOption {
     name: "budget",
-    help: "The most work, in millions of instructions, where a page counts as 256: 0 to 1000000; 0: any",
+    help: "The most work, in millions of instructions: 0 to 1000000; 0: any",
     default: "0",
     least: 0,
     most: 1_000_000,

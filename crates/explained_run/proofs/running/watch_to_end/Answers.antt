@@ -19,8 +19,8 @@ returns-in-Ok g c = λ other.
     } in
     let old = c.args.watched.now.explained.running.machine in
     rw c.close_run.ensures (ended-driven c.args.plan old before after _
-        (tells c.args.plan old c.play_rounds-played.new.player.explained.running.machine before after
-        c.in-Ok.end c.in-Ok.ensures.done c.in-Ok.ensures.end c.in-Ok.ensures.read_failed c.in-Ok.ensures.write_failed))
+    (tells c.args.plan old c.play_rounds-played.new.player.explained.running.machine before after
+    c.in-Ok.end c.in-Ok.ensures.done c.in-Ok.ensures.end c.in-Ok.ensures.read_failed c.in-Ok.ensures.write_failed))
 
 pub returns-in-Err : goal.returns-in-Err
 returns-in-Err g c = λ other.

@@ -20,8 +20,8 @@ returns-in-Ok g c = λ other.
     } in
     let old = c.args.watched.now.session.machine in
     rw c.say_end.ensures (ended-driven c.args.plan old before after _
-        (tells c.args.plan old c.play_rounds-played.new.player.session.machine before after
-        c.in-Ok.end c.in-Ok.ensures.done c.in-Ok.ensures.end c.in-Ok.ensures.read_failed c.in-Ok.ensures.write_failed))
+    (tells c.args.plan old c.play_rounds-played.new.player.session.machine before after
+    c.in-Ok.end c.in-Ok.ensures.done c.in-Ok.ensures.end c.in-Ok.ensures.read_failed c.in-Ok.ensures.write_failed))
 
 pub returns-in-Err : goal.returns-in-Err
 returns-in-Err g c =
