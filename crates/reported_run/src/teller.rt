@@ -5,7 +5,7 @@ ghost use Rattle.program_files.specs.Statuses.{status_of};
 ghost use Rattle.reported_run.specs.Stops.{stop_status};
 
 use crate::NAME;
-use crate::ends::{CallMade, Ends};
+use crate::ends::{CallMade, Ends, Kill};
 use crate::letters::{Key, Letter};
 use crate::line::Telling;
 use crate::stop::Stop;
@@ -99,6 +99,39 @@ fn fault_text<'a>(
     text.to_string(alloc).ok()
 }
 
+/// That a process was killed, as text; `None` if there is no memory for it.
+fn kill_text<'a>(
+    alloc: Global,
+    sources: &'a Sources,
+    session: &'a Session,
+    kill: &Kill,
+    program: Option<usize>,
+) -> Option<String> {
+    let by = kill.by;
+    let text = KillText {
+        victim: kill.victim,
+        program: who(session, kill.victim, program).program,
+        killer: by.pid,
+        killer_program: who(session, by.pid, by.program).program,
+        place: place_of(sources, session, &by),
+    };
+    text.to_string(alloc).ok()
+}
+
+/// That a growth was refused, as text; `None` if there is no memory for it.
+fn refused_text<'a>(
+    alloc: Global,
+    sources: &'a Sources,
+    session: &'a Session,
+    refused: &CallMade,
+) -> Option<String> {
+    let text = RefusedText {
+        call: call_name(refused.number).unwrap_or("call"),
+        place: place_of(sources, session, refused),
+    };
+    text.to_string(alloc).ok()
+}
+
 /// Why a live process doesn't go on, as text; `None` if there is no memory for it.
 fn wait_text<'a>(
     alloc: Global,
@@ -183,14 +216,10 @@ impl<E: Write> Teller<E> {
         let Some(kill) = self.ends.kill_of(pid) else {
             return;
         };
-        let text = KillText {
-            victim: pid,
-            program: who(session, pid, runner.program).program,
-            killer: kill.by.pid,
-            killer_program: who(session, kill.by.pid, kill.by.program).program,
-            place: place_of(&self.sources, session, &kill.by),
-        };
-        let _ = writeln!(self.errors, "{text}");
+        let text = kill_text(self.alloc, &self.sources, session, &kill, runner.program);
+        if let Some(text) = text {
+            let _ = writeln!(self.errors, "{text}");
+        }
     }
 
     /// Tells the fault of the last event.
@@ -219,11 +248,9 @@ impl<E: Write> Teller<E> {
         if refused.program != runner.program {
             return;
         }
-        let text = RefusedText {
-            call: call_name(refused.number).unwrap_or("call"),
-            place: place_of(&self.sources, session, &refused),
-        };
-        let _ = writeln!(self.errors, "  {text}");
+        if let Some(text) = refused_text(self.alloc, &self.sources, session, &refused) {
+            let _ = writeln!(self.errors, "  {text}");
+        }
     }
 
     /// Tells in words what came of Runs.

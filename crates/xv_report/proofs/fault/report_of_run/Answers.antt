@@ -14,4 +14,4 @@ returns c =
     let f = c.in_ok-fault.fault in
     let calls = c.in_ok-callers.field-0 in
     subst (λ (h : Option Hint). Reported (Some (record { fault = f; callers = calls; hint = h })) m n) (sym c.hint_if.ensures)
-    (reported m n f calls c.hint_now.result c.in_ok-fault.ensures c.in_ok-callers.ensures c.hint_now.ensures)
+    (reported m n f calls c.hint_now-hint.result c.in_ok-fault.ensures c.in_ok-callers.ensures c.hint_now-hint.ensures)
