@@ -15,6 +15,7 @@ const SESSION = ["terminal"], GDB = ["--gdb"], CALLS = ["--explain"];
 const TAKERS = {
   "--frames": ALL, "--rounds": ["run", "--why", "--explain", "--picture"], "--quantum": ["run", "--why", "--explain", "--picture", "--gdb"],
   "--trace": ["run", "terminal", "--why", "--explain", "--debug"],
+  "--budget": ["--why", "--explain", "--picture"],
   "--pid": CALLS, "--call": CALLS, "--failed": CALLS, "--count": CALLS, "--explain": ["--why"],
   "--tick": SESSION, "--record": SESSION, "--replay": SESSION,
   "--most": GDB, "--keys": GDB, "--type": GDB, "--file": GDB, "--commands": GDB,

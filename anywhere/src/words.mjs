@@ -1,7 +1,7 @@
 // The words of a command line: their bytes, which of them are modes, options and FILEs, and what Windows leaves to programs.
 import { readFileSync, readdirSync } from "node:fs";
 
-const NUMBERS = ["--frames", "--rounds", "--quantum", "--trace", "--tick", "--most", "--pid"];
+const NUMBERS = ["--frames", "--rounds", "--quantum", "--trace", "--budget", "--tick", "--most", "--pid"];
 const PATHS = ["--record", "--replay", "--lines", "--keys", "--file", "--commands"];
 const VALUED = [...NUMBERS, ...PATHS, "--type", "--call"];
 

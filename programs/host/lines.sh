@@ -49,7 +49,7 @@ before=
 behind=
 for file; do
     case $behind$before in
-        --frames | --rounds | --quantum | --trace | --tick | --record | --replay) before= && continue ;;
+        --frames | --rounds | --quantum | --trace | --budget | --tick | --record | --replay) before= && continue ;;
     esac
     before=$file
     case $behind$file in

@@ -2,7 +2,7 @@
 # Runs programs as xv does, and writes a picture of the run (SVG) to standard output: a row for each process with its
 # program's name, and what each sleeper waits for under the pointer.
 #
-#   programs/host/picture.sh [--frames N] [--rounds N] [--quantum N] FILE.. >run.svg
+#   programs/host/picture.sh [--frames N] [--rounds N] [--quantum N] [--budget N] FILE.. >run.svg
 #
 # What the programs write to the console goes to standard error, with the reports of why.sh. The exit status is that of
 # the run, or 5 if the picture can't be written. Without words it draws the trace that standard input has. XV_WHY and XV_PICTURE are other programs than those

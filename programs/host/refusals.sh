@@ -26,6 +26,7 @@ takers() {
         --rounds) echo 'run --why --explain --picture' ;;
         --quantum) echo 'run --why --explain --picture --gdb' ;;
         --trace) echo 'run terminal --why --explain --debug' ;;
+        --budget) echo '--why --explain --picture' ;;
         --pid | --call | --failed | --count) echo --explain ;;
         --explain) echo --why ;;
         --tick | --record | --replay) echo terminal ;;

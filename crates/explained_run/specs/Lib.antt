@@ -3,7 +3,6 @@ pub mod Chosen
 pub mod Lines
 pub mod LiveFact
 pub mod Ranges
-pub mod Runs
 pub mod Seen
 pub mod Sent
 pub mod Told

@@ -8,6 +8,7 @@ use crate::line::Settings;
 use program_files::{
     CommandLine, CommandWord, FRAMES, NumberOption, QUANTUM, ROUNDS, TRACE, WordsError, given_words,
 };
+use run_work::BUDGET;
 use std::rt::Env;
 use xk_base::Pid;
 use xk_base::limits::PID_MAX;
@@ -33,7 +34,8 @@ const COUNT: &str = "count";
 /// What stands below the list of options in the text of `--help`.
 const MORE_HELP: &str = "\
 It runs programs as xv_run does: the FILEs, the rounds, the keys from standard input, what goes to
-standard output, and the exit status are the same.
+standard output, and the exit status are the same. With --budget a run that does more work is
+broken off, and the exit status is 6.
 
 On standard error stands a line for each kernel call that is done, with what was passed to it and
 what it answered:
@@ -56,6 +58,7 @@ const COMMAND_LINE: CommandLine = CommandLine {
         CommandWord::Number(&ROUNDS),
         CommandWord::Number(&QUANTUM),
         CommandWord::Number(&TRACE),
+        CommandWord::Number(&BUDGET),
         CommandWord::Number(&PID),
         CommandWord::Text {
             name: CALL,
@@ -98,6 +101,7 @@ pub fn settings<R: Env + AllocGlobal>(rt: &R) -> Result<Settings, WordsError>
     let rounds = given.number(&ROUNDS)?;
     let quantum = given.number(&QUANTUM)?;
     let trace = given.number(&TRACE)?;
+    let budget = given.number(&BUDGET)?;
     let pid = given.number(&PID)?;
     let call = given.text(CALL)?;
     let failed = given.flag(FAILED);
@@ -108,6 +112,7 @@ pub fn settings<R: Env + AllocGlobal>(rt: &R) -> Result<Settings, WordsError>
         rounds: u64::from(rounds),
         quantum,
         trace,
+        budget,
         pid: chosen_pid(pid),
         call,
         failed,

@@ -12,7 +12,7 @@ use crate::telling::tell;
 use std::alloc::Global;
 use xk_base::{BootError, Pid, Program};
 use xv_machine::{Config, Event, Machine, Outcome};
-use xv_session::Running;
+use xv_session::{Running, Runs};
 
 /// A machine that goes on, and what is told of it since its boot.
 #[derive(Drop)]
@@ -101,25 +101,31 @@ impl Explained {
 
     /// Sends Run, `most` times at most, up to the first of which no done instruction comes, and tells what comes of it.
     /// If no process may run, all of them are sent.
-    pub fn run(&mut self, most: u32) -> u32
-        ensures ran { Ran most result self.old.running.machine self.new.running.machine }
-        ensures within { result ≤ most }
-        ensures some { 0 < most → 0 < result }
+    pub fn run(&mut self, most: u32) -> Runs
+        ensures ran { Ran most result.sent self.old.running.machine self.new.running.machine }
+        ensures within { result.sent ≤ most }
+        ensures some { 0 < most → 0 < result.sent }
     {
         let Some(pid) = self.running.machine.current() else {
-            return self.running.run(most).sent;
+            return self.running.run(most);
         };
         let place = self.running.names.place(pid);
         let made = self.running.machine.instructions(most);
         self.counts.add_instructions(pid, place, made);
         if made == most {
-            return most;
+            return Runs {
+                sent: most,
+                last: None,
+            };
         }
         let marked = is_marked(&self.running.machine.process(pid));
         let outcome = self.step(pid);
         let place = self.running.names.place(pid);
         self.counts.add_outcome(pid, place, marked, &outcome);
-        made + 1
+        Runs {
+            sent: made + 1,
+            last: Some(outcome),
+        }
     }
 
     /// Sends an event that isn't Run. Nothing is told of it.

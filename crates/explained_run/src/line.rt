@@ -12,6 +12,8 @@ pub struct Settings {
     pub quantum: u32,
     /// The most notes that the trace keeps: 0 to 65,536.
     pub trace: u32,
+    /// The most work, in millions of instructions: 0 to 1,000,000; 0: any.
+    pub budget: u32,
     /// The process whose lines alone are asked for, if there is one.
     pub pid: Option<Pid>,
     /// The name of the call whose lines alone are asked for, if there is one.

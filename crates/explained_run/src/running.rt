@@ -1,17 +1,17 @@
 //! A run: from the words of the command line to the closing line.
 ghost use Rattle.std.specs.Prelude.{◌≡◌, ◌≢◌, map};
 ghost use Rattle.kernel_spec.specs.views.State.{named_file};
-ghost use Rattle.program_files.specs.Statuses.{Tells};
-ghost use Rattle.explained_run.specs.Runs.{Says};
+ghost use Rattle.run_work.specs.Runs.{EndsSo, Says};
 
 use crate::NAME;
 use crate::choice::Choice;
 use crate::command_line::settings;
 use crate::explained::Explained;
 use crate::line::Settings;
-use crate::watching::Watched;
+use crate::watching::{Stop, Watched};
 use kernel_calls::KernelCall;
 use program_files::{Failure, close_run, programs, show_trace};
+use run_work::{Work, budget_of, close_over_budget};
 use std::alloc::Global;
 use std::io::Write;
 use std::rt::Env;
@@ -19,14 +19,14 @@ use xk_base::Program;
 use xv_machine::{ByteSink, Config, Counted, KeySource, RunPlan, play_rounds};
 
 // Lets a machine that has booted play rounds by the plan, tells its calls, shows its trace and the closing line, and gives
-// the exit status: 2 if there was too little memory for the lines.
+// the exit status: 2 if there was too little memory for the lines, and 6 if the budget is used up.
 fn watch_to_end<R: KeySource, W: ByteSink, E: Write>(
     watched: &mut Watched<E>,
     plan: RunPlan,
     keys: &mut R,
     sink: &mut W,
 ) -> u8
-    ensures { result ≢ 2 → Tells result plan watched.old.explained.running.machine
+    ensures { result ≢ 2 → EndsSo result plan watched.old.explained.running.machine
         (record { source = R.source keys.old; failed_reads = R.failures keys.old; sink = W.sink sink.old; failed_writes = W.failures sink.old })
         (record { source = R.source keys.new; failed_reads = R.failures keys.new; sink = W.sink sink.new; failed_writes = W.failures sink.new }) }
 {
@@ -39,7 +39,7 @@ fn watch_to_end<R: KeySource, W: ByteSink, E: Write>(
     }
     match played {
         Ok(end) => close_run(NAME, end, &mut watched.errors),
-        Err(never) => match never {},
+        Err(Stop) => close_over_budget(NAME, &watched.work, &mut watched.errors),
     }
 }
 
@@ -48,11 +48,13 @@ fn watch_to_end<R: KeySource, W: ByteSink, E: Write>(
 /// exited with 0, go to `errors`. What can't be written there is left out.
 ///
 /// It gives the status to exit with: 0 if `init` exited with 0, 2 if the machine didn't boot or the host's memory ran
-/// out, 3 if `init` exited with another status, 4 if the rounds are over, 5 if `keys` or `sink` failed.
+/// out, 3 if `init` exited with another status, 4 if the rounds are over, 5 if `keys` or `sink` failed, and 6 if the
+/// budget of `work` is used up.
 pub(crate) fn run_with<R: KeySource, W: ByteSink, E: Write + Drop>(
     alloc: Global,
     config: Config,
     plan: RunPlan,
+    work: Work,
     programs: Vec<Program>,
     choice: Choice,
     keys: &mut R,
@@ -69,6 +71,7 @@ pub(crate) fn run_with<R: KeySource, W: ByteSink, E: Write + Drop>(
                 explained,
                 errors,
                 written: 0,
+                work,
             };
             watch_to_end(&mut watched, plan, keys, sink)
         }
@@ -114,6 +117,7 @@ fn run<'a>(rt: &HostRuntime, settings: &'a Settings) -> Result<u8, Failure<'a>> 
         rt.alloc(),
         config,
         plan,
+        Work::new(budget_of(settings.budget)),
         made.programs,
         choice,
         &mut keys,

@@ -5,7 +5,7 @@ ghost use Rattle.explained_run.specs.Sent.{byte_sent};
 
 use crate::explained::Explained;
 use crate::table::write_table;
-use std::convert::Infallible;
+use run_work::{Before, Work};
 use std::io::Write;
 use xv_machine::{Event, Outcome, RoundPlayer, Sends};
 
@@ -16,7 +16,12 @@ pub(crate) struct Watched<E> {
     pub errors: E,
     /// How many bytes of the lines are handed on.
     pub written: usize,
+    pub work: Work,
 }
+
+/// That a run is broken off: its budget is used up.
+#[derive(Clone, Copy)]
+pub(crate) struct Stop;
 
 // The byte that was sent, if this came of Send.
 fn byte_of(outcome: &Outcome) -> Option<u8>
@@ -31,7 +36,8 @@ fn byte_of(outcome: &Outcome) -> Option<u8>
 impl<E: Write> Watched<E> {
     // Hands on the lines that are new. What can't be written is left out.
     fn hand_on(&mut self)
-        ensures { self.new.explained ≡ self.old.explained }
+        ensures explained { self.new.explained ≡ self.old.explained }
+        ensures work { self.new.work ≡ self.old.work }
     {
         let explained = &self.explained;
         let text = explained.text.as_str().as_bytes();
@@ -57,32 +63,45 @@ impl<E: Write> Watched<E> {
     }
 }
 
-/// It sends all events.
+/// A [`Stop`] before Runs, if the budget is used up: then nothing is sent.
 impl<E: Write> RoundPlayer for Watched<E> {
-    type Refusal = Infallible;
+    type Refusal = Stop;
 
     ghost machine = { λ w. w.explained.running.machine };
 
-    fn play_runs(&mut self, most: u32) -> Result<u32, Infallible> {
-        let sent = self.explained.run(most);
+    fn play_runs(&mut self, most: u32) -> Result<u32, Stop> {
+        if self.work.is_over() {
+            return Err(Stop);
+        }
+        let before = Before::of(&self.explained.running.machine);
+        let made = self.explained.run(most);
+        self.work.add_runs(
+            &self.explained.running.machine,
+            &before,
+            made.sent,
+            &made.last,
+        );
         self.hand_on();
-        Ok(sent)
+        Ok(made.sent)
     }
 
-    fn play_sends(&mut self, _most: u32) -> Result<Sends, Infallible> {
+    fn play_sends(&mut self, _most: u32) -> Result<Sends, Stop> {
         let outcome = self.explained.send(Event::Send);
+        self.work.add_event();
         Ok(Sends {
             sent: 1,
             byte: byte_of(&outcome),
         })
     }
 
-    fn play_tick(&mut self) -> Result<(), Infallible> {
+    fn play_tick(&mut self) -> Result<(), Stop> {
         self.explained.send(Event::Tick);
+        self.work.add_event();
         Ok(())
     }
 
-    fn play_key(&mut self, byte: u8) -> Result<Outcome, Infallible> {
+    fn play_key(&mut self, byte: u8) -> Result<Outcome, Stop> {
+        self.work.add_event();
         Ok(self.explained.send(Event::Key(byte)))
     }
 

@@ -1,4 +1,3 @@
 pub mod Files
 pub mod Plays
 pub mod Results
-pub mod Work

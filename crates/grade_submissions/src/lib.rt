@@ -18,7 +18,6 @@ mod playing;
 mod reasons;
 mod results;
 mod submission;
-mod work;
 
 pub use command_line::Settings;
 use command_line::read_settings;

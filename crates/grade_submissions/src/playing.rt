@@ -10,8 +10,8 @@ ghost use Rattle.xv_session.specs.Recorded.{IsRecorded};
 ghost use Rattle.grade_submissions.specs.Plays.{note_of, all_of, nothing, runs_in, runs_among, told_of, told_with, told_runs, last_after, idle_after, sending_after};
 ghost use Rattle.grade_submissions.specs.Plays.{is_full, is_over, PlaysOn, PlaysFirst, IsPlayed, end_of};
 
-use crate::work::cost_of;
 use grade_rules::{End, Note};
+use run_work::{Before, cost_of};
 use std::alloc::Global;
 use xk_base::{BootError, Pid, Program};
 use xv_machine::{Config, Event, Outcome, RoundPart, round_parts};
@@ -242,12 +242,13 @@ impl Played {
         ensures within { IfOk result (λ sent. sent ≤ most) }
         ensures runs { IfOk result (λ sent. self.new.kept.runs ≡ self.old.kept.runs + sent) }
     {
-        let free = self.session.machine().free_frames();
+        let before = Before::of(self.session.machine());
         let runs = self.session.run(most)?;
         let place = self.session.at().saturating_sub(1);
         self.kept.keep_runs(runs.sent, place, &runs.last)?;
+        let machine = self.session.machine();
         self.kept
-            .add_work(cost_of(&runs, free, self.session.machine()));
+            .add_work(cost_of(machine, &before, runs.sent, &runs.last));
         Ok(runs.sent)
     }
 

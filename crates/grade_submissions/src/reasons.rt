@@ -3,6 +3,7 @@ use crate::playing::{NOTES_MAX, Played, SHOWN_MAX};
 use crate::submission::Submission;
 use grade_sheets::{Grouped, Standing};
 use program_files::Failure;
+use run_work::OverBudget;
 use std::alloc::{AllocError, Global};
 use xk_base::Pid;
 use xv_report::text::{FaultText, WaitLine};
@@ -157,10 +158,11 @@ fn flood_text(alloc: Global, played: &Played) -> Result<String, AllocError> {
 
 // That the work of a run is more than its budget.
 fn budget_text(alloc: Global, played: &Played) -> Result<String, AllocError> {
-    let (budget, runs) = (Grouped(played.kept.budget), Grouped(played.kept.runs));
-    format!(in alloc;
-        "budget: {runs} Runs, and pages that they clear or copy, are more work than {budget}"
-    )
+    let over = OverBudget {
+        runs: played.kept.runs,
+        budget: played.kept.budget,
+    };
+    format!(in alloc; "{over}")
 }
 
 // That a run made more notes, or showed more bytes, than are kept.

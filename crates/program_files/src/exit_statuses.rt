@@ -17,3 +17,6 @@ pub const NOT_EXITED: u8 = 4;
 
 /// A device failed, or a file can't be written.
 pub const DEVICE_FAILED: u8 = 5;
+
+/// The run has used up its budget of work.
+pub const OVER_BUDGET: u8 = 6;

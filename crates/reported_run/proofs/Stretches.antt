@@ -9,7 +9,7 @@ use Rattle.xv_machine.proofs.Joins.{goes-one}
 use Rattle.xv_session.specs.Steps.{RunsMade, AreRunsTo}
 use Rattle.xv_session.specs.declared.running.Running.{Running}
 use Rattle.xv_session.proofs.RunsCounted.{count-sent, runs-count}
-use Rattle.reported_run.specs.Runs.{byte_sent}
+use Rattle.reported_run.specs.Sent.{byte_sent}
 
 abbrev Steps : Type 0
 Steps = List (Event × Outcome)

@@ -1,2 +1,4 @@
+pub mod Ends
 pub mod Ranges
-pub mod Runs
+pub mod Sent
+pub mod Stops

@@ -7,6 +7,7 @@ use crate::line::{Settings, Telling};
 use program_files::{
     CommandLine, CommandWord, FRAMES, QUANTUM, ROUNDS, TRACE, WordsError, given_words,
 };
+use run_work::BUDGET;
 use std::rt::Env;
 
 /// The word that asks for each event in words.
@@ -21,7 +22,8 @@ const LINES: &str = "lines";
 /// What stands below the list of options in the text of `--help`.
 const MORE_HELP: &str = "\
 It runs programs as xv_run does: the FILEs, the rounds, the keys from standard input, what goes to
-standard output, and the exit status are the same.
+standard output, and the exit status are the same. With --budget a run that does more work is
+broken off, and the exit status is 6.
 
 On standard error it tells each fault as it comes: the process, what it was about to do and why it
 could not, its registers, and the calls that led there. At the end it tells of each process that
@@ -43,6 +45,7 @@ const COMMAND_LINE: CommandLine = CommandLine {
         CommandWord::Number(&ROUNDS),
         CommandWord::Number(&QUANTUM),
         CommandWord::Number(&TRACE),
+        CommandWord::Number(&BUDGET),
         CommandWord::Flag {
             name: EXPLAIN,
             help: "Tell each event in words, as it comes",
@@ -86,6 +89,7 @@ pub fn settings<R: Env + AllocGlobal>(rt: &R) -> Result<Settings, WordsError>
     let rounds = given.number(&ROUNDS)?;
     let quantum = given.number(&QUANTUM)?;
     let trace = given.number(&TRACE)?;
+    let budget = given.number(&BUDGET)?;
     let telling = telling(given.flag(EXPLAIN), given.flag(NOTES));
     let lines = given.text(LINES)?;
     let files = given.files()?;
@@ -94,6 +98,7 @@ pub fn settings<R: Env + AllocGlobal>(rt: &R) -> Result<Settings, WordsError>
         rounds: u64::from(rounds),
         quantum,
         trace,
+        budget,
         telling,
         lines,
         files,

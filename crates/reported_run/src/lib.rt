@@ -8,9 +8,11 @@
 #![tactic(auto)]
 
 mod command_line;
+mod ends;
 mod letters;
 mod line;
 mod running;
+mod stop;
 mod teller;
 mod watching;
 
@@ -19,6 +21,7 @@ use crate::teller::Teller;
 pub use command_line::settings;
 pub use line::Settings;
 use program_files::{Failure, line_table, programs};
+use run_work::{Work, budget_of};
 use std::rt::Env;
 use xk_base::Program;
 use xv_machine::{Config, Counted, RunPlan};
@@ -65,6 +68,7 @@ fn run(rt: &HostRuntime, settings: &Settings, known: KnownPrograms) -> u8 {
         rt.alloc(),
         config,
         plan,
+        Work::new(budget_of(settings.budget)),
         known.programs,
         &mut keys,
         &mut sink,

@@ -22,6 +22,8 @@ pub struct Settings {
     pub quantum: u32,
     /// The most notes that the trace keeps: 0 to 65,536.
     pub trace: u32,
+    /// The most work, in millions of instructions: 0 to 1,000,000; 0: any.
+    pub budget: u32,
     /// What is told of events as they come.
     pub telling: Telling,
     /// The path of a table of lines.

@@ -1,12 +1,12 @@
 //! A run: from boot to the closing line.
 ghost use Rattle.std.specs.Prelude.{◌≡◌, ◌≢◌, map};
 ghost use Rattle.kernel_spec.specs.views.State.{named_file};
-ghost use Rattle.program_files.specs.Statuses.{Tells};
-ghost use Rattle.reported_run.specs.Runs.{Says};
+ghost use Rattle.run_work.specs.Runs.{EndsSo, Says};
 
 use crate::teller::Teller;
 use crate::watching::Watched;
 use program_files::Failure;
+use run_work::Work;
 use std::alloc::Global;
 use std::io::Write;
 use xk_base::Program;
@@ -14,14 +14,14 @@ use xv_machine::{ByteSink, Config, KeySource, RunPlan, play_rounds};
 use xv_session::Session;
 
 // Lets a session's machine that has booted play rounds by the plan, tells what is left to tell, shows its trace and the
-// closing line, and gives the exit status: 2 if the host's memory ran out.
+// closing line, and gives the exit status: 2 if the host's memory ran out, and 6 if the budget is used up.
 fn watch_to_end<R: KeySource, W: ByteSink, E: Write>(
     watched: &mut Watched<E>,
     plan: RunPlan,
     keys: &mut R,
     sink: &mut W,
 ) -> u8
-    ensures { result ≢ 2 → Tells result plan watched.old.session.machine
+    ensures { result ≢ 2 → EndsSo result plan watched.old.session.machine
         (record { source = R.source keys.old; failed_reads = R.failures keys.old; sink = W.sink sink.old; failed_writes = W.failures sink.old })
         (record { source = R.source keys.new; failed_reads = R.failures keys.new; sink = W.sink sink.new; failed_writes = W.failures sink.new }) }
 {
@@ -31,7 +31,7 @@ fn watch_to_end<R: KeySource, W: ByteSink, E: Write>(
     watched.teller.tell_waits(&watched.session);
     match played {
         Ok(end) => watched.teller.say_end(end),
-        Err(error) => watched.teller.say_failure(&Failure::from(error)),
+        Err(stop) => watched.teller.say_stop(&stop, &watched.work),
     }
 }
 
@@ -41,11 +41,13 @@ fn watch_to_end<R: KeySource, W: ByteSink, E: Write>(
 /// told is left out.
 ///
 /// It gives the status to exit with: 0 if `init` exited with 0, 2 if the machine didn't boot or the host's memory ran
-/// out, 3 if `init` exited with another status, 4 if the rounds are over, 5 if `keys` or `sink` failed.
+/// out, 3 if `init` exited with another status, 4 if the rounds are over, 5 if `keys` or `sink` failed, and 6 if the
+/// budget of `work` is used up.
 pub(crate) fn run_with<R: KeySource, W: ByteSink, E: Write + Drop>(
     alloc: Global,
     config: Config,
     plan: RunPlan,
+    work: Work,
     programs: Vec<Program>,
     keys: &mut R,
     sink: &mut W,
@@ -58,7 +60,11 @@ pub(crate) fn run_with<R: KeySource, W: ByteSink, E: Write + Drop>(
     match Session::boot(alloc, config, programs) {
         Ok(session) => {
             teller.note_names(&session);
-            let mut watched = Watched { session, teller };
+            let mut watched = Watched {
+                session,
+                teller,
+                work,
+            };
             watch_to_end(&mut watched, plan, keys, sink)
         }
         Err(error) => teller.say_failure(&Failure::from(error)),

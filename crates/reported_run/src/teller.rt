@@ -2,18 +2,24 @@
 ghost use Rattle.std.specs.Prelude.{◌≡◌};
 ghost use Rattle.program_files.specs.Failures.{failure_status};
 ghost use Rattle.program_files.specs.Statuses.{status_of};
+ghost use Rattle.reported_run.specs.Stops.{stop_status};
 
 use crate::NAME;
+use crate::ends::{CallMade, Ends, Kill};
 use crate::letters::{Key, Letter};
 use crate::line::Telling;
+use crate::stop::Stop;
 use program_files::{Failure, close_run, show_trace};
+use run_work::{Work, close_over_budget};
 use std::alloc::Global;
 use std::io::Write;
 use xk_base::Pid;
 use xk_base::limits::NPROC;
-use xv_machine::{DriveEnd, DriveError, Event, Outcome, ProcessState};
-use xv_report::text::{Asleep, FaultText, Name, WaitLine, Who};
-use xv_report::{FaultReport, Sources, call_name, report_at, source_of, waits_for};
+use xv_machine::{DriveEnd, DriveError, Event, Outcome};
+use xv_report::text::{Asleep, FaultText, KillText, Name, Place, RefusedText, WaitLine, Who};
+use xv_report::{
+    FaultReport, Hint, Sources, call_name, cause_text, report_at, source_of, waits_for,
+};
 use xv_session::{Named, Runs, Session};
 
 /// The process that runs, as it is before Runs are sent: behind them it may be gone.
@@ -43,6 +49,8 @@ pub(crate) struct Teller<E> {
     idles: u64,
     /// Whether it is told that the machine has halted.
     halted: bool,
+    /// Kills and refused growths, which may be told of later ends.
+    ends: Ends,
 }
 
 /// The process that runs.
@@ -67,6 +75,14 @@ fn who<'a>(session: &'a Session, pid: Pid, program: Option<usize>) -> Who<'a> {
     Who { pid, program: name }
 }
 
+/// Where a call was made.
+fn place_of<'a>(sources: &'a Sources, session: &'a Session, call: &CallMade) -> Place<'a> {
+    Place {
+        address: call.at,
+        source: source_of(Some(sources), session, call.program),
+    }
+}
+
 /// A fault, as text; `None` if there is no memory for it.
 fn fault_text<'a>(
     alloc: Global,
@@ -79,6 +95,39 @@ fn fault_text<'a>(
         report,
         program: who(session, report.fault.step.pid, program).program,
         source: source_of(Some(sources), session, program),
+    };
+    text.to_string(alloc).ok()
+}
+
+/// That a process was killed, as text; `None` if there is no memory for it.
+fn kill_text<'a>(
+    alloc: Global,
+    sources: &'a Sources,
+    session: &'a Session,
+    kill: &Kill,
+    program: Option<usize>,
+) -> Option<String> {
+    let by = kill.by;
+    let text = KillText {
+        victim: kill.victim,
+        program: who(session, kill.victim, program).program,
+        killer: by.pid,
+        killer_program: who(session, by.pid, by.program).program,
+        place: place_of(sources, session, &by),
+    };
+    text.to_string(alloc).ok()
+}
+
+/// That a growth was refused, as text; `None` if there is no memory for it.
+fn refused_text<'a>(
+    alloc: Global,
+    sources: &'a Sources,
+    session: &'a Session,
+    refused: &CallMade,
+) -> Option<String> {
+    let text = RefusedText {
+        call: call_name(refused.number).unwrap_or("call"),
+        place: place_of(sources, session, refused),
     };
     text.to_string(alloc).ok()
 }
@@ -114,6 +163,7 @@ impl<E: Write> Teller<E> {
             },
             idles: 0,
             halted: false,
+            ends: Ends::new(alloc),
         }
     }
 
@@ -124,8 +174,51 @@ impl<E: Write> Teller<E> {
             Telling::Words => self.explain_runs(session, runner, runs),
             Telling::Notes => self.note_runs(session, runner, runs),
         }
-        if let Some(Outcome::Faulted { pid, .. }) = &runs.last {
-            self.tell_fault(session, *pid, runner);
+        if let Some(last) = &runs.last {
+            self.tell_end(session, runner, last);
+        }
+    }
+
+    /// Notes a call that may be told later, or tells why a process is gone, if it is by a fault or a kill.
+    fn tell_end(&mut self, session: &Session, runner: &Runner, last: &Outcome) {
+        match last {
+            Outcome::Called { pid, number, value } => {
+                self.note_call(session, runner, *pid, *number, *value)
+            }
+            Outcome::Faulted { pid, .. } => {
+                self.tell_fault(session, *pid, runner);
+                self.ends.forget(*pid);
+            }
+            Outcome::Exited { pid, .. } => {
+                self.tell_kill(session, *pid, runner);
+                self.ends.forget(*pid);
+            }
+            _ => {}
+        }
+    }
+
+    /// Notes the call of the last event.
+    fn note_call(&mut self, session: &Session, runner: &Runner, pid: Pid, number: i32, value: i64) {
+        let Some(regs) = session.machine().registers(pid) else {
+            return;
+        };
+        let call = CallMade {
+            pid,
+            program: runner.program,
+            number,
+            at: regs.pc().wrapping_sub(4),
+        };
+        self.ends.note_call(session, &call, value);
+    }
+
+    /// Tells who has killed a process that is gone, if it was killed.
+    fn tell_kill(&mut self, session: &Session, pid: Pid, runner: &Runner) {
+        let Some(kill) = self.ends.kill_of(pid) else {
+            return;
+        };
+        let text = kill_text(self.alloc, &self.sources, session, &kill, runner.program);
+        if let Some(text) = text {
+            let _ = writeln!(self.errors, "{text}");
         }
     }
 
@@ -136,11 +229,28 @@ impl<E: Write> Teller<E> {
             let text = fault_text(self.alloc, &report, &self.sources, session, runner.program);
             if let Some(text) = text {
                 let _ = writeln!(self.errors, "{text}");
+                self.tell_refused(session, pid, runner, report.hint);
                 return;
             }
         }
         let who = who(session, pid, runner.program);
         let _ = writeln!(self.errors, "{who}: a fault, and no memory to tell it");
+    }
+
+    /// Tells the growth that a process was refused, if its fault is one of a null pointer.
+    fn tell_refused(&mut self, session: &Session, pid: Pid, runner: &Runner, hint: Option<Hint>) {
+        let Some(Hint::NullPointer { .. }) = hint else {
+            return;
+        };
+        let Some(refused) = self.ends.refused_of(pid) else {
+            return;
+        };
+        if refused.program != runner.program {
+            return;
+        }
+        if let Some(text) = refused_text(self.alloc, &self.sources, session, &refused) {
+            let _ = writeln!(self.errors, "  {text}");
+        }
     }
 
     /// Tells in words what came of Runs.
@@ -244,8 +354,8 @@ impl<E: Write> Teller<E> {
             }
             Outcome::Faulted { pid, cause } => {
                 let who = who(session, *pid, before);
-                let code = cause.code();
-                let _ = writeln!(self.errors, "{who} is gone by a fault of cause {code}");
+                let reason = cause_text(*cause);
+                let _ = writeln!(self.errors, "{who} is gone by a fault: {reason}");
             }
             _ => {}
         }
@@ -394,11 +504,8 @@ impl<E: Write> Teller<E> {
         }
     }
 
-    /// Tells why a live process doesn't go on.
+    /// Tells why a process doesn't go on, or that it has ended and its parent hasn't waited for it.
     fn tell_wait(&mut self, session: &Session, pid: Pid) {
-        let Some(ProcessState::Live { .. }) = session.machine().process(pid) else {
-            return;
-        };
         if let Some(text) = wait_text(self.alloc, &self.sources, session, pid) {
             let _ = writeln!(self.errors, "{text}");
         }
@@ -409,6 +516,16 @@ impl<E: Write> Teller<E> {
         ensures { result ≡ status_of end }
     {
         close_run(NAME, end, &mut self.errors)
+    }
+
+    /// Writes the closing line of a run that was broken off, and gives the exit status.
+    pub fn say_stop(&mut self, stop: &Stop, work: &Work) -> u8
+        ensures { result ≡ stop_status stop.now }
+    {
+        match stop {
+            Stop::Session(error) => self.say_failure(&Failure::from(*error)),
+            Stop::OverBudget => close_over_budget(NAME, work, &mut self.errors),
+        }
     }
 
     /// Writes the closing line of a run that ended early, or that has not begun, and gives the exit status.

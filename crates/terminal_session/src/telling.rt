@@ -3,12 +3,12 @@ use crate::notes::Notes;
 use std::alloc::Global;
 use std::fmt;
 use std::io::Write;
+use xk_base::Pid;
 use xk_base::limits::NPROC;
-use xk_base::{Cause, Pid};
 use xv_live::{FaultNote, Teller};
 use xv_machine::Machine;
 use xv_report::text::{FaultText, Name, ProcessLine, WaitLine};
-use xv_report::{report_at, source_of};
+use xv_report::{cause_text, report_at, source_of};
 use xv_session::Session;
 
 /// The most events of a session that are played again to tell its faults with their instructions: a second in all.
@@ -70,16 +70,7 @@ struct ShortFault<'a> {
 impl fmt::Display for ShortFault<'_> {
     fn fmt<W: fmt::Write>(&self, f: &mut fmt::Formatter<W>) -> fmt::Result {
         let pid = self.fault.pid.number();
-        let reason = match self.fault.cause {
-            Cause::TargetMisaligned => "jump to an address that is no multiple of 4",
-            Cause::IllegalInstruction => "no instruction",
-            Cause::Breakpoint => "ebreak",
-            Cause::LoadMisaligned => "load from an address that is no multiple of its size",
-            Cause::StoreMisaligned => "store to an address that is no multiple of its size",
-            Cause::FetchPageFault => "no instruction may be fetched where it is",
-            Cause::LoadPageFault => "load from where nothing may be read",
-            Cause::StorePageFault => "store to where nothing may be written",
-        };
+        let reason = cause_text(self.fault.cause);
         write!(f, "process {pid}")?;
         if let Some(place) = self.fault.program {
             if let Some(program) = self.session.machine().programs().get(place) {

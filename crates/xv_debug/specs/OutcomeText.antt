@@ -2,11 +2,10 @@
 use Rattle.std.specs.Prelude.{ℕ, ℤ, List, [], ◌∷◌, ◌++◌, codes, decimal, Option, None, Some, option_map}
 use Rattle.std.specs.Fmt.{signed_decimal}
 use Rattle.std.specs.List.{concat}
-use Rattle.xk_base.specs.declared.access.Cause.{Cause}
-use Rattle.xk_base.specs.declared.access.Cause.TheVariants.{TargetMisaligned, IllegalInstruction, Breakpoint, LoadMisaligned, StoreMisaligned, FetchPageFault, LoadPageFault, StorePageFault}
 use Rattle.kernel_spec.specs.rows.Calls.{row_of}
 use Rattle.kernel_spec.specs.steps.Own.{Answer, Stepped, Called, Blocked, Exited, Faulted}
 use Rattle.kernel_spec.specs.runs.Run.{Outcome, Step_of, Turn, Idle, Ticked, Typed, Sent, Halted}
+use Rattle.xv_report.specs.Causes.{cause_text}
 use Rattle.xv_report.specs.Names.{call_word}
 use Rattle.debug_words.specs.Texts.{quoted}
 
@@ -18,18 +17,7 @@ name_or_number number (Some name) = name
 abbrev pub call_text : ℤ → List ℕ
 call_text number = name_or_number number (option_map call_word (row_of number))
 
--- why an instruction can't be done
-abbrev pub cause_text : Cause → List ℕ
-cause_text TargetMisaligned = codes "a jump to an address that is no multiple of 4"
-cause_text IllegalInstruction = codes "a word that is no instruction"
-cause_text Breakpoint = codes "ebreak"
-cause_text LoadMisaligned = codes "a load at an address that is no multiple of its size"
-cause_text StoreMisaligned = codes "a store at an address that is no multiple of its size"
-cause_text FetchPageFault = codes "an instruction where nothing may be executed"
-cause_text LoadPageFault = codes "a load where nothing may be read"
-cause_text StorePageFault = codes "a store where nothing may be written"
-
--- what a step of a process came to, behind the process
+-- what a step of a process came to, after the process
 abbrev pub answer_text : Answer → List ℕ
 answer_text Stepped = codes " did an instruction"
 answer_text (Called number value) = codes ": " ++ (call_text number ++ (codes " answers " ++ signed_decimal value))

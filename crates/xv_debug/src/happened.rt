@@ -4,29 +4,14 @@ ghost use Rattle.std.specs.Fmt.{WritesOnOk};
 ghost use Rattle.kernel_spec.specs.runs.Run.{Step_of};
 ghost use Rattle.kernel_spec.specs.steps.Own as answers;
 ghost use Rattle.xv_machine.specs.Events.{outcome_of};
-ghost use Rattle.xv_debug.specs.OutcomeText.{cause_text, echo_text, happened_text, pid_text, sent_text};
+ghost use Rattle.xv_debug.specs.OutcomeText.{echo_text, happened_text, pid_text, sent_text};
 
 use crate::calls::CallShown;
 use debug_words::texts::Quoted;
 use std::fmt;
 use xk_base::{Cause, Pid};
 use xv_machine::Outcome;
-
-/// Why an instruction can't be done.
-fn cause_text(cause: Cause) -> &'static str
-    ensures { result.now ≡ cause_text cause }
-{
-    match cause {
-        Cause::TargetMisaligned => "a jump to an address that is no multiple of 4",
-        Cause::IllegalInstruction => "a word that is no instruction",
-        Cause::Breakpoint => "ebreak",
-        Cause::LoadMisaligned => "a load at an address that is no multiple of its size",
-        Cause::StoreMisaligned => "a store at an address that is no multiple of its size",
-        Cause::FetchPageFault => "an instruction where nothing may be executed",
-        Cause::LoadPageFault => "a load where nothing may be read",
-        Cause::StorePageFault => "a store where nothing may be written",
-    }
-}
+use xv_report::cause_text;
 
 /// What came of an event.
 #[derive(Clone, Copy)]

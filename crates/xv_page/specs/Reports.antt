@@ -7,6 +7,7 @@ use Rattle.kernel_spec.specs.runs.Run.{World}
 use Rattle.uasm_core.specs.FileFormat.{file_of}
 use Rattle.uasm_core.specs.LineTable.{LineTable, line_table, table_seen}
 use Rattle.uasm_core.specs.Written.{Fault}
+use Rattle.xv_report.specs.Hints.{hint_of}
 use Rattle.xv_report.specs.Reports.{AreCallersOf}
 use Rattle.xv_report.specs.declared.fault.FaultReport.{FaultReport}
 use Rattle.xv_report.specs.declared.sources.Sources.{Sources}
@@ -93,10 +94,10 @@ TellsOf named None answer before after = (answer ≡ NotBooted) × (after ≡ be
 TellsOf None (Some s) answer before after = (answer ≡ Unknown) × (after ≡ before)
 TellsOf (Some p) (Some s) answer before after = TextTold answer before after
 
--- the step that process p is about to make, with this cause of its fault, and the calls that led to it; none if it isn't live
+-- the step that process p is about to make, with this cause of its fault, the calls that led to it, and what may be wrong; none if it isn't live
 abbrev pub ReportOf : Cause → World → (p : ℕ) → Option FaultReport → Type 0
 ReportOf cause w p None = next_step_of w.state p ≡ None
-ReportOf cause w p (Some r) = (next_step_of w.state p ≡ Some r.fault.step) × (r.fault.cause ≡ cause) × AreCallersOf w.state p r.callers
+ReportOf cause w p (Some r) = (next_step_of w.state p ≡ Some r.fault.step) × (r.fault.cause ≡ cause) × AreCallersOf w.state p r.callers × (r.hint ≡ hint_of w.state r.fault)
 
 -- of the process that runs, if one does
 abbrev pub ReportNow : Cause → World → (current : Option ℕ) → Option FaultReport → Type 0

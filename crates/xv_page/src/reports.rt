@@ -16,7 +16,7 @@ use std::str;
 use uasm_core::{AsmError, SourceLines, assemble_with_lines};
 use xk_base::{Cause, Pid};
 use xv_report::text::{FaultText, WaitLine};
-use xv_report::{FaultReport, Lines, Sources, callers_of, program_name, source_of};
+use xv_report::{FaultReport, Lines, Sources, callers_of, hint_of, program_name, source_of};
 use xv_session::{Fault, Session, next_step};
 
 /// A table of lines, and of no program more.
@@ -185,7 +185,7 @@ pub fn xv_page_wait(
     laid(wait_text(alloc, session, known(sources), pid), told, room)
 }
 
-/// A fault of the process that runs, and the calls that led to it; `None` if nobody runs.
+/// A fault of the process that runs, the calls that led to it, and what may be wrong; `None` if nobody runs.
 fn report_of(session: &Session, cause: Cause) -> Option<FaultReport>
     ensures { ReportNow cause session.now.machine.world session.now.machine.world.turns.current result }
 {
@@ -193,9 +193,12 @@ fn report_of(session: &Session, cause: Cause) -> Option<FaultReport>
     let pid = machine.current()?;
     let step = next_step(machine, pid)?;
     let callers = callers_of(machine, pid)?;
+    let fault = Fault { step, cause };
+    let hint = hint_of(machine, &fault);
     Some(FaultReport {
-        fault: Fault { step, cause },
+        fault,
         callers,
+        hint,
     })
 }
 

@@ -9,11 +9,13 @@ use Rattle.xk_base.specs.declared.access.Cause.{Cause}
 use Rattle.kcall_core.specs.Observers.{registers_of}
 use Rattle.xv_machine.specs.Meaning.{Meaning}
 use Rattle.xv_machine.specs.Reached.{IsEvent}
-use Rattle.xv_session.specs.Looking.{step_with, fault_of, fault_by, FaultTold}
+use Rattle.xv_session.specs.Looking.{step_with, next_step_of, fault_of, fault_by, FaultTold}
 use Rattle.xv_session.specs.declared.looking.Fault.{Fault}
 use Rattle.xv_session.specs.declared.looking.NextStep.{NextStep}
 use Rattle.xv_report.specs.Reports.{AreCallersWith, AreCallersNow, Reported}
+use Rattle.xv_report.specs.Hints.{hint_if, hint_now, hint_of_next}
 use Rattle.xv_report.specs.declared.callers.Callers.{Callers}
+use Rattle.xv_report.specs.declared.hints.Hint.{Hint}
 
 module _ (m n : Meaning) where
   -- whose step came of a Run is the process that runs
@@ -32,6 +34,7 @@ module _ (m n : Meaning) where
   pub record IsOfCurrent (f : Fault) : Type 0 where
     pub current : m.world.turns.current ≡ Some f.step.pid
     pub regs : registers_of m.world.state f.step.pid ≡ Some f.step.regs
+    pub step : next_step_of m.world.state f.step.pid ≡ Some f.step
 
   by-regs : (f : Fault) (p : ℕ) (cause : Cause) (r : Option Registers) → registers_of m.world.state p ≡ r → m.world.turns.current ≡ Some p
       → Some f ≡ option_map (λ (step : NextStep). record { step = step; cause = cause }) (option_map (step_with m.world.state p) r) → IsOfCurrent f
@@ -40,7 +43,12 @@ module _ (m n : Meaning) where
       let same : f ≡ record { step = step_with m.world.state p regs; cause = cause } = cc in
       let pid : f.step.pid ≡ p = ap (λ (x : Fault). x.step.pid) same in
       let read : f.step.regs ≡ regs = ap (λ (x : Fault). x.step.regs) same in
-      record { current = runs ∙ ap Some (sym pid); regs = ap (registers_of m.world.state) pid ∙ is ∙ ap Some (sym read) }
+      let step : f.step ≡ step_with m.world.state p regs = ap (λ (x : Fault). x.step) same in
+      record {
+        current = runs ∙ ap Some (sym pid);
+        regs = ap (registers_of m.world.state) pid ∙ is ∙ ap Some (sym read);
+        step = ap (next_step_of m.world.state) pid ∙ ap (option_map (step_with m.world.state p)) is ∙ ap Some (sym step);
+      }
 
   by-answer : (o : Outcome) (f : Fault) (p : ℕ) (a : Answer) → IsEvent m Run o n → o ≡ Step_of p a → Some f ≡ fault_by m.world.state p a → IsOfCurrent f
   by-answer o f p (Faulted cause) event is e = by-regs f p cause (registers_of m.world.state p) refl (step-current o p (Faulted cause) event is) e
@@ -61,12 +69,17 @@ module _ (m n : Meaning) where
   told-of-current : (f : Fault) → FaultTold (Some f) m n → IsOfCurrent f
   told-of-current f (o, event, e) = by-outcome f o o event refl e
 
-  pub reported : (f : Fault) (c : Callers) → FaultTold (Some f) m n → AreCallersNow m.world.state m.world.turns.current (Some c) → Reported (Some (record { fault = f; callers = c })) m n
-  reported f c told calls =
+  pub reported : (f : Fault) (c : Callers) (h : Option Hint) → FaultTold (Some f) m n → AreCallersNow m.world.state m.world.turns.current (Some c)
+      → h ≡ hint_now m.world.state m.world.turns.current → Reported (Some (record { fault = f; callers = c; hint = hint_if f.cause h })) m n
+  reported f c h told calls hint =
       let of = told-of-current f told in
       let those = subst (λ (p : Option ℕ). AreCallersNow m.world.state p (Some c)) of.current calls in
       let same : those.0 ≡ f.step.regs = cc (those.1, of.regs) in
-      record { fault = told; callers = subst (λ (regs : Registers). AreCallersWith m.world.state f.step.pid regs c) same those.2 }
+      record {
+        fault = told;
+        callers = subst (λ (regs : Registers). AreCallersWith m.world.state f.step.pid regs c) same those.2;
+        hint = ap (hint_if f.cause) (hint ∙ ap (hint_now m.world.state) of.current ∙ ap (hint_of_next m.world.state) of.step);
+      }
 
   pub no-callers : (f : Fault) → FaultTold (Some f) m n → AreCallersNow m.world.state m.world.turns.current None → ⊥
   no-callers f told calls =

@@ -4,3 +4,4 @@ pub mod Frames
 pub mod Finding
 pub mod Faulting
 pub mod CallNames
+mod WorkedHints

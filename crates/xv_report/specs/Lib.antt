@@ -1,7 +1,9 @@
+pub mod Causes
 pub mod Waits
 pub mod Wakers
 pub mod Names
 pub mod Places
+pub mod Hints
 pub mod Jumps
 pub mod Callers
 pub mod Reports

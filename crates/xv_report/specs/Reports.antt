@@ -9,6 +9,7 @@ use Rattle.xv_session.specs.Looking.{FaultTold}
 use Rattle.xv_session.specs.Recorded.{Recorded, IsPlayed}
 use Rattle.xv_session.specs.declared.looking.Fault.{Fault}
 use Rattle.xv_report.specs.Callers.{RA, frames_told, return_in}
+use Rattle.xv_report.specs.Hints.{hint_of}
 use Rattle.xv_report.specs.declared.callers.Callers.{Callers}
 use Rattle.xv_report.specs.declared.fault.FaultReport.{FaultReport}
 
@@ -30,10 +31,11 @@ AreCallersNow s (Some p) told = MatchOption told (registers_of s p ≡ None) (Ar
 abbrev pub fault_in : Option FaultReport → Option Fault
 fault_in told = option_map (λ (r : FaultReport). r.fault) told
 
--- The machine was sent a Run, and where a fault came of it, it is told, with the calls that led to it: both of the machine as it was before
+-- The machine was sent a Run, and if a fault came of it, it is told, with the calls that led to it and what may be wrong: all of the machine as it was before
 pub record Reported (told : Option FaultReport) (old new : Meaning) : Type 0 where
   pub fault : FaultTold (fault_in told) old new
   pub callers : IfSome told (λ r. AreCallersWith old.world.state r.fault.step.pid r.fault.step.regs r.callers)
+  pub hint : IfSome told (λ r. r.hint ≡ hint_of old.world.state r.fault)
 
 -- the event is a Run
 abbrev pub is_run : Option Event → Bool

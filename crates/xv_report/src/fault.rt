@@ -1,20 +1,23 @@
-//! A step that a process could not make, with the calls that led to it.
+//! A step that a process could not make, with the calls that led to it, and what may be wrong.
 ghost use Rattle.std.specs.Prelude.{◌≡◌, IfOk, option_map};
 ghost use Rattle.xv_machine.specs.Events.{event_of};
 ghost use Rattle.xv_report.specs.Reports.{AreCallersNow, Reported, ReportedAt, is_run};
 
 use crate::callers::{Callers, callers_of};
+use crate::hints::{Hint, hint_if, hint_now};
 use std::alloc::Global;
 use xv_machine::{Event, Machine};
 use xv_session::{Fault, Session, SessionError, fault_of_run};
 
-/// A step that a process could not make, which ended it, and the calls that led to it.
+/// A step that a process could not make, which ended it, the calls that led to it, and what may be wrong.
 #[derive(Drop)]
 pub struct FaultReport {
     /// The step, as it stood before, and why it could not be made.
     pub fault: Fault,
-    /// The calls that led to it, as the process's memory had them before the step: behind it that is gone.
+    /// The calls that led to it, as the process's memory had them before the step: after it that is gone.
     pub callers: Callers,
+    /// What may be wrong, by the pages that the process had before the step.
+    pub hint: Option<Hint>,
 }
 
 /// The calls that led the process that runs to where it is.
@@ -30,10 +33,12 @@ pub fn report_of_run(machine: &mut Machine) -> Option<FaultReport>
     ensures { Reported result machine.old machine.new }
 {
     let callers = callers_now(machine);
+    let hint = hint_now(machine);
     let fault = fault_of_run(machine)?;
     Some(FaultReport {
         fault,
         callers: callers?,
+        hint: hint_if(fault.cause, hint),
     })
 }
 

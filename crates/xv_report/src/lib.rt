@@ -13,7 +13,9 @@
 #![tactic(auto)]
 
 mod callers;
+mod causes;
 mod fault;
+mod hints;
 mod jumps;
 mod lines;
 mod names;
@@ -25,7 +27,9 @@ mod waits;
 mod waking;
 
 pub use callers::{CALLERS_MAX, Caller, Callers, callers_of};
+pub use causes::cause_text;
 pub use fault::{FaultReport, report_at, report_of_run};
+pub use hints::{Hint, hint_of};
 pub use jumps::jump_target;
 pub use lines::Lines;
 pub use names::{call_name, program_name};

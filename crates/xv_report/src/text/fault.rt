@@ -1,16 +1,18 @@
 //! Faults.
 use crate::fault::FaultReport;
+use crate::hints::Hint;
 use crate::jumps::jump_target;
 use crate::sources::ProgramSource;
+use crate::text::hint::HintLine;
 use crate::text::place::{Instruction, Place, Who};
 use rv64i_core::Regs;
 use std::fmt;
 use uasm_text::register_name;
 use xk_base::{Cause, Reg};
-use xv_session::Fault;
 
 /// A fault: in one line the process, its program, what it was about to do and why it could not, and the instruction;
-/// then its registers in the order of xv6's trapframe, four in a line; then the calls that led to it, from the last on.
+/// then its registers in the order of xv6's trapframe, four in a line; then the calls that led to it, from the last on;
+/// then what may be wrong.
 ///
 /// `process 3 (null): store to 0x0, which may not be written, at pc 0xfa8 <main+0x10>, null.c:5: sd a5, 0(a4)`
 #[derive(Clone, Copy)]
@@ -29,14 +31,15 @@ impl<'a> fmt::Display for FaultText<'a> {
             pid: step.pid,
             program: self.program,
         };
-        let reason = Reason(&self.report.fault);
+        let reason = Reason(self.report);
         let instruction = Instruction {
             place: self.place(step.regs.pc()),
             word: step.word,
         };
         let registers = Registers(&step.regs);
         let calls = CallsText(self);
-        write!(f, "{who}: {reason}, at pc {instruction}{registers}{calls}")
+        let hint = HintLine(self.report.hint);
+        write!(f, "{who}: {reason}, at pc {instruction}{registers}{calls}{hint}")
     }
 }
 
@@ -135,15 +138,23 @@ fn write_access<W: fmt::Write>(
     write!(f, "{access} {address}, which {why}")
 }
 
+/// Why a load or a store may not be done: the second text, if the stack is full.
+fn denial(hint: Option<Hint>, plain: &'static str, full: &'static str) -> &'static str {
+    match hint {
+        Some(Hint::FullStack) => full,
+        _ => plain,
+    }
+}
+
 /// What the instruction did, and why it may not be done.
 #[derive(Clone, Copy)]
-struct Reason<'a>(&'a Fault);
+struct Reason<'a>(&'a FaultReport);
 
 impl<'a> fmt::Display for Reason<'a> {
     fn fmt<W: fmt::Write>(&self, f: &mut fmt::Formatter<W>) -> fmt::Result {
-        let step = &self.0.step;
+        let step = &self.0.fault.step;
         let address = step.address;
-        match self.0.cause {
+        match self.0.fault.cause {
             Cause::TargetMisaligned => {
                 let target = jump_target(&step.regs, step.word);
                 write_access("jump to", target, "is no multiple of 4", f)
@@ -157,8 +168,22 @@ impl<'a> fmt::Display for Reason<'a> {
                 write_access("store to", address, "is no multiple of its size", f)
             }
             Cause::FetchPageFault => f.write_str("no instruction may be fetched"),
-            Cause::LoadPageFault => write_access("load from", address, "may not be read", f),
-            Cause::StorePageFault => write_access("store to", address, "may not be written", f),
+            Cause::LoadPageFault => {
+                let why = denial(
+                    self.0.hint,
+                    "may not be read",
+                    "may not be read: the stack is full",
+                );
+                write_access("load from", address, why, f)
+            }
+            Cause::StorePageFault => {
+                let why = denial(
+                    self.0.hint,
+                    "may not be written",
+                    "may not be written: the stack is full",
+                );
+                write_access("store to", address, why, f)
+            }
         }
     }
 }

@@ -107,6 +107,22 @@ fn write_awake<W: fmt::Write>(
     }
 }
 
+/// The parent of a process: `process 3, its parent,`.
+#[derive(Clone, Copy)]
+struct Parent(Option<Pid>);
+
+impl fmt::Display for Parent {
+    fn fmt<W: fmt::Write>(&self, f: &mut fmt::Formatter<W>) -> fmt::Result {
+        match self.0 {
+            Some(pid) => {
+                let pid = pid.number();
+                write!(f, "process {pid}, its parent,")
+            }
+            None => f.write_str("its parent"),
+        }
+    }
+}
+
 /// What a process does.
 fn write_state<W: fmt::Write>(
     machine: &Machine,
@@ -119,10 +135,13 @@ fn write_state<W: fmt::Write>(
     }
     match machine.process(pid) {
         None => f.write_str("is no process"),
-        Some(ProcessState::Zombie { status, .. }) => write!(
-            f,
-            "has ended with status {status}, and its parent has not waited for it"
-        ),
+        Some(ProcessState::Zombie { parent, status }) => {
+            let parent = Parent(parent);
+            write!(
+                f,
+                "has ended with status {status}, and {parent} has not waited for it"
+            )
+        }
         Some(ProcessState::Live { asleep: true, .. }) => f.write_str("sleeps"),
         Some(ProcessState::Live { marked, call, .. }) => {
             let runs = match machine.current() {
