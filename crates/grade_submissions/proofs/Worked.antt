@@ -1,11 +1,9 @@
 -- Worked cases of the definitions.
-use Rattle.std.specs.Prelude.{◌≡◌, pos, true, false, [], ◌∷◌, None, Some, codes, refl}
+use Rattle.std.specs.Prelude.{◌≡◌, true, false, [], ◌∷◌, None, Some, codes, refl}
 use Rattle.grade_rules.specs.declared.ending.End.TheVariants as ends
-use Rattle.kernel_spec.specs.runs.Run.{Run, Tick, Step_of, Sent, Idle}
-use Rattle.kernel_spec.specs.steps.Own.{Called}
+use Rattle.kernel_spec.specs.runs.Run.{Run, Tick, Sent, Idle}
 use Rattle.grade_submissions.specs.Files.{path_in}
 use Rattle.grade_submissions.specs.Plays.{sending_after, runs_among, waiting}
-use Rattle.grade_submissions.specs.Work.{call_pages, cost}
 
 -- a file `b` in the folder `a`
 in_a_folder : path_in (codes "a") (codes "b") ≡ codes "a/b"
@@ -31,24 +29,3 @@ flood = refl
 
 no_flood : waiting false ≡ ends.Waits
 no_flood = refl
-
--- read, call 5, copies 4097 bytes: two pages; exec, call 7, loads 8192: two pages; sbrk, call 12, is told of the free frames
-a_read : call_pages (pos 5) (pos 4097) None ≡ 2
-a_read = refl
-
-an_exec : call_pages (pos 7) (pos 0) (Some 8192) ≡ 2
-an_exec = refl
-
-an_sbrk : call_pages (pos 12) (pos 8192) (Some 8192) ≡ 0
-an_sbrk = refl
-
--- three Runs, by which four frames are taken: 3 and 4 times 256; as much if they are given back
-four_taken : cost 3 10 6 (λ p. None) (Some (Step_of 1 (Called (pos 12) (pos 0)))) ≡ 1027
-four_taken = refl
-
-four_given : cost 3 6 10 (λ p. None) (Some (Step_of 1 (Called (pos 12) (pos 0)))) ≡ 1027
-four_given = refl
-
--- a write of 4096 bytes is a page more
-a_write : cost 3 10 6 (λ p. None) (Some (Step_of 1 (Called (pos 16) (pos 4096)))) ≡ 1283
-a_write = refl
