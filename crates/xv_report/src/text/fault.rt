@@ -39,7 +39,10 @@ impl<'a> fmt::Display for FaultText<'a> {
         let registers = Registers(&step.regs);
         let calls = CallsText(self);
         let hint = HintLine(self.report.hint);
-        write!(f, "{who}: {reason}, at pc {instruction}{registers}{calls}{hint}")
+        write!(
+            f,
+            "{who}: {reason}, at pc {instruction}{registers}{calls}{hint}"
+        )
     }
 }
 
