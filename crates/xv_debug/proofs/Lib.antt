@@ -1,3 +1,4 @@
+pub mod Backwards
 pub mod Conversed
 pub mod HeldEnds
 pub mod Looking

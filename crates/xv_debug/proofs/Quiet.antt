@@ -9,7 +9,7 @@ use Rattle.kernel_spec.specs.runs.Run as runs
 use Rattle.kernel_spec.specs.runs.Run.{Outcome, Run, RunHappens, StepOf, Step_of, World}
 use Rattle.kernel_spec.specs.steps.Instruction.{next_instruction}
 use Rattle.kernel_spec.specs.steps.Own.{Answer, Own, Stepped, Called, Blocked, Exited, Faulted, gone_with}
-use Rattle.kernel_spec.specs.steps.Step.{after_instruction, going_on, own, unless_killed}
+use Rattle.kernel_spec.specs.steps.Step.{after_instruction, begun, call_begun, going_on, own, unless_killed}
 use Rattle.kernel_spec.specs.views.State.{State, live}
 use Rattle.kernel_spec.specs.views.View.{View, view, view_of}
 use Rattle.kernel_spec.specs.views.Processes.{Live}
@@ -34,7 +34,7 @@ call-keeps v u c o (inr (inr (inr gone))) is = let no : ⊥ = subst (λ (a : Ans
 instruction-keeps : (v : View) (st : Step) → Keeps v (after_instruction v st)
 instruction-keeps v (Next r None) is = refl
 instruction-keeps v (Next r (Some st)) is = refl
-instruction-keeps v Ecall is = call-keeps v _ _ _ (perform_comes _ _) is
+instruction-keeps v Ecall is = call-keeps v (begun v) (call_begun v) (perform (call_begun v) (begun v)) (perform_comes (call_begun v) (begun v)) is
 instruction-keeps v (Fault cause) is = let bad : ⊥ = cc in absurd bad
 
 going-keeps : (v : View) (call : Option Call) → Keeps v (going_on v call)

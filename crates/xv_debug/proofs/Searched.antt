@@ -2,7 +2,7 @@
 use Rattle.std.proofs.Common.{◌≡◌, ◌≢◌, ◌||◌, ◌<◌, ◌≤◌, ◌+◌, ◌∙◌, ℕ, zero, suc, Bool, true, false, List, [], ◌∷◌, ◌++◌, length, Option, None, Some, replicate, refl, sym, ap, ap₂, subst, append_assoc, append-nil, add-one, arith, slice_get, is_some}
 use Rattle.std.proofs.lemmas.List.{map-append, length-append}
 use Rattle.std.proofs.lemmas.Grind.{flat_map-append}
-use Rattle.std.proofs.lemmas.Option.{same_Some}
+use Rattle.std.proofs.lemmas.Option.{none-some, same_Some}
 use Rattle.kernel_spec.specs.runs.Run as runs
 use Rattle.kernel_spec.specs.runs.Run.{Event, Run, Outcome, Step_of, bytes_out, out}
 use Rattle.kernel_spec.specs.runs.Rounds.{events}
@@ -178,3 +178,14 @@ waits (x ∷ xs) is same = let bad : ⊥ = cc in bad
 pub none-waits : (xs : List ℕ) → is_some (slice_get xs 0) ≡ false → xs ≡ []
 none-waits [] is = refl
 none-waits (x ∷ xs) is = let bad : ⊥ = cc in absurd bad
+
+-- ---- how many Runs were sent at once
+
+pub often-within : (as bs : List ℕ) (most sent : ℕ) (met : Bool) (told : Option Outcome) (old new : Recorded) → 0 < most → Stopped as bs most sent met told old new → (sent ≤ most) × (0 < sent)
+often-within as bs most zero met told old new some ((none, a, b, d), same) = let bad : ⊥ = omega (arith, some, none) in absurd bad
+often-within as bs most (suc n) met told old new some ((mid, q, first, one, stands, last, within, all), same) = (within, omega arith)
+
+-- it is told what came of the last
+pub told-some : (as bs : List ℕ) (most sent : ℕ) (met : Bool) (told : Option Outcome) (old new : Recorded) → 0 < most → Stopped as bs most sent met told old new → told ≡ None → ⊥
+told-some as bs most zero met told old new some ((none, a, b, d), same) is = omega (arith, some, none)
+told-some as bs most (suc n) met told old new some ((mid, q, first, one, stands, last, within, all), same) is = none-some q (sym is ∙ last)

@@ -1,10 +1,10 @@
 -- A done instruction that leads to none of the places is no aim, and meets no mark.
-use Rattle.std.proofs.Common.{◌≡◌, ◌∷◌, ◌++◌, ◌&&◌, ◌||◌, ℕ, ℤ, Bool, true, false, nat_eq, List, [], Option, None, Some, flat_map, refl, sym, ap, ◌∙◌, subst}
+use Rattle.std.proofs.Common.{◌≡◌, ◌∷◌, ◌++◌, ◌&&◌, ◌||◌, ℕ, ℤ, Bool, true, false, nat_eq, nat_le, List, [], Option, None, Some, flat_map, refl, sym, ap, ◌∙◌, subst}
 use Rattle.std.specs.List.{list_any}
 use Rattle.std.specs.Option.{option_to_list}
-use Rattle.std.proofs.lemmas.Bool.{or_parts, or_from, and_right, ne_eqb, eqb-false}
+use Rattle.std.proofs.lemmas.Bool.{or_parts, or_from, and_left, and_right, ne_eqb, eqb-false}
 use Rattle.std.proofs.lemmas.List.Folds.{list_any-append}
-use Rattle.rv64i_core.specs.Registers.{Registers}
+use Rattle.rv64i_core.specs.Registers.{Registers, reg}
 use Rattle.kernel_spec.specs.runs.Run as runs
 use Rattle.kernel_spec.specs.runs.Run.{Outcome, Step_of, World}
 use Rattle.kernel_spec.specs.steps.Own as answers
@@ -153,7 +153,7 @@ not-back s current p pc stack true is e =
   where
     by : (o : Option Registers) → pc_is_one (pc ∷ []) o ≡ false → aims.is_back pc stack o ≡ false
     by None e = refl
-    by (Some regs) e = ap (λ (b : Bool). b && _) (ne_eqb regs.pc pc (λ same. eqb-false pc regs.pc (or_parts (nat_eq pc regs.pc) false e).0 (sym same)))
+    by (Some regs) e = and_left (nat_eq regs.pc pc) (nat_le stack (reg regs 2)) (ne_eqb regs.pc pc (λ same. eqb-false pc regs.pc (or_parts (nat_eq pc regs.pc) false e).0 (sym same)))
 
 no-aim : (aim : Aim) (o : Outcome) (m : Meaning) → IsFar aim → is_done o ≡ true → list_any (at_in m.world.state m.world.turns.current) (option_to_list (of_aim Instructions aim)) ≡ false
     → aims.meets_with aim false o m ≡ false

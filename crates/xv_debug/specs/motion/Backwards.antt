@@ -27,14 +27,17 @@ Looked aim [] place found old new answer = (new ≡ old) × (answer ≡ found)
 Looked aim (e ∷ es) place found old new answer =
     (mid : Meaning) × (hit : Bool) × LookedAt aim e old mid hit × Looked aim es (place + 1) (later hit (place + 1) found) mid new answer
 
--- The events from a place on were looked at, all but the last
-pub record LooksFrom (aim : Aim) (begin : ℕ) (s : Recorded) (answer : Option ℕ) : Type 0 where
+-- The events of a session from a place on were looked at, up to another place: they led a machine that was played up to the first to this one
+pub record LookedTo (aim : Aim) (begin place : ℕ) (s : Recorded) (to : Meaning) (answer : Option ℕ) : Type 0 where
   pub from : Meaning
-  pub to : Meaning
   pub list : List Event
   pub played : IsPlayed s.frames s.trace s.programs (take begin s.events) from
-  pub those : take begin s.events ++ list ≡ take (length s.events - 1) s.events
+  pub those : take begin s.events ++ list ≡ take place s.events
   pub looked : Looked aim list begin None from to answer
+
+-- all but the last
+abbrev pub LooksFrom : Aim → (begin : ℕ) → Recorded → (answer : Option ℕ) → Type 0
+LooksFrom aim begin s answer = (to : Meaning) × LookedTo aim begin (length s.events - 1) s to answer
 
 -- It is the last place before here to which a Run led that is the aim; none is told only if all events were looked at
 pub record IsLast (aim : Aim) (s : Recorded) (answer : Option ℕ) : Type 0 where

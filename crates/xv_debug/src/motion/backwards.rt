@@ -1,5 +1,5 @@
 //! Going back to the last Run that was what is waited for.
-ghost use Rattle.std.specs.Prelude.{◌≡◌, ◌+◌, ◌-◌, ◌≤◌, ◌<◌, ℕ, ◌++◌, IfOk, IfErr, IfSome, length, replicate, take};
+ghost use Rattle.std.specs.Prelude.{◌≡◌, ◌+◌, ◌-◌, ◌^◌, ◌≤◌, ◌<◌, IfOk, IfErr, length, replicate};
 ghost use Rattle.xv_machine.specs.Events.{event_of};
 ghost use Rattle.xv_debug.specs.motion.Backwards.{GoesBackUntil, IsLast, Looked, LookedAt, LooksFrom, is_run, later};
 
