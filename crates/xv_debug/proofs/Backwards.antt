@@ -32,12 +32,10 @@ take-add n m xs =
     sym (ap₂ (λ (us vs : List Event). us ++ vs) (take-take n (n + m) xs (omega arith)) (drop-take n m xs)) ∙ take-append-drop n (take (n + m) xs)
 
 -- the next of equal events, so many
-pub looked-to-more : (aim : Aim) (begin place count equal : ℕ) (e : Event) (s : Recorded) (m n : Meaning) (found answer : Option ℕ) → begin ≤ place → place ≤ length s.events → count ≤ equal
-    → take equal (drop place s.events) ≡ replicate equal e → LookedTo aim begin place s m found → Looked aim (replicate count e) place found m n answer → LookedTo aim begin (place + count) s n answer
-looked-to-more aim begin place count equal e s m n found answer from within few same p more =
+pub looked-to-more : (aim : Aim) (begin place count : ℕ) (e : Event) (s : Recorded) (m n : Meaning) (found answer : Option ℕ) → begin ≤ place → place ≤ length s.events
+    → take count (drop place s.events) ≡ replicate count e → LookedTo aim begin place s m found → Looked aim (replicate count e) place found m n answer → LookedTo aim begin (place + count) s n answer
+looked-to-more aim begin place count e s m n found answer from within next p more =
     let all = s.events in
-    let next : take count (drop place all) ≡ replicate count e =
-        sym (take-take count equal (drop place all) few) ∙ ap (take count) same ∙ take-replicate count equal e few in
     let long : length (take begin all ++ p.list) ≡ length (take place all) = ap (length {A = Event}) p.those in
     let parts : length (take begin all) + length p.list ≡ length (take place all) = sym (length-append (take begin all) p.list) ∙ long in
     let first : length (take begin all) ≡ begin = length-take-le begin all (omega (arith, from, within)) in
@@ -55,6 +53,6 @@ looked-to-more aim begin place count equal e s m n found answer from within few 
 pub looked-to-none : (aim : Aim) (begin : ℕ) (s : Recorded) (m : Meaning) → IsPlayed s.frames s.trace s.programs (take begin s.events) m → LookedTo aim begin begin s m None
 looked-to-none aim begin s m played = record { from = m; list = []; played = played; those = append-nil (take begin s.events); looked = (refl, refl) }
 
--- none lies before the last event if there are fewer than a place
-pub none-there : (s : Recorded) (place equal : ℕ) → place < length s.events - 1 → length s.events ≤ place → ⊥
-none-there s place equal before past = omega (arith, before, past)
+-- the first of equal events are equal
+pub fewer-equal : (count equal place : ℕ) (e : Event) (xs : List Event) → count ≤ equal → take equal (drop place xs) ≡ replicate equal e → take count (drop place xs) ≡ replicate count e
+fewer-equal count equal place e xs few same = sym (take-take count equal (drop place xs) few) ∙ ap (take count) same ∙ take-replicate count equal e few

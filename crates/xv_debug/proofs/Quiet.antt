@@ -29,7 +29,7 @@ call-keeps : (v u : View) (c : Call) (o : Own) → Comes c u o → Keeps v o
 call-keeps v u c o (inl refused) is = let no : Called c.number minus_one ≡ Stepped = sym (ap (λ (x : Own). x.answer) refused) ∙ is in let bad : ⊥ = cc in absurd bad
 call-keeps v u c o (inr (inl done)) is = let no : Called c.number _ ≡ Stepped = sym done.answer ∙ is in let bad : ⊥ = cc in absurd bad
 call-keeps v u c o (inr (inr (inl wait))) is = let no : Blocked c.number ≡ Stepped = sym (ap (λ (x : Own). x.answer) wait.is) ∙ is in let bad : ⊥ = cc in absurd bad
-call-keeps v u c o (inr (inr (inr gone))) is = let no : ⊥ = subst (λ (a : Answer). IsSome (gone_with a)) is gone.ends in absurd no
+call-keeps v u c o (inr (inr (inr left))) is = let no : IsSome (gone_with Stepped) = subst (λ (a : Answer). IsSome (gone_with a)) is left.ends in let bad : ⊥ = cc in absurd bad
 
 instruction-keeps : (v : View) (st : Step) → Keeps v (after_instruction v st)
 instruction-keeps v (Next r None) is = refl
@@ -44,7 +44,7 @@ going-keeps v (Some c) = call-keeps v v c (perform c v) (perform_comes c v)
 
 unless-keeps : (v : View) (killed : Bool) → Keeps v (unless_killed v killed)
 unless-keeps v true is = let bad : ⊥ = cc in absurd bad
-unless-keeps v false = going-keeps v v.call
+unless-keeps v false is = going-keeps v v.call is
 
 own-keeps : (v : View) → Keeps v (own v)
 unfolding own

@@ -64,10 +64,6 @@ goes-join test met n m before last a b c i j k some p q =
       shown = subst (λ (bs : List ℕ). KeepsShown bs i k) (sym (flat_map-append (λ (e : Event × Outcome). bytes_out e.1) p.list q.list)) (shown-join (out p.list) (out q.list) i j k p.shown q.shown);
     }
 
--- the session stayed as it was
-pub goes-still : (test : Test) (met : Bool) (n : ℕ) (last : Option Outcome) (a b c : Recorded) (i j k : Output) → Goes test met n last a b i j → c ≡ b → k ≡ j → Goes test met n last a c i k
-goes-still test met n last a b c i j k p same as = subst (λ (s : Recorded). Goes test met n last a s i k) (sym same) (subst (λ (o : Output). Goes test met n last a b i o) (sym as) p)
-
 -- ---- one event
 
 pub goes-byte : (test : Test) (o : Outcome) (old new : Recorded) (had has : Output) → waiting (running_of old) ≢ [] → Sent old runs.Send o new → KeepsShown (bytes_out o) had has → Goes test false 1 (Some o) old new had has
@@ -125,8 +121,8 @@ one-more : (n : ℕ) → replicate n Run ++ Run ∷ [] ≡ replicate (suc n) Run
 one-more zero = refl
 one-more (suc n) = ap (λ (es : List Event). Run ∷ es) (one-more n)
 
-module _ (aim : Aim) (marks : List Mark) (as bs : List ℕ) (far : IsFar aim) (are_as : as ≡ all_of Instructions aim marks) (are_bs : bs ≡ all_of Bytes aim marks) where
-  apart : (n : ℕ) (old new : Running) → waiting old ≡ [] → AreUndue aim marks old.machine → Unstopped as bs n old new → AreApart aim marks n old new
+module _ (aim : Aim) (marks : List Mark) (pcs bs : List ℕ) (far : IsFar aim) (are_as : pcs ≡ all_of Instructions aim marks) (are_bs : bs ≡ all_of Bytes aim marks) where
+  apart : (n : ℕ) (old new : Running) → waiting old ≡ [] → AreUndue aim marks old.machine → Unstopped pcs bs n old new → AreApart aim marks n old new
   apart zero old new quiet before same = record {
     list = [];
     none = same;
@@ -138,19 +134,19 @@ module _ (aim : Aim) (marks : List Mark) (as bs : List ℕ) (far : IsFar aim) (a
   }
   apart (suc n) old new quiet before (mid, o, first, one, done, clear) =
       let p = apart n old mid quiet before first in
-      let missed : meets_one aim marks mid o new ≡ false = unmet aim marks as bs far are_as are_bs mid new o p.undue done clear in record {
+      let missed : meets_one aim marks mid o new ≡ false = unmet aim marks pcs bs far are_as are_bs mid new o p.undue done clear in record {
         list = p.list ++ (Run, o) ∷ [];
         none = none-join (meets_one aim marks) p.list ((Run, o) ∷ []) old mid new p.none (new, one, (p.quiet, missed), refl);
         those = map-append (λ (e : Event × Outcome). e.0) p.list ((Run, o) ∷ []) ∙ ap (λ (es : List Event). es ++ Run ∷ []) p.those ∙ one-more n;
         count = length-append p.list ((Run, o) ∷ []) ∙ ap (λ (k : ℕ). k + 1) p.count ∙ add-one n;
         silent = flat_map-append (λ (e : Event × Outcome). bytes_out e.1) p.list ((Run, o) ∷ []) ∙ ap₂ (λ (us vs : List ℕ). us ++ vs) p.silent (ap (λ (bs : List ℕ). bs ++ []) (done-silent o done));
         quiet = done-quiet mid new o one done p.quiet;
-        undue = undue aim marks as bs far are_as are_bs new.machine clear;
+        undue = undue aim marks pcs bs far are_as are_bs new.machine clear;
       }
 
   -- and the last of them is, or isn't
   pub goes-often : (most sent : ℕ) (stopped met : Bool) (told : Option Outcome) (o : Outcome) (old new : Recorded) (had has : Output) → 0 < most → waiting (running_of old) ≡ [] → AreUndue aim marks old.machine
-      → length had.last.items ≤ had.last.capacity → Stopped as bs most sent stopped told old new → told ≡ Some o → KeepsShown (bytes_out o) had has
+      → length had.last.items ≤ had.last.capacity → Stopped pcs bs most sent stopped told old new → told ≡ Some o → KeepsShown (bytes_out o) had has
       → ((aims.meets_with aim false o new.machine || marked.meets_with marks false o (running_of new)) ≡ met) → Goes (meets_one aim marks) met sent (Some o) old new had has
   goes-often most zero stopped met told o old new had has some quiet before fits ((none, a, b, d), same) is shown was = let bad : ⊥ = omega (arith, some, none) in absurd bad
   goes-often most (suc n) stopped met told o old new had has some quiet before fits ((mid, q, first, one, stands, last, within, all), same) is shown was =
@@ -181,11 +177,11 @@ none-waits (x ∷ xs) is = let bad : ⊥ = cc in absurd bad
 
 -- ---- how many Runs were sent at once
 
-pub often-within : (as bs : List ℕ) (most sent : ℕ) (met : Bool) (told : Option Outcome) (old new : Recorded) → 0 < most → Stopped as bs most sent met told old new → (sent ≤ most) × (0 < sent)
-often-within as bs most zero met told old new some ((none, a, b, d), same) = let bad : ⊥ = omega (arith, some, none) in absurd bad
-often-within as bs most (suc n) met told old new some ((mid, q, first, one, stands, last, within, all), same) = (within, omega arith)
+pub often-within : (pcs bs : List ℕ) (most sent : ℕ) (met : Bool) (told : Option Outcome) (old new : Recorded) → 0 < most → Stopped pcs bs most sent met told old new → (sent ≤ most) × (0 < sent)
+often-within pcs bs most zero met told old new some ((none, a, b, d), same) = let bad : ⊥ = omega (arith, some, none) in absurd bad
+often-within pcs bs most (suc n) met told old new some ((mid, q, first, one, stands, last, within, all), same) = (within, omega arith)
 
 -- it is told what came of the last
-pub told-some : (as bs : List ℕ) (most sent : ℕ) (met : Bool) (told : Option Outcome) (old new : Recorded) → 0 < most → Stopped as bs most sent met told old new → told ≡ None → ⊥
-told-some as bs most zero met told old new some ((none, a, b, d), same) is = omega (arith, some, none)
-told-some as bs most (suc n) met told old new some ((mid, q, first, one, stands, last, within, all), same) is = none-some q (sym is ∙ last)
+pub told-some : (pcs bs : List ℕ) (most sent : ℕ) (met : Bool) (told : Option Outcome) (old new : Recorded) → 0 < most → Stopped pcs bs most sent met told old new → told ≡ None → ⊥
+told-some pcs bs most zero met told old new some ((none, a, b, d), same) is = omega (arith, some, none)
+told-some pcs bs most (suc n) met told old new some ((mid, q, first, one, stands, last, within, all), same) is = none-some q (sym is ∙ last)

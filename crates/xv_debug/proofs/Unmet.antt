@@ -52,17 +52,17 @@ or-none : (b : Bool) → b ≡ (b || false)
 or-none true = refl
 or-none false = refl
 
-not-at : (as bs : List ℕ) (s : State) (current : Option ℕ) → stops_for as bs s current ≡ false → list_any (at_in s current) as ≡ false
-not-at as bs s None none = never-one as
-not-at as bs s (Some p) none = by (registers_of s p) (or_parts (pc_is_one as (registers_of s p)) _ none).0
+not-at : (pcs bs : List ℕ) (s : State) (current : Option ℕ) → stops_for pcs bs s current ≡ false → list_any (at_in s current) pcs ≡ false
+not-at pcs bs s None none = never-one pcs
+not-at pcs bs s (Some p) none = by (registers_of s p) (or_parts (pc_is_one pcs (registers_of s p)) _ none).0
   where
-    by : (r : Option Registers) → pc_is_one as r ≡ false → list_any (λ a. pc_is_one (a ∷ []) r) as ≡ false
-    by None e = never-one as
-    by (Some regs) e = each-one (λ a. nat_eq a regs.pc) (λ a. nat_eq a regs.pc || false) as (λ a. or-none (nat_eq a regs.pc)) e
+    by : (r : Option Registers) → pc_is_one pcs r ≡ false → list_any (λ a. pc_is_one (a ∷ []) r) pcs ≡ false
+    by None e = never-one pcs
+    by (Some regs) e = each-one (λ a. nat_eq a regs.pc) (λ a. nat_eq a regs.pc || false) pcs (λ a. or-none (nat_eq a regs.pc)) e
 
-not-stored : (as bs : List ℕ) (s : State) (current : Option ℕ) → stops_for as bs s current ≡ false → list_any (λ a. storing_in a s current) bs ≡ false
-not-stored as bs s None none = never-one bs
-not-stored as bs s (Some p) none = by (next_step_of s p) (or_parts (pc_is_one as (registers_of s p)) (stores_by bs (next_step_of s p)) none).1
+not-stored : (pcs bs : List ℕ) (s : State) (current : Option ℕ) → stops_for pcs bs s current ≡ false → list_any (λ a. storing_in a s current) bs ≡ false
+not-stored pcs bs s None none = never-one bs
+not-stored pcs bs s (Some p) none = by (next_step_of s p) (or_parts (pc_is_one pcs (registers_of s p)) (stores_by bs (next_step_of s p)) none).1
   where
     by : (o : Option NextStep) → stores_by bs o ≡ false → list_any (λ a. storing_by a o) bs ≡ false
     by None e = never-one bs
@@ -192,8 +192,8 @@ pub record AreUndue (aim : Aim) (marks : List Mark) (m : Meaning) : Type 0 where
   pub by_aim : aims.is_due aim m ≡ false
   pub by_mark : marked.is_any_due marks m.world ≡ false
 
-module _ (aim : Aim) (marks : List Mark) (as bs : List ℕ) (far : IsFar aim) (are_as : as ≡ all_of Instructions aim marks) (are_bs : bs ≡ all_of Bytes aim marks) where
-  addresses-apart : (m : Meaning) → is_before_stop as bs m.world ≡ false
+module _ (aim : Aim) (marks : List Mark) (pcs bs : List ℕ) (far : IsFar aim) (are_as : pcs ≡ all_of Instructions aim marks) (are_bs : bs ≡ all_of Bytes aim marks) where
+  addresses-apart : (m : Meaning) → is_before_stop pcs bs m.world ≡ false
       → (list_any (at_in m.world.state m.world.turns.current) (option_to_list (of_aim Instructions aim)) ≡ false)
       × (list_any (at_in m.world.state m.world.turns.current) (flat_map (λ x. option_to_list (of_mark Instructions x)) marks) ≡ false)
   addresses-apart m none =
@@ -201,18 +201,18 @@ module _ (aim : Aim) (marks : List Mark) (as bs : List ℕ) (far : IsFar aim) (a
       let own : List ℕ = option_to_list (of_aim Instructions aim) in
       let theirs : List ℕ = flat_map (λ x. option_to_list (of_mark Instructions x)) marks in
       or_parts (list_any (at_in w.state w.turns.current) own) (list_any (at_in w.state w.turns.current) theirs)
-      (sym (list_any-append (at_in w.state w.turns.current) own theirs) ∙ sym (ap (list_any (at_in w.state w.turns.current)) are_as) ∙ not-at as bs w.state w.turns.current none)
+      (sym (list_any-append (at_in w.state w.turns.current) own theirs) ∙ sym (ap (list_any (at_in w.state w.turns.current)) are_as) ∙ not-at pcs bs w.state w.turns.current none)
 
-  pub undue : (m : Meaning) → is_before_stop as bs m.world ≡ false → AreUndue aim marks m
+  pub undue : (m : Meaning) → is_before_stop pcs bs m.world ≡ false → AreUndue aim marks m
   undue m none =
       let w = m.world in
       let own : List ℕ = option_to_list (of_aim Bytes aim) in
       let theirs : List ℕ = flat_map (λ x. option_to_list (of_mark Bytes x)) marks in
       let apart = or_parts (list_any (λ a. is_storing a w) own) (list_any (λ a. is_storing a w) theirs)
-          (sym (list_any-append (λ a. is_storing a w) own theirs) ∙ sym (ap (list_any (λ a. is_storing a w)) are_bs) ∙ not-stored as bs w.state w.turns.current none) in
+          (sym (list_any-append (λ a. is_storing a w) own theirs) ∙ sym (ap (list_any (λ a. is_storing a w)) are_bs) ∙ not-stored pcs bs w.state w.turns.current none) in
       record { by_aim = no-aim-due aim m apart.0; by_mark = no-mark-due w marks apart.1 }
 
-  pub unmet : (a b : Running) (o : Outcome) → AreUndue aim marks a.machine → is_done o ≡ true → is_before_stop as bs b.machine.world ≡ false → meets_one aim marks a o b ≡ false
+  pub unmet : (a b : Running) (o : Outcome) → AreUndue aim marks a.machine → is_done o ≡ true → is_before_stop pcs bs b.machine.world ≡ false → meets_one aim marks a o b ≡ false
   unmet a b o before done none =
       let apart = addresses-apart b.machine none in
       or_from (aims.meets aim a.machine o b.machine) (marked.meets_marks marks a o b)

@@ -1,5 +1,5 @@
 //! Going back to the last Run that was what is waited for.
-ghost use Rattle.std.specs.Prelude.{◌≡◌, ◌+◌, ◌-◌, ◌^◌, ◌≤◌, ◌<◌, IfOk, IfErr, length, replicate};
+ghost use Rattle.std.specs.Prelude.{◌≡◌, ◌+◌, ◌-◌, ◌^◌, ◌≤◌, ◌<◌, IfOk, IfErr, drop, length, replicate, take};
 ghost use Rattle.xv_machine.specs.Events.{event_of};
 ghost use Rattle.xv_debug.specs.motion.Backwards.{GoesBackUntil, IsLast, Looked, LookedAt, LooksFrom, is_run, later};
 
@@ -63,6 +63,30 @@ fn look_often(
     last
 }
 
+/// So many equal events.
+#[derive(Clone, Copy)]
+struct Equal {
+    event: Event,
+    count: u64,
+}
+
+/// Equal events from a place on, before another one.
+fn equal_from(session: &Session, place: u64, end: u64) -> Equal
+    requires before { place < end }
+    requires there { end ≤ length session.now.events }
+    ensures some { 0 < result.count }
+    ensures within { place + result.count ≤ end }
+    ensures those { take result.count (drop place session.now.events) ≡ replicate result.count (event_of result.event) }
+{
+    let Some((event, equal)) = session.events_from(place) else {
+        unreachable!();
+    };
+    Equal {
+        event,
+        count: equal.min(end - place),
+    }
+}
+
 /// The last place before `end` to which a Run led that is the aim, from a place on.
 fn last_from(
     alloc: Global,
@@ -80,12 +104,9 @@ fn last_from(
     let mut place = begin;
     let mut found = None;
     'spans: while place < end {
-        let Some((event, equal)) = session.events_from(place) else {
-            unreachable!();
-        };
-        let count = equal.min(end - place);
-        found = look_often(&mut machine, event, count, place, aim, found);
-        place += count;
+        let next = equal_from(session, place, end);
+        found = look_often(&mut machine, next.event, next.count, place, aim, found);
+        place += next.count;
     }
     Ok(found)
 }
