@@ -59,6 +59,7 @@ impl Memories {
             → let image = image_at self.old slot in
             (price image + free_of self.old < price (bring vpn image)) × (self.new ≡ self.old) }
     {
+        self.is_changed = true;
         let Some(mut memory) = self.each[slot].take() else {
             unreachable!();
         };
@@ -87,6 +88,7 @@ impl Memories {
             (price image + free_of self.old < price (brought (pages_at address len) image) + spare)
             × (self.new ≡ self.old) }
     {
+        self.is_changed = true;
         let price = self.memory(slot).space.touch_price(&self.ram, address, len);
         if u64::from(self.pool.free()) < u64::from(price) + u64::from(spare) {
             return false;
@@ -105,6 +107,7 @@ impl Memories {
             (brought (pages_at address len) (image_at self.old slot)) }
         ensures runs { (hart : Hart) → RunsIn self.old slot hart → RunsIn self.new slot hart }
     {
+        self.is_changed = true;
         let Some(mut memory) = self.each[slot].take() else {
             unreachable!();
         };
@@ -127,6 +130,7 @@ impl Memories {
         ensures grown { ImageChanges self.old self.new slot (grown_lazily (image_at self.old slot) size) }
         ensures runs { (hart : Hart) → RunsIn self.old slot hart → RunsIn self.new slot hart }
     {
+        self.is_changed = true;
         let Some(mut memory) = self.each[slot].take() else {
             unreachable!();
         };

@@ -58,6 +58,7 @@ impl Memories {
         ensures free { free_of self.new ≡ free_of self.old }
         ensures runs { (hart : Hart) → RunsIn self.old slot hart → RunsIn self.new slot hart }
     {
+        self.is_changed = true;
         let memory = memory_in(&self.each, slot);
         memory.space.write_across(&mut self.ram, address, bytes);
     }
@@ -79,6 +80,7 @@ impl Memories {
             (writable_now (image_at self.old slot) address (length bytes.now) ≡ false)
             × Same self.old self.new) }
     {
+        self.is_changed = true;
         let memory = memory_in(&self.each, slot);
         user_copy::copy_out(&memory.space, &mut self.ram, address, bytes)
     }

@@ -28,6 +28,7 @@ impl Memories {
         ensures refused { IfErr result (λ _.
             (free_of self.old < price plan.entry.image + 1) × (self.new ≡ self.old)) }
     {
+        self.is_changed = true;
         if u64::from(self.pool.free()) <= plan.price() {
             return Err(NoFrames);
         }
@@ -67,6 +68,7 @@ impl Memories {
         ensures refused { IfErr result (λ _.
             (free_of self.old < price plan.entry.image) × Same self.old self.new × (hart.new ≡ hart.old)) }
     {
+        self.is_changed = true;
         let Ok((new, start)) = build(plan, &mut self.pool, &mut self.ram) else {
             return Err(NoFrames);
         };

@@ -246,6 +246,7 @@ impl Memories {
         ensures free { free_of self.new ≡ free_of self.old }
         ensures runs { (hart : Hart) → RunsIn self.old slot hart → RunsIn self.new slot hart }
     {
+        self.is_changed = true;
         let memory = memory_in(&self.each, slot);
         user_copy::copy_from_pipe(&memory.space, &mut self.ram, frame, address, count);
     }
