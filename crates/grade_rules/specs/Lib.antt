@@ -1,3 +1,4 @@
 pub mod Patterns
 pub mod Rules
 pub mod Judged
+pub mod Notes

@@ -1,4 +1,7 @@
 //! What happened in a run.
+ghost use Rattle.std.specs.Prelude.{Some};
+ghost use Rattle.grade_rules.specs.Notes.{note_text};
+
 use std::fmt;
 
 /// An event of a run, as far as rules speak of it. A process is named by its pid.
@@ -18,6 +21,8 @@ pub enum Note {
 
 /// The note as a line of a trace, without its end.
 impl fmt::Display for Note {
+    ghost output = { λ n. Some (note_text n) };
+
     fn fmt<W: fmt::Write>(&self, f: &mut fmt::Formatter<W>) -> fmt::Result {
         match *self {
             Note::Turn { pid } => write!(f, "turn {pid}"),

@@ -1,1 +1,4 @@
 pub mod Marking
+mod Inside
+mod Numerals
+mod Worked

@@ -2,6 +2,7 @@
 use Rattle.std.specs.Prelude.{◌≡◌, ◌↔◌, ℕ, Bool, IsTrue, is_none, List, [], ◌∷◌, string_bytes}
 use Rattle.std.specs.List.{list_all}
 use Rattle.std.specs.Fmt.{signed_decimal}
+use Rattle.std.specs.Str.Iter.{HasSubslice}
 use Rattle.grade_rules.specs.Judged.{HoldsOf}
 use Rattle.grade_sheets.specs.declared.asked.Answer.{Answer}
 use Rattle.grade_sheets.specs.declared.asked.Answer.TheVariants as answer
@@ -11,6 +12,8 @@ use Rattle.grade_sheets.specs.declared.asked.Check.TheVariants.{Status, Shown, S
 use Rattle.grade_rules.specs.declared.ending.End.{End}
 use Rattle.grade_rules.specs.declared.ending.End.TheVariants.{Exited}
 use Rattle.grade_sheets.specs.Answers.{IsOnlyAnswer}
+use Rattle.grade_sheets.specs.Numbers.{numbers_in, AreRising}
+use Rattle.grade_sheets.specs.Predictions.{IsPredicted}
 use Rattle.grade_sheets.specs.declared.judging.Seen.{Seen}
 use Rattle.grade_sheets.specs.declared.judging.Mark.{Mark}
 
@@ -24,14 +27,14 @@ abbrev pub IsSaid : (question : List ℕ) → Answer → Seen → Type 0
 IsSaid question (answer.Text wanted) seen = IsOnlyAnswer question (string_bytes wanted) seen.handed_in.now
 IsSaid question answer.Status seen = IsStatusSaid question seen.handed_in.now seen.end
 
--- The answer to whether a run has one thing: of its exit, of all that it shows, of a line that was handed in, and of its notes exactly if it is so. The other three speak of numbers and parts of texts, and are tested
+-- The answer to whether a run has one thing: its exit has this status, it shows just this text, it shows this text somewhere, it shows numbers that rise, what was handed in answers a question, or is what was to be predicted, and its notes keep a rule
 abbrev pub IsAnswered : Check → Seen → Bool → Type 0
 IsAnswered (Status wanted) seen has = IsTrue has ↔ (seen.end ≡ Exited wanted)
 IsAnswered (Shown wanted) seen has = IsTrue has ↔ (string_bytes wanted ≡ seen.shown.now)
-IsAnswered (Shows part) seen has = Unit {0}
-IsAnswered (Rise least) seen has = Unit {0}
+IsAnswered (Shows part) seen has = IsTrue has ↔ HasSubslice seen.shown.now (string_bytes part)
+IsAnswered (Rise least) seen has = IsTrue has ↔ AreRising least (numbers_in seen.shown.now)
 IsAnswered (Line question wanted) seen has = IsTrue has ↔ IsSaid (string_bytes question) wanted seen
-IsAnswered (Predicts words) seen has = Unit {0}
+IsAnswered (Predicts words) seen has = IsTrue has ↔ IsPredicted words.items seen
 IsAnswered (Notes rule texts) seen has = IsTrue has ↔ HoldsOf rule seen.notes.now
 
 -- an answer for each thing, in their order

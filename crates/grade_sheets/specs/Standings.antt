@@ -1,5 +1,5 @@
 -- What a run comes to, and what a submission does.
-use Rattle.std.specs.Prelude.{◌≡◌, Bool, true, false, List, [], ◌∷◌, map, is_none}
+use Rattle.std.specs.Prelude.{◌≡◌, ℕ, Bool, true, false, List, [], ◌∷◌, map, is_none, Option, None, Some, string_bytes}
 use Rattle.std.specs.List.{list_any, list_all}
 use Rattle.grade_rules.specs.declared.note.Note.{Note}
 use Rattle.grade_rules.specs.declared.note.Note.TheVariants as note
@@ -93,3 +93,19 @@ unless_right Refused next = Refused
 abbrev pub first_standing : List RunGrade → Standing
 first_standing [] = Right
 first_standing (run ∷ runs) = unless_right run.standing (first_standing runs)
+
+-- why the first run that isn't right couldn't be made, if it couldn't
+abbrev pub refusal_or : Standing → (cause : List ℕ) → (next : Option (List ℕ)) → Option (List ℕ)
+refusal_or Right cause next = next
+refusal_or Refused cause next = Some cause
+refusal_or Wrong cause next = None
+refusal_or Fault cause next = None
+refusal_or Loops cause next = None
+refusal_or Waits cause next = None
+refusal_or Floods cause next = None
+refusal_or TooMuch cause next = None
+refusal_or Budget cause next = None
+
+abbrev pub first_refusal : List RunGrade → Option (List ℕ)
+first_refusal [] = None
+first_refusal (run ∷ runs) = refusal_or run.standing (string_bytes run.cause) (first_refusal runs)

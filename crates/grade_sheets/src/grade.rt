@@ -1,8 +1,8 @@
 //! What a run comes to, and what a submission does.
-ghost use Rattle.std.specs.Prelude.{◌≡◌, false, min, is_none, IfOk};
+ghost use Rattle.std.specs.Prelude.{◌≡◌, false, min, is_none, IfOk, IfSome, option_map, string_bytes};
 ghost use Rattle.std.specs.List.{list_all, list_any};
 ghost use Rattle.grade_sheets.specs.Points.{points_of_run, points_of_runs, points_of_exercise};
-ghost use Rattle.grade_sheets.specs.Standings.{is_fault, check_may_fault, may_fault, is_on_faults, names_faults, has, standing_of, first_standing, IsGraded, IsUngraded};
+ghost use Rattle.grade_sheets.specs.Standings.{is_fault, check_may_fault, may_fault, is_on_faults, names_faults, has, standing_of, first_standing, first_refusal, IsGraded, IsUngraded};
 ghost use Rattle.grade_sheets.specs.Records.{word_of};
 
 use crate::asked::{Asked, Check};
@@ -259,12 +259,9 @@ fn first_why(alloc: Global, run: &Run, grade: &RunGrade) -> Result<String, Alloc
     Ok(String::new(alloc))
 }
 
-// Why a run isn't right, as text; empty if it is.
+// Why a run that was made isn't right, as text; empty if it is.
 fn reason(alloc: Global, run: &Run, grade: &RunGrade) -> Result<String, AllocError> {
     let cause = grade.cause.as_str();
-    if grade.standing == Standing::Refused {
-        return String::from_str(alloc, cause);
-    }
     let why = first_why(alloc, run, grade)?;
     if cause.is_empty() {
         return Ok(why);
@@ -281,6 +278,30 @@ fn first_reason(alloc: Global, runs: &[Run], grades: &[RunGrade]) -> Result<Stri
         }
     }
     Ok(String::new(alloc))
+}
+
+// Why the first run that isn't right couldn't be made, if it couldn't.
+fn first_refusal(runs: &[RunGrade]) -> Option<&str>
+    ensures { option_map (λ cause. cause.now) result ≡ first_refusal runs.now }
+{
+    for run in runs {
+        match run.standing {
+            Standing::Right => {}
+            Standing::Refused => return Some(run.cause.as_str()),
+            _ => return None,
+        }
+    }
+    None
+}
+
+// What is told of runs: why the first that isn't right couldn't be made, or what it lacks.
+fn told_reason(alloc: Global, runs: &[Run], grades: &[RunGrade]) -> Result<String, AllocError>
+    ensures { IfOk result (λ text. IfSome (first_refusal grades.now) (λ cause. string_bytes text ≡ cause)) }
+{
+    match first_refusal(grades) {
+        Some(cause) => String::from_str(alloc, cause),
+        None => first_reason(alloc, runs, grades),
+    }
 }
 
 // What the first run comes to that isn't right.
@@ -327,9 +348,10 @@ impl Grade {
         ensures runs { IfOk result (λ g. g.runs ≡ runs) }
         ensures standing { IfOk result (λ g. g.standing ≡ first_standing runs.items) }
         ensures points { IfOk result (λ g. g.points ≡ min (points_of_runs runs.items) u64.MAX) }
+        ensures reason { IfOk result (λ g. IfSome (first_refusal runs.items) (λ cause. string_bytes g.reason ≡ cause)) }
         ensures asked { IfOk result (λ g. g.of ≡ min (points_of_exercise exercise.now.runs.items) u64.MAX) }
     {
-        let reason = first_reason(alloc, exercise.runs.as_slice(), runs.as_slice())?;
+        let reason = told_reason(alloc, exercise.runs.as_slice(), runs.as_slice())?;
         Ok(Grade {
             standing: first_standing(runs.as_slice()),
             points: points_of_runs(runs.as_slice()),

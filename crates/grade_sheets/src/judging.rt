@@ -6,7 +6,9 @@ ghost use Rattle.grade_sheets.specs.Points.{given_for};
 
 use crate::asked::{Asked, Check};
 use crate::notation::Named;
-use crate::texts::{no_rise, not_predicted, not_said, not_shown, other_text};
+use crate::numbers::no_rise;
+use crate::predictions::not_predicted;
+use crate::texts::{not_said, not_shown, other_text};
 use grade_rules::{Edge, End, Judgement, Note, Pattern, Rule, count, fits_any, judge};
 use std::alloc::{AllocError, Global};
 use std::fmt;

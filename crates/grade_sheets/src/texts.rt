@@ -1,15 +1,17 @@
 //! What is asked of texts: of what the console showed, and of what was handed in. Each function here tells why it isn't
 //! there, in a student's words; `None` if it is.
-ghost use Rattle.std.specs.Prelude.{◌≡◌, ◌↔◌, ◌==◌, IsTrue, is_none, IfOk, map, count_by};
-ghost use Rattle.std.specs.List.{list_any, after_first};
+ghost use Rattle.std.specs.Prelude.{◌≡◌, ◌↔◌, ◌==◌, ◌≤◌, IsTrue, is_none, IfOk, map, count_by, length, drop, eqb};
+ghost use Rattle.std.specs.List.{list_any, after_first, starts_with};
+ghost use Rattle.std.specs.Str.Iter.{HasSubslice};
 ghost use Rattle.std.specs.Str.Lines.{lines};
 ghost use Rattle.grade_sheets.specs.Answers.{question_of, answer_of, asks, says, IsOnlyAnswer};
 ghost use Rattle.grade_sheets.specs.Grades.{IsSaid};
+ghost use Rattle.grade_sheets.specs.Numbers.{ends_line};
 
 use crate::asked::Answer;
 use crate::judging::Seen;
 use crate::quoted::Quoted;
-use grade_rules::{End, Note};
+use grade_rules::End;
 use std::alloc::{AllocError, Global};
 use std::fmt;
 
@@ -40,8 +42,10 @@ fn difference(
     format!(in alloc; "first difference in line {number}: expected {expected}, got {got}")
 }
 
-// Whether a line ends with this byte.
-fn ends_line(byte: &u8) -> bool {
+/// Whether a line ends with this byte.
+pub(crate) fn ends_line(byte: &u8) -> bool
+    ensures { result ≡ ends_line byte.now }
+{
     *byte == b'\n'
 }
 
@@ -73,17 +77,24 @@ pub(crate) fn other_text(
     first_difference(alloc, wanted, shown).map(Some)
 }
 
+// Whether bytes begin what stands in others from a place on.
+fn begins_at(part: &[u8], shown: &[u8], place: usize) -> bool
+    requires { place ≤ length shown.now }
+    ensures { result ≡ starts_with eqb (drop place shown.now) part.now }
+{
+    shown[place..].starts_with(part)
+}
+
 // Whether bytes stand somewhere in others.
-fn stands_in(part: &[u8], shown: &[u8]) -> bool {
-    if part.is_empty() {
-        return true;
-    }
-    for window in shown.windows(part.len()) {
-        if window == part {
+fn stands_in(part: &[u8], shown: &[u8]) -> bool
+    ensures { IsTrue result ↔ HasSubslice shown.now part.now }
+{
+    for place in 0..shown.len() {
+        if begins_at(part, shown, place) {
             return true;
         }
     }
-    false
+    part.is_empty()
 }
 
 /// Why bytes don't stand somewhere in what was shown.
@@ -91,7 +102,9 @@ pub(crate) fn not_shown(
     alloc: Global,
     part: &[u8],
     shown: &[u8],
-) -> Result<Option<String>, AllocError> {
+) -> Result<Option<String>, AllocError>
+    ensures { IfOk result (λ why. IsTrue (is_none why) ↔ HasSubslice shown.now part.now) }
+{
     if stands_in(part, shown) {
         return Ok(None);
     }
@@ -99,113 +112,12 @@ pub(crate) fn not_shown(
     format!(in alloc; "{part} isn't shown").map(Some)
 }
 
-// The number that stands alone in a line.
-fn number_in(line: &[u8]) -> Option<u64> {
-    std::str::from_utf8(line).ok()?.trim().parse().ok()
-}
-
-// That a number is too low behind an earlier one.
-fn too_low(alloc: Global, number: u64, earlier: u64, least: u64) -> Result<String, AllocError> {
-    format!(in alloc;
-        "the number {number} is shown behind {earlier}, and should be {least} above it at least"
-    )
-}
-
-// That there are too few lines with a number alone.
-fn too_few(alloc: Global, found: usize) -> Result<String, AllocError> {
-    format!(in alloc; "{found} lines with a number alone are shown, and not two at least")
-}
-
-/// Why the numbers that stand alone in lines don't rise by so much each time, or aren't two at least.
-pub(crate) fn no_rise(
-    alloc: Global,
-    shown: &[u8],
-    least: u64,
-) -> Result<Option<String>, AllocError> {
-    let mut before: Option<u64> = None;
-    let mut found: usize = 0;
-    for line in shown.split(ends_line) {
-        let Some(number) = number_in(line) else {
-            continue;
-        };
-        if let Some(earlier) = before {
-            if number < earlier.saturating_add(least) {
-                return too_low(alloc, number, earlier, least).map(Some);
-            }
-        }
-        before = Some(number);
-        found = found.saturating_add(1);
-    }
-    if found < 2 {
-        return too_few(alloc, found).map(Some);
-    }
-    Ok(None)
-}
-
-// Whether each of these words begins a note that is kept of the whole run.
-fn are_kept(words: &[String]) -> bool {
-    for word in words {
-        if !matches!(word.as_str(), "turn" | "call" | "block" | "exit" | "fault") {
-            return false;
-        }
-    }
-    true
-}
-
-// Whether a word is one of these.
-fn is_one_of(word: &str, words: &[String]) -> bool {
-    for other in words {
-        if other.as_str() == word {
-            return true;
-        }
-    }
-    false
-}
-
-// Adds a line, if its first word is one of these.
-fn add_line(lines: &mut String, words: &[String], line: &str) -> Result<(), AllocError> {
-    if is_one_of(line.split(' ').next().unwrap_or(""), words) {
-        lines.push_str(line)?;
-        lines.push_str("\n")?;
-    }
-    Ok(())
-}
-
-// The notes whose lines begin with one of these words, as lines.
-fn kept_lines(alloc: Global, words: &[String], notes: &[Note]) -> Result<String, AllocError> {
-    let mut lines = String::new(alloc);
-    for note in notes {
-        let line = format!(in alloc; "{note}")?;
-        add_line(&mut lines, words, line.as_str())?;
-    }
-    Ok(lines)
-}
-
-// The lines that begin with one of these words: of the notes, or of the trace if there are words of other lines.
-fn predicted(alloc: Global, words: &[String], seen: &Seen<'_>) -> Result<String, AllocError> {
-    if are_kept(words) {
-        return kept_lines(alloc, words, seen.notes);
-    }
-    let mut lines = String::new(alloc);
-    for line in seen.trace.lines() {
-        add_line(&mut lines, words, line)?;
-    }
-    Ok(lines)
-}
-
-/// Why a text isn't what was to be predicted: its first line that differs. Blanks and empty lines at its end don't count.
-pub(crate) fn not_predicted(
-    alloc: Global,
-    words: &[String],
-    seen: &Seen<'_>,
-) -> Result<Option<String>, AllocError> {
-    let wanted = predicted(alloc, words, seen)?;
-    let wanted = wanted.as_str().as_bytes().trim_ascii_end();
-    other_text(alloc, wanted, seen.handed_in.as_bytes().trim_ascii_end())
-}
-
-// The lines of a text.
-fn lines_in(alloc: Global, text: &str) -> Result<Vec<&str>, AllocError>
+/// The lines of a text.
+///
+/// # Errors
+///
+/// [`AllocError`] if the host has too little memory.
+pub fn lines_in(alloc: Global, text: &str) -> Result<Vec<&str>, AllocError>
     ensures { IfOk result (λ found. map (λ line. line.now) found.items ≡ lines text.now) }
 {
     text.lines().collect(alloc)

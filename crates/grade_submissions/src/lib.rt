@@ -11,6 +11,7 @@
 ghost use Rattle.program_files.specs.Statuses.{IsPlainStatus};
 
 mod command_line;
+mod disk;
 mod exercise_file;
 mod grading;
 mod host_files;
@@ -22,6 +23,7 @@ mod work;
 
 pub use command_line::Settings;
 use command_line::read_settings;
+pub use disk::{Disk, Found};
 use exercise_file::{show_files, show_variant};
 pub use grading::grade_submission;
 use grading::name_of;
@@ -37,11 +39,11 @@ pub const NAME: &str = "xv_grade";
 fn grade(rt: &HostRuntime, settings: &Settings) -> Result<(), Failure<'static>> {
     match &settings.submission {
         Some(folder) if settings.variant => {
-            let name = name_of(rt, settings, folder.as_str())?;
-            show_variant(rt, settings, name.as_slice(), &mut rt.stdout())
+            let name = name_of(rt.alloc(), rt, settings, folder.as_str())?;
+            show_variant(rt.alloc(), rt, settings, name.as_slice(), &mut rt.stdout())
         }
-        Some(folder) => grade_submission(rt, settings, folder.as_str(), &mut rt.stdout()),
-        None => show_files(rt, settings, &mut rt.stdout()),
+        Some(folder) => grade_submission(rt, rt, settings, folder.as_str(), &mut rt.stdout()),
+        None => show_files(rt.alloc(), rt, settings, &mut rt.stdout()),
     }
 }
 

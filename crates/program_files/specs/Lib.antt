@@ -1,3 +1,4 @@
 pub mod Failures
 pub mod Ranges
 pub mod Statuses
+pub mod Programs

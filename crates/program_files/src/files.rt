@@ -1,5 +1,9 @@
 //! Programs from the host's files, and the lines of those that are assembled.
-ghost use Rattle.std.specs.Prelude.{◌≡◌, IfOk, length};
+ghost use Rattle.std.specs.Prelude.{◌≡◌, ◌≢◌, ◌++◌, ℕ, List, IfOk, IfErr, MatchOption, Ok, codes, length};
+ghost use Rattle.std.specs.Str.{IsUtf8};
+ghost use Rattle.uasm_core.specs.FileFormat.{file_of};
+ghost use Rattle.program_files.specs.declared.refusal.FileRefusal.TheVariants.{OutOfMemory};
+ghost use Rattle.program_files.specs.Programs.{IsNameIn, IsProgramOf, IsUnassembled, IsUnmade};
 
 use crate::refusal::FileRefusal;
 use std::alloc::Global;
@@ -51,7 +55,11 @@ fn assembled<'a>(
     alloc: Global,
     source: &[u8],
     path: &'a str,
-) -> Result<Assembled, FileRefusal<'a>> {
+) -> Result<Assembled, FileRefusal<'a>>
+    ensures text { IfOk result (λ _. IsUtf8 source.now) }
+    ensures file { IfOk result (λ made. file_of source.now ≡ Ok made.file.items) }
+    ensures refused { IfErr result (IsUnassembled source.now) }
+{
     let Ok(text) = std::str::from_utf8(source) else {
         return Err(FileRefusal::NotText(path));
     };
@@ -63,43 +71,68 @@ fn assembled<'a>(
 }
 
 // What stands behind the last slash of a path.
-fn last_part(path: &str) -> &str {
+fn last_part(path: &str) -> &str
+    ensures { IsNameIn path.now result.now }
+{
     match path.rsplit_once('/') {
         Some((_folder, name)) => name,
         None => path,
     }
 }
 
+// The name of a source without its end.
+fn stem(name: &str) -> Option<&str>
+    ensures { MatchOption result ((stem : List ℕ) → name.now ≢ stem ++ codes ".s") (λ stem. name.now ≡ stem.now ++ codes ".s") }
+{
+    name.strip_suffix(".s")
+}
+
 // A program of this name.
-fn named<'a>(alloc: Global, name: &str, bytes: Vec<u8>) -> Result<Program, FileRefusal<'a>> {
+fn named<'a>(alloc: Global, name: &str, bytes: Vec<u8>) -> Result<Program, FileRefusal<'a>>
+    ensures name { IfOk result (λ program. program.name.items ≡ name.now) }
+    ensures bytes { IfOk result (λ program. program.bytes ≡ bytes) }
+    ensures memory { IfErr result (λ why. why ≡ OutOfMemory) }
+{
     Ok(Program {
         name: Vec::from_slice(alloc, name.as_bytes())?,
         bytes,
     })
 }
 
-/// The program of a file that was opened under this path: it is named by the last part of the path. A
-/// file whose name ends in `.s` is assembled, and the program is named without the `.s`.
-pub fn program<'a, F: Read + Drop>(
+/// The program of a file of these bytes, which lies under this path: it is named by the last part of the path. If that
+/// ends in `.s`, the file is assembled, and the program is named without the `.s`.
+pub fn program_of_bytes<'a>(
     alloc: Global,
-    file: io::Result<F>,
+    bytes: Vec<u8>,
     path: &'a str,
-) -> Result<SourcedProgram, FileRefusal<'a>> {
-    let bytes = match file {
-        Ok(file) => read_file(alloc, file, path)?,
-        Err(error) => return Err(failed(&error, path)),
-    };
-    let Some(name) = last_part(path).strip_suffix(".s") else {
+) -> Result<SourcedProgram, FileRefusal<'a>>
+    ensures made { IfOk result (λ made. IsProgramOf path.now bytes.items made.program) }
+    ensures refused { IfErr result (IsUnmade path.now bytes.items) }
+{
+    let name = last_part(path);
+    let Some(stem) = stem(name) else {
         return Ok(SourcedProgram {
-            program: named(alloc, last_part(path), bytes)?,
+            program: named(alloc, name, bytes)?,
             lines: None,
         });
     };
     let made = assembled(alloc, bytes.as_slice(), path)?;
     Ok(SourcedProgram {
-        program: named(alloc, name, made.file)?,
+        program: named(alloc, stem, made.file)?,
         lines: Some(made.lines),
     })
+}
+
+/// The program of a file that was opened under this path, as [`program_of_bytes`] has it.
+pub fn program<'a, F: Read + Drop>(
+    alloc: Global,
+    file: io::Result<F>,
+    path: &'a str,
+) -> Result<SourcedProgram, FileRefusal<'a>> {
+    match file {
+        Ok(file) => program_of_bytes(alloc, read_file(alloc, file, path)?, path),
+        Err(error) => Err(failed(&error, path)),
+    }
 }
 
 /// The programs of the files with these paths, in this order. Each file is read and assembled before the

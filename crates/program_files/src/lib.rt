@@ -19,7 +19,7 @@ pub use arguments::{SettingsError, WordsError, words};
 pub use command_line::{CommandLine, CommandWord};
 pub use ending::{close_run, show_trace, status_of_exit};
 pub use failure::Failure;
-pub use files::{SourcedProgram, SourcedPrograms, program, programs};
+pub use files::{SourcedProgram, SourcedPrograms, program, program_of_bytes, programs};
 pub use given::{Given, given_words, host_words};
 pub use options::{FRAMES, NumberOption, QUANTUM, ROUNDS, TRACE};
 pub use output::put;

@@ -1,4 +1,7 @@
 //! Why the programs of FILEs can't be had, or their lines.
+ghost use Rattle.std.specs.Prelude.{◌≡◌};
+ghost use Rattle.program_files.specs.declared.refusal.FileRefusal.TheVariants as refusals;
+
 use std::alloc::{AllocError, AllocFailed};
 use thiserror::Error;
 use uasm_core::AsmError;
@@ -30,12 +33,16 @@ pub enum FileRefusal<'a> {
 }
 
 impl From<AllocError> for FileRefusal<'_> {
+    ghost from_gives = { λ _ refusal. refusal ≡ refusals.OutOfMemory };
+
     fn from(_error: AllocError) -> Self {
         FileRefusal::OutOfMemory
     }
 }
 
 impl<T: Drop> From<AllocFailed<T>> for FileRefusal<'_> {
+    ghost from_gives = { λ _ refusal. refusal ≡ refusals.OutOfMemory };
+
     fn from(_error: AllocFailed<T>) -> Self {
         FileRefusal::OutOfMemory
     }

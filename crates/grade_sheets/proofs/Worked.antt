@@ -1,0 +1,108 @@
+-- Worked cases of the definitions.
+use Rattle.std.specs.Prelude.{◌≡◌, ℕ, zero, suc, ◌+◌, ◌<◌, ◌≤◌, pos, true, false, [], ◌∷◌, length, slice_index, None, Some, String, string_bytes, codes, refl}
+use Rattle.std.specs.declared.alloc.Global.{Global}
+use Rattle.std.proofs.Common.{arith}
+use Rattle.grade_rules.specs.declared.note.Note.TheVariants.{Turn, Called}
+use Rattle.grade_rules.specs.Notes.{note_text}
+use Rattle.grade_sheets.specs.Answers.{question_of, answer_of}
+use Rattle.grade_sheets.specs.Blanks.{without_end, without_blanks}
+use Rattle.grade_sheets.specs.Numbers.{number_in, numbers_in, AreRising}
+use Rattle.grade_sheets.specs.Predictions.{first_word, lines_if, begins_note}
+use Rattle.grade_sheets.specs.Standings.{refusal_or}
+use Rattle.grade_sheets.specs.declared.grade.Standing.TheVariants.{Right, Wrong, Refused}
+
+-- ---- numbers
+
+-- blanks and a plus don't count, and nothing else may stand in the line
+a_number : number_in (codes " +12 ") ≡ Some 12
+a_number = refl
+
+two_numbers : number_in (codes "1 2") ≡ None
+two_numbers = refl
+
+no_digit : number_in (codes "+") ≡ None
+no_digit = refl
+
+below_zero : number_in (codes "-1") ≡ None
+below_zero = refl
+
+-- the largest, and one that is too large
+the_largest : number_in (codes "18446744073709551615") ≡ Some 18446744073709551615
+the_largest = refl
+
+too_large : number_in (codes "18446744073709551616") ≡ None
+too_large = refl
+
+-- lines without a number alone are passed over, and the last line needs no end
+of_lines : numbers_in (codes "7\nup 3\n\n 12\n1") ≡ (7 ∷ 12 ∷ 1 ∷ [])
+of_lines = refl
+
+-- each at least 2 above the one before it
+rising : (place : ℕ) → place + 1 < 3 → slice_index (1 ∷ 3 ∷ 9 ∷ []) place + 2 ≤ slice_index (1 ∷ 3 ∷ 9 ∷ []) (place + 1)
+rising zero within = omega arith
+rising (suc zero) within = omega arith
+rising (suc (suc place)) within = absurd (omega (arith, within))
+
+they_rise : AreRising 2 (1 ∷ 3 ∷ 9 ∷ [])
+they_rise = record { two = omega arith; each = rising }
+
+one_is_low : AreRising 2 (1 ∷ 2 ∷ []) → ⊥
+one_is_low they = omega (arith, they.each 0 (omega arith))
+
+one_alone : AreRising 0 (1 ∷ []) → ⊥
+one_alone they = omega (arith, they.two)
+
+-- ---- predictions
+
+the_word : first_word (codes "call 1 4 0") ≡ codes "call"
+the_word = refl
+
+without_more : first_word (codes "halted") ≡ codes "halted"
+without_more = refl
+
+-- no line if no word is asked for
+none_asked : lines_if [] (codes "turn 1" ∷ []) ≡ []
+none_asked = refl
+
+chosen : (word : String Global) → string_bytes word ≡ codes "turn"
+    → lines_if (word ∷ []) (codes "turn 1" ∷ codes "call 1 2 0" ∷ codes "turn 2" ∷ []) ≡ codes "turn 1\nturn 2\n"
+chosen word is = rw is refl
+
+a_note : (word : String Global) → string_bytes word ≡ codes "block" → begins_note word ≡ true
+a_note word is = rw is refl
+
+no_note : (word : String Global) → string_bytes word ≡ codes "step" → begins_note word ≡ false
+no_note word is = rw is refl
+
+a_turn : note_text (Turn 12) ≡ codes "turn 12"
+a_turn = refl
+
+a_call : note_text (Called 1 (pos 4) (pos 0)) ≡ codes "call 1 4 0"
+a_call = refl
+
+-- blanks at the beginning count, and at the end they don't
+at_the_end : without_end (codes " a \n\n") ≡ codes " a"
+at_the_end = refl
+
+around : without_blanks (codes " a b \n") ≡ codes "a b"
+around = refl
+
+-- ---- answers
+
+asked : question_of (codes " pages : 3: 4") ≡ codes "pages"
+asked = refl
+
+answered : answer_of (codes "pages: 3: 4 ") ≡ codes "3: 4"
+answered = refl
+
+-- ---- why there are no points
+
+-- runs that are right are passed over, and one that was made ends the search
+refused_first : refusal_or Refused (codes "empty") None ≡ Some (codes "empty")
+refused_first = refl
+
+refused_later : refusal_or Right (codes "") (Some (codes "empty")) ≡ Some (codes "empty")
+refused_later = refl
+
+wrong_first : refusal_or Wrong (codes "") (Some (codes "empty")) ≡ None
+wrong_first = refl

@@ -1,0 +1,6 @@
+use Rattle.std.proofs.Common.{◌≡◌, drop}
+use Rattle.grade_sheets.specs.Standings.{first_refusal}
+use Rattle.grade_sheets.proofs.grade.first_refusal.Given as goal
+
+abbrev pub invariant-loop-run : goal.invariant-loop-run
+invariant-loop-run l = first_refusal (drop l.run-index l.runs) ≡ first_refusal l.runs

@@ -1,0 +1,7 @@
+use Rattle.std.proofs.Common.{◌≡◌, ◌<◌, ℕ, false, drop}
+use Rattle.std.specs.Prelude.{eqb}
+use Rattle.std.specs.List.{starts_with}
+use Rattle.grade_sheets.proofs.texts.stands_in.Given as goal
+
+abbrev pub invariant-loop-place : goal.invariant-loop-place
+invariant-loop-place l = (k : ℕ) → k < l.place → starts_with eqb (drop k l.shown) l.part ≡ false
