@@ -340,7 +340,7 @@ def with_headline(text, found):
 def listed(text):
     """The rows of the reading list: the number of lines, what stands around it, and the module."""
     for number, line in enumerate(text.split("\n")):
-        row = re.match(r"\| (\d+) (\| \[`[^`]*`\]\(([^)]*\.antt)\) \|.*)$", line)
+        row = re.match(r"- (\d+) (\[`[^`]*`\]\(([^)]*\.antt)\): .*)$", line)
         if row:
             path = (TOP / READING_LIST).parent / row[3]
             yield number, row[2], next((it.name for it in modules().values() if it.path == path.resolve()), row[3])
@@ -349,7 +349,7 @@ def listed(text):
 def with_list(text, found):
     lines = text.split("\n")
     for number, rest, name in listed(text):
-        lines[number] = f"| {found.by_module[name]} {rest}"
+        lines[number] = f"- {found.by_module[name]} {rest}"
     return SAID_BY_CRATE.sub(lambda it: f"{found.lines_of(it[1]):,} of `{it[1]}`", "\n".join(lines))
 
 
