@@ -3,7 +3,7 @@ use Rattle.std.proofs.Common.{◌≡◌, ◌≢◌, ◌∙◌, ◌<◌, ℕ, Boo
 use Rattle.std.specs.Prelude.{eqb, ◌==◌, ◌↔◌, IsTrue}
 use Rattle.std.specs.List.{starts_with}
 use Rattle.std.specs.Str.Iter.{HasSubslice}
-use Rattle.std.proofs.lemmas.Bool.{true≢false}
+use Rattle.std.proofs.lemmas.Bool.{true≢false, ne_eqb}
 use Rattle.std.proofs.lemmas.List.{take-append-drop}
 use Rattle.std.proofs.lemmas.Bool.Decides.{Decides-eqb}
 use Rattle.std.proofs.lemmas.Slice.Eq.{starts_is}
@@ -38,6 +38,6 @@ module _ (shown part : List ℕ) where
       by : (xs : List ℕ) → part ≡ xs → r ≡ (length xs == 0) → IsTrue r ↔ HasSubslice shown part
       by [] empty so = (λ _. stands_empty empty, λ _. so)
       by (x ∷ xs) some so = (
-        λ t. absurd (true≢false (sym t ∙ so)),
+        λ t. absurd (true≢false (sym t ∙ so ∙ ne_eqb (length (x ∷ xs)) 0 (λ none. omega (arith, none)))),
         λ stands. absurd (stands_nowhere none (λ nil. let clash : [] ≡ x ∷ xs = sym nil ∙ some in let no : ⊥ = cc in no) stands),
       )

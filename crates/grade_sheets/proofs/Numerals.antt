@@ -1,18 +1,15 @@
 -- Numbers that are read of digits.
-use Rattle.std.proofs.Common.{◌≡◌, ◌∙◌, ℕ, ◌+◌, ◌<◌, ◌^◌, Bool, true, false, List, [], ◌∷◌, ◌++◌, length, take, drop, get_or, Option, Some, None, refl, sym, ap, subst, arith, inl, inr}
+use Rattle.std.proofs.Common.{◌≡◌, ◌∙◌, ℕ, ◌<◌, ◌^◌, Bool, true, List, [], ◌∷◌, length, drop, Some, None, refl, sym, ap, subst, arith, inl, inr}
 use Rattle.std.specs.Prelude.{nat_lt, ◌&&◌, ◌==◌, cond}
 use Rattle.std.specs.Char.{is_digit, digit_value}
-use Rattle.std.specs.List.{list_all, filter_map}
-use Rattle.std.specs.Option.{option_to_list}
+use Rattle.std.specs.List.{list_all}
 use Rattle.std.specs.Str.{IsAscii, IsUtf8}
 use Rattle.std.specs.Str.Parse.{AllDigits, IsNumeral, digits_value, without_leading_plus}
 use Rattle.std.proofs.lemmas.Bool.{and_from, and_parts, lt-ltb, ltb-true, cond-true, cond-false, false_from_ne_true, cases_Bool, eqb-true}
 use Rattle.std.proofs.lemmas.Fmt.{IsAscii-from_digits}
-use Rattle.std.proofs.lemmas.List.{take_more}
-use Rattle.std.proofs.lemmas.List.Elements.{filter_map-append}
 use Rattle.std.proofs.lemmas.Str.{IsUtf8-from_ascii}
 use Rattle.std.proofs.lemmas.Str.Ascii.{IsAscii-cons}
-use Rattle.grade_sheets.specs.Numbers.{is_numeral, number_of, number_in}
+use Rattle.grade_sheets.specs.Numbers.{is_numeral, number_of}
 
 -- ---- digits
 
@@ -57,23 +54,10 @@ no-number digits not_so =
 ascii-plus : (text : List ℕ) → IsAscii (without_leading_plus text) → IsAscii text
 ascii-plus [] ascii = ascii
 ascii-plus (c ∷ text) ascii = elim (cases_Bool (c == 43)) [
-  | inl yes ↦ IsAscii-cons c text (omega (arith, eqb-true c 43 yes)) (subst IsAscii (ap (λ (b : Bool). drop (cond b 1 0) (c ∷ text)) yes) ascii)
-  | inr not_so ↦ subst IsAscii (ap (λ (b : Bool). drop (cond b 1 0) (c ∷ text)) not_so) ascii
+  | inl plus ↦ IsAscii-cons c text (omega (arith, eqb-true c 43 plus)) (subst IsAscii (ap (λ (b : Bool). drop (cond b 1 0) (c ∷ text)) plus) ascii)
+  | inr other ↦ subst IsAscii (ap (λ (b : Bool). drop (cond b 1 0) (c ∷ text)) other) ascii
 ]
 
 pub no-text : (text : List ℕ) → ¬ (IsUtf8 text) → None ≡ number_of (without_leading_plus text)
 no-text text not_so =
     no-number (without_leading_plus text) (λ numeral. not_so (IsUtf8-from_ascii text (ascii-plus text (IsAscii-from_digits (without_leading_plus text) numeral.0.1))))
-
--- ---- the numbers of lines
-
-one-more : (line : List ℕ) (o : Option ℕ) → o ≡ number_in line → filter_map number_in (line ∷ []) ≡ option_to_list o
-one-more line None is = rw (sym is) refl
-one-more line (Some n) is = rw (sym is) refl
-
--- a line more
-pub numbers_more : (lines : List (List ℕ)) (place : ℕ) (line : List ℕ) → place < length lines
-    → filter_map number_in (take (place + 1) lines) ≡ filter_map number_in (take place lines) ++ option_to_list (number_in (get_or lines place line))
-numbers_more lines place line within =
-    ap (filter_map number_in) (take_more lines place line within) ∙ filter_map-append number_in (take place lines) (get_or lines place line ∷ [])
-    ∙ ap (λ (ns : List ℕ). filter_map number_in (take place lines) ++ ns) (one-more (get_or lines place line) (number_in (get_or lines place line)) refl)

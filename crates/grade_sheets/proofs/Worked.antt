@@ -1,10 +1,7 @@
 -- Worked cases of the definitions.
-use Rattle.std.specs.Prelude.{◌≡◌, ℕ, zero, suc, ◌+◌, ◌<◌, ◌≤◌, pos, true, false, [], ◌∷◌, length, slice_index, None, Some, String, string_bytes, codes, refl}
+use Rattle.std.specs.Prelude.{◌≡◌, ℕ, zero, suc, ◌+◌, ◌<◌, ◌≤◌, true, false, [], ◌∷◌, length, slice_index, None, Some, String, string_bytes, codes, refl}
 use Rattle.std.specs.declared.alloc.Global.{Global}
 use Rattle.std.proofs.Common.{arith}
-use Rattle.grade_rules.specs.declared.note.Note.TheVariants.{Turn, Called}
-use Rattle.grade_rules.specs.Notes.{note_text}
-use Rattle.grade_sheets.specs.Answers.{question_of, answer_of}
 use Rattle.grade_sheets.specs.Blanks.{without_end, without_blanks}
 use Rattle.grade_sheets.specs.Numbers.{number_in, numbers_in, AreRising}
 use Rattle.grade_sheets.specs.Predictions.{first_word, lines_if, begins_note}
@@ -74,26 +71,12 @@ a_note word is = rw is refl
 no_note : (word : String Global) → string_bytes word ≡ codes "step" → begins_note word ≡ false
 no_note word is = rw is refl
 
-a_turn : note_text (Turn 12) ≡ codes "turn 12"
-a_turn = refl
-
-a_call : note_text (Called 1 (pos 4) (pos 0)) ≡ codes "call 1 4 0"
-a_call = refl
-
 -- blanks at the beginning count, and at the end they don't
 at_the_end : without_end (codes " a \n\n") ≡ codes " a"
 at_the_end = refl
 
 around : without_blanks (codes " a b \n") ≡ codes "a b"
 around = refl
-
--- ---- answers
-
-asked : question_of (codes " pages : 3: 4") ≡ codes "pages"
-asked = refl
-
-answered : answer_of (codes "pages: 3: 4 ") ≡ codes "3: 4"
-answered = refl
 
 -- ---- why there are no points
 

@@ -1,7 +1,8 @@
 -- Numbers that stand alone in lines.
-use Rattle.std.specs.Prelude.{ℕ, ◌+◌, ◌<◌, ◌≤◌, ◌^◌, Bool, ◌&&◌, nat_lt, ◌==◌, if◌then◌else◌, List, length, Option, None, Some, slice_index}
+use Rattle.std.specs.Prelude.{ℕ, ◌+◌, ◌<◌, ◌≤◌, ◌^◌, Bool, ◌&&◌, nat_lt, ◌==◌, if◌then◌else◌, List, length, flat_map, Option, None, Some, slice_index}
 use Rattle.std.specs.Char.{is_digit}
-use Rattle.std.specs.List.{list_all, filter_map, slice_split}
+use Rattle.std.specs.List.{list_all, slice_split}
+use Rattle.std.specs.Option.{option_to_list}
 use Rattle.std.specs.Str.Parse.{without_leading_plus, digits_value}
 use Rattle.grade_sheets.specs.Blanks.{without_blanks}
 
@@ -20,9 +21,13 @@ number_in line = number_of (without_leading_plus (without_blanks line))
 abbrev pub ends_line : ℕ → Bool
 ends_line byte = byte == 10
 
+-- the number that a line has, if it has one
+abbrev pub if_number : List ℕ → List ℕ
+if_number line = option_to_list (number_in line)
+
 -- the numbers that stand alone in lines, in their order
 abbrev pub numbers_in : List ℕ → List ℕ
-numbers_in shown = filter_map number_in (slice_split ends_line shown)
+numbers_in shown = flat_map if_number (slice_split ends_line shown)
 
 -- two numbers or more, each of which is at least so much above the one before it
 pub record AreRising (least : ℕ) (numbers : List ℕ) : Type 0 where

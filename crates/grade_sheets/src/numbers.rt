@@ -1,10 +1,10 @@
 //! Numbers that stand alone in lines, and whether they rise.
-ghost use Rattle.std.specs.Prelude.{◌≡◌, ◌↔◌, ◌+◌, ◌<◌, ◌≤◌, ◌++◌, ℕ, IsTrue, is_none, IfOk, MatchOption, map, length, slice_index};
-ghost use Rattle.std.specs.List.{filter_map, slice_split};
+ghost use Rattle.std.specs.Prelude.{◌≡◌, ◌↔◌, ◌+◌, ◌<◌, ◌≤◌, ◌++◌, ℕ, IsTrue, is_none, IfOk, MatchOption, map, flat_map, length, slice_index};
+ghost use Rattle.std.specs.List.{slice_split};
 ghost use Rattle.std.specs.Option.{option_to_list};
 ghost use Rattle.std.specs.Str.Parse.{without_leading_plus};
 ghost use Rattle.grade_sheets.specs.Blanks.{without_blanks};
-ghost use Rattle.grade_sheets.specs.Numbers.{ends_line, number_of, number_in, numbers_in, AreRising};
+ghost use Rattle.grade_sheets.specs.Numbers.{ends_line, number_of, number_in, if_number, numbers_in, AreRising};
 
 use crate::texts::ends_line;
 use std::alloc::{AllocError, Global};
@@ -55,7 +55,7 @@ fn add_number(numbers: &mut Vec<u64>, number: Option<u64>) -> Result<(), AllocEr
 
 // The numbers that stand alone in these lines.
 fn numbers_of(alloc: Global, lines: &[&[u8]]) -> Result<Vec<u64>, AllocError>
-    ensures { IfOk result (λ numbers. numbers.items ≡ filter_map number_in (map (λ line. line.now) lines.now)) }
+    ensures { IfOk result (λ numbers. numbers.items ≡ flat_map if_number (map (λ line. line.now) lines.now)) }
 {
     let mut numbers = Vec::new(alloc);
     for line in lines {

@@ -1,5 +1,6 @@
 //! What is to be predicted of a run.
 ghost use Rattle.std.specs.Prelude.{◌≡◌, ◌↔◌, ◌++◌, IsTrue, is_none, IfOk, map, string_bytes};
+ghost use Rattle.std.specs.List.{list_all};
 ghost use Rattle.grade_rules.specs.Notes.{note_text};
 ghost use Rattle.grade_sheets.specs.Blanks.{without_end};
 ghost use Rattle.grade_sheets.specs.Predictions.{first_word, is_one_of, line_if, lines_if, begins_note, predicted, IsPredicted};
@@ -15,6 +16,13 @@ fn begins_note(word: &String) -> bool
 {
     let word = word.as_str();
     word == "turn" || word == "call" || word == "block" || word == "exit" || word == "fault"
+}
+
+// Whether each of these words begins a note.
+fn are_notes(words: &[String]) -> bool
+    ensures { result ≡ list_all begins_note words.now }
+{
+    words.iter().all(begins_note)
 }
 
 // Whether a word is one of these.
@@ -72,7 +80,7 @@ fn chosen_lines(alloc: Global, words: &[String], list: &[&str]) -> Result<String
 fn predicted(alloc: Global, words: &[String], seen: &Seen<'_>) -> Result<String, AllocError>
     ensures { IfOk result (λ text. string_bytes text ≡ predicted words.now seen.now) }
 {
-    if words.iter().all(begins_note) {
+    if are_notes(words) {
         return kept_lines(alloc, words, seen.notes);
     }
     let list = lines_in(alloc, seen.trace)?;
@@ -80,7 +88,6 @@ fn predicted(alloc: Global, words: &[String], seen: &Seen<'_>) -> Result<String,
 }
 
 // A text without the blanks and empty lines at its end.
-#[tactic(auto, using(std::proofs::lemmas::Str::Ascii::trim_ascii_end_is))]
 fn without_end(text: &str) -> &[u8]
     ensures { result.now ≡ without_end text.now }
 {

@@ -1,14 +1,14 @@
 -- The first file that is there, and the text of what was handed in.
-use Rattle.std.proofs.Common.{◌≡◌, ◌∙◌, ℕ, zero, suc, ◌+◌, ◌<◌, Bool, List, [], ◌∷◌, ◌++◌, length, take, get_or, Option, Some, None, inl, inr, refl, sym, ap, subst, arith, append-nil, append_assoc}
-use Rattle.std.specs.Prelude.{◌==◌, not, cond, if◌then◌else◌, map, filter, codes, String, string_bytes}
+use Rattle.std.proofs.Common.{◌≡◌, ◌≢◌, ◌∙◌, ℕ, zero, suc, ◌+◌, ◌<◌, Bool, List, [], ◌∷◌, ◌++◌, length, take, get_or, Option, Some, None, inl, inr, refl, sym, ap, subst, arith, append-nil, append_assoc}
+use Rattle.std.specs.Prelude.{◌==◌, eqb, not, cond, if◌then◌else◌, map, filter, codes, String, string_bytes}
 use Rattle.std.specs.declared.alloc.Global.{Global}
-use Rattle.std.specs.List.{concat, onto_first, slice_split}
-use Rattle.std.proofs.lemmas.Bool.{cases_Bool}
-use Rattle.std.proofs.lemmas.List.{take_more}
+use Rattle.std.specs.List.{concat, find, onto_first, slice_split, starts_with}
+use Rattle.std.proofs.lemmas.Bool.{cases_Bool, true≢false, ne_eqb}
+use Rattle.std.proofs.lemmas.List.{take_more, length-take-le}
 use Rattle.std.proofs.lemmas.List.Folds.{concat-append}
 use Rattle.grade_submissions.specs.declared.submission.HandedIn.{HandedIn}
 use Rattle.grade_submissions.specs.Disks.{Reads}
-use Rattle.grade_submissions.specs.Files.{Handing, IsUnder, IsNoneThere, IsFirstThere, or_names, no_file_text, is_return, without_returns}
+use Rattle.grade_submissions.specs.Files.{Handing, unfit_text, speaks_of, IsUnder, IsNoneThere, IsFirstThere, or_names, no_file_text, is_return, without_returns}
 
 module _ (reads : Reads) (handing : Handing) where
   none-one : (files : List (String Global)) (file : String Global) → IsNoneThere reads handing files → IsUnder reads handing (string_bytes file) None
@@ -30,6 +30,22 @@ module _ (reads : Reads) (handing : Handing) where
   first_at (x ∷ files) zero file h within is none here = inl (subst (λ (f : String Global). IsUnder reads handing (string_bytes f) (Some h)) is here)
   first_at (x ∷ files) (suc place) file h within is none here = inr (none.0, first_at files place file h (omega (arith, within)) is none.1 here)
 
+-- ---- what is empty
+
+pub empty-is : (xs : List ℕ) → (length xs == 0) ≡ true → xs ≡ []
+empty-is [] is = refl
+empty-is (x ∷ xs) is = absurd (true≢false (sym is ∙ ne_eqb (length (x ∷ xs)) 0 (λ none. omega (arith, none))))
+
+pub some-is : (xs : List ℕ) → (length xs == 0) ≡ false → xs ≢ []
+some-is [] is none = true≢false is
+some-is (x ∷ xs) is none = cc
+
+-- ---- lines that say why a file isn't to be run
+
+pub said_of : (file begin : List ℕ) (lines : List (List ℕ)) (line : Option (List ℕ)) → line ≡ find (λ l. starts_with eqb l begin) lines → begin ≡ unfit_text file []
+    → find (speaks_of file) lines ≡ line
+said_of file begin lines line is same = ap (λ (b : List ℕ). find (λ l. starts_with eqb l b) lines) (sym same) ∙ sym is
+
 -- ---- that none is there, in words
 
 abbrev pub joint : ℕ → List ℕ
@@ -47,6 +63,14 @@ no-file-one (x ∷ files) file =
     ap (λ (l : List ℕ). codes "no file " ++ (string_bytes x ++ l)) (or-more files file)
     ∙ ap (λ (l : List ℕ). codes "no file " ++ l) (sym (append_assoc (string_bytes x) (or_names files) (codes " or " ++ string_bytes file)))
     ∙ sym (append_assoc (codes "no file ") (string_bytes x ++ or_names files) (codes " or " ++ string_bytes file))
+
+-- one file more
+pub no_file_more : (files : List (String Global)) (place : ℕ) (file : String Global) → place < length files → file ≡ get_or files place file
+    → no_file_text (take (place + 1) files) ≡ no_file_text (take place files) ++ (joint place ++ string_bytes file)
+no_file_more files place file within is =
+    let is_that : take (place + 1) files ≡ take place files ++ file ∷ [] = take_more files place file within ∙ ap (λ (f : String Global). take place files ++ f ∷ []) (sym is) in
+    ap no_file_text is_that ∙ no-file-one (take place files) file
+    ∙ ap (λ (n : ℕ). no_file_text (take place files) ++ (joint n ++ string_bytes file)) (length-take-le place files (omega (arith, within)))
 
 -- ---- carriage returns
 

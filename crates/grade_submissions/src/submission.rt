@@ -180,7 +180,8 @@ fn looked_at<D: Disk>(
     ensures { IfOk result (IsLookedAt (D.reads disk.now) folder.now file.now) }
 {
     let path = path_in(alloc, folder, file)?;
-    given(alloc, file, disk.find(path.as_str())?)
+    let found = disk.find(path.as_str())?;
+    given(alloc, file, found)
 }
 
 // The first line that begins so.

@@ -1,3 +1,4 @@
 pub mod Failures
 pub mod Statuses
 mod WorkedFailures
+mod WorkedPrograms

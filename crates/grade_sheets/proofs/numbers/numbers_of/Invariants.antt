@@ -1,7 +1,7 @@
 use Rattle.std.proofs.Common.{◌≡◌, take, map}
-use Rattle.std.specs.List.{filter_map}
-use Rattle.grade_sheets.specs.Numbers.{number_in}
+use Rattle.std.specs.Prelude.{flat_map}
+use Rattle.grade_sheets.specs.Numbers.{if_number}
 use Rattle.grade_sheets.proofs.numbers.numbers_of.Given as goal
 
 abbrev pub invariant-loop-line : goal.invariant-loop-line
-invariant-loop-line l = l.numbers.items ≡ filter_map number_in (map (λ line. line.now) (take l.line-index l.lines))
+invariant-loop-line l = l.numbers.items ≡ flat_map if_number (map (λ line. line.now) (take l.line-index l.lines))
