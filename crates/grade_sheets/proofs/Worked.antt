@@ -1,5 +1,5 @@
 -- Worked cases of the definitions.
-use Rattle.std.specs.Prelude.{◌≡◌, ℕ, zero, suc, ◌+◌, ◌<◌, ◌≤◌, true, false, [], ◌∷◌, length, slice_index, None, Some, String, string_bytes, codes, refl}
+use Rattle.std.specs.Prelude.{◌≡◌, ℕ, zero, suc, ◌+◌, ◌<◌, ◌≤◌, true, false, [], ◌∷◌, slice_index, None, Some, String, string_bytes, codes, refl}
 use Rattle.std.specs.declared.alloc.Global.{Global}
 use Rattle.std.proofs.Common.{arith}
 use Rattle.grade_sheets.specs.Blanks.{without_end, without_blanks}

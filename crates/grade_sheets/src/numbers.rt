@@ -106,11 +106,7 @@ fn too_few(alloc: Global, found: usize) -> Result<String, AllocError> {
 }
 
 /// Why the numbers that stand alone in lines don't rise by so much each time, or aren't two at least.
-pub(crate) fn no_rise(
-    alloc: Global,
-    shown: &[u8],
-    least: u64,
-) -> Result<Option<String>, AllocError>
+pub(crate) fn no_rise(alloc: Global, shown: &[u8], least: u64) -> Result<Option<String>, AllocError>
     ensures { IfOk result (λ why. IsTrue (is_none why) ↔ AreRising least (numbers_in shown.now)) }
 {
     let numbers = numbers_in(alloc, shown)?;

@@ -1,5 +1,5 @@
 -- Which program a file is, by its path and its bytes.
-use Rattle.std.specs.Prelude.{◌≡◌, ◌≢◌, ◌⊎◌, ℕ, ◌<◌, List, ◌++◌, length, slice_index, codes, Result, Ok, Err}
+use Rattle.std.specs.Prelude.{◌≡◌, ◌≢◌, ◌⊎◌, ℕ, ◌<◌, List, ◌++◌, length, slice_index, codes, Ok, Err}
 use Rattle.std.specs.Str.{IsUtf8}
 use Rattle.uasm_core.specs.declared.error.AsmError.{AsmError}
 use Rattle.uasm_core.specs.declared.error.AsmError.TheVariants.{Memory, At}

@@ -51,11 +51,7 @@ pub struct SourcedPrograms {
 }
 
 // What the assembler makes of a source.
-fn assembled<'a>(
-    alloc: Global,
-    source: &[u8],
-    path: &'a str,
-) -> Result<Assembled, FileRefusal<'a>>
+fn assembled<'a>(alloc: Global, source: &[u8], path: &'a str) -> Result<Assembled, FileRefusal<'a>>
     ensures text { IfOk result (λ _. IsUtf8 source.now) }
     ensures file { IfOk result (λ made. file_of source.now ≡ Ok made.file.items) }
     ensures refused { IfErr result (IsUnassembled source.now) }

@@ -1,4 +1,4 @@
-use Rattle.std.proofs.Common.{◌≡◌, ◌≢◌, ◌∙◌, ◌<◌, ◌++◌, ◌∷◌, ℕ, List, length, take, drop, get_or, inl, inr, refl, sym, ap, subst, lit<}
+use Rattle.std.proofs.Common.{◌≢◌, ◌∙◌, ◌<◌, ◌++◌, ◌∷◌, ℕ, List, length, take, drop, get_or, inl, inr, refl, sym, ap, subst, lit<}
 use Rattle.std.proofs.lemmas.List.{take-append-drop}
 use Rattle.std.proofs.lemmas.Str.Pattern.{NoCharPasses-char, drop_at_char}
 use Rattle.program_files.proofs.files.last_part.Goals as goal
