@@ -9,6 +9,7 @@ ghost use Rattle.gdb_target.specs.SameRun.{beginning};
 ghost use Rattle.gdb_target.specs.Standing.{NextIsRun};
 ghost use Rattle.gdb_target.specs.Told.{state_of};
 
+use crate::fast::rows::watched_bytes;
 use crate::outcomes::is_step_of;
 use crate::places::{at_breakpoint, changed, watched_now};
 use crate::played::{Played, is_run};
@@ -314,7 +315,7 @@ impl Target {
     }
 
     /// What stops the program after Runs of which this came last.
-    fn judged(
+    pub(crate) fn judged(
         &mut self,
         alloc: Global,
         going: &Going,
@@ -357,7 +358,7 @@ impl Target {
     }
 
     /// So many Runs, or those before the place `end`.
-    fn all_before(&self, count: u32, end: u64) -> u32
+    pub(crate) fn all_before(&self, count: u32, end: u64) -> u32
         requires some { 0 < count }
         requires room { length self.now.run.session.events < end }
         ensures some { 0 < result }
@@ -434,17 +435,25 @@ impl Target {
     }
 
     /// Sends the next event, or so many Runs.
-    fn send_next(&mut self, alloc: Global, going: &Going) -> Result<Option<Pause>, SessionError>
+    fn send_next(
+        &mut self,
+        alloc: Global,
+        going: &Going,
+        bytes: &[u64],
+    ) -> Result<Option<Pause>, SessionError>
         requires room { length self.old.run.session.events < going.now.end }
         ensures within { length self.new.run.session.events ≤ going.now.end }
         ensures more { IfOk result (λ p. p ≡ None → length self.old.run.session.events < length self.new.run.session.events) }
-        ensures goes { IfOk result (λ p. Goes going.now.until self.old p self.new) }
+        ensures goes { IfOk result (λ p. GoesBy going.now.until self.old p self.new) }
         ensures same { beginning self.new.run ≡ beginning self.old.run }
         ensures choices { choices self.new ≡ choices self.old }
     {
         let next = self.run.next();
         if !is_run(next.event) {
             return self.send_other(going);
+        }
+        if self.starts_row(going.until, bytes) {
+            return self.send_row(alloc, going, bytes);
         }
         let most = self.runs_at_once(going, next.count);
         self.send_runs(alloc, going, most)
@@ -464,8 +473,11 @@ impl Target {
         ensures same { beginning self.new.run ≡ beginning self.old.run }
         ensures choices { choices self.new ≡ choices self.old }
     {
+        let Ok(bytes) = watched_bytes(alloc, &self.points) else {
+            return Err(SessionError::Memory);
+        };
         'events: while self.run.at() < going.end {
-            let pause = self.send_next(alloc, going)?;
+            let pause = self.send_next(alloc, going, bytes.as_slice())?;
             let Some(pause) = pause else {
                 continue;
             };
