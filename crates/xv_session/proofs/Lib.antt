@@ -12,3 +12,4 @@ pub mod Searches
 pub mod Spans
 pub mod Stretches
 pub mod Texts
+pub mod Unwatched

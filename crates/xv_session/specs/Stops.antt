@@ -51,3 +51,9 @@ abbrev pub WentOn : (addresses bytes : List ℕ) → (most : ℕ) → (met : Boo
 WentOn addresses bytes most met last old new zero = (most ≡ 0) × (met ≡ false) × (last ≡ None) × (new ≡ old)
 WentOn addresses bytes most met last old new (suc n) =
     (mid : Running) × (o : Outcome) × Unstopped addresses bytes n old mid × Advances mid Run o new × (is_before_stop addresses bytes new.machine.world ≡ met) × (last ≡ Some o) × (suc n ≤ most) × (met ≡ false → is_done o ≡ true → suc n ≡ most)
+
+-- so many Runs were sent in a row, and a done instruction came of each: none but the last led to a stop, and the last did, or didn't
+abbrev pub MadeRow : (addresses bytes : List ℕ) → (met : Bool) → (last : Option Outcome) → (old new : Running) → (made : ℕ) → Type 0
+MadeRow addresses bytes met last old new zero = (met ≡ false) × (last ≡ None) × (new ≡ old)
+MadeRow addresses bytes met last old new (suc n) =
+    (mid : Running) × (o : Outcome) × Unstopped addresses bytes n old mid × Advances mid Run o new × (is_done o ≡ true) × (is_before_stop addresses bytes new.machine.world ≡ met) × (last ≡ Some o)

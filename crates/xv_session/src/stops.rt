@@ -1,18 +1,19 @@
 //! Running on up to a stop.
-ghost use Rattle.std.specs.Prelude.{◌≡◌, option_map};
+ghost use Rattle.std.specs.Prelude.{◌≡◌, ◌≤◌, option_map};
 ghost use Rattle.std.specs.List.{list_any};
 ghost use Rattle.rv64i_core.specs.declared.instruction.Instr.{Instr};
 ghost use Rattle.xv_machine.specs.Events.{outcome_of};
 ghost use Rattle.xv_session.specs.Steps.{IsSound};
 ghost use Rattle.xv_session.specs.Until.{instruction_in, is_done, puts_at};
-ghost use Rattle.xv_session.specs.Stops.{is_at_one, puts_at_one, stores_to_one, is_before_stop, WentOn};
+ghost use Rattle.xv_session.specs.Stops.{is_at_one, puts_at_one, stores_to_one, is_before_stop, WentOn, MadeRow};
 
 use crate::looking::next_step;
 use crate::running::Running;
 use crate::until::{Search, instruction_in, is_done, puts_at};
+use hart_core::Watch;
 use rv64i_core::Instr;
 use xk_base::Pid;
-use xv_machine::Machine;
+use xv_machine::{Machine, Outcome};
 
 /// Whether the process is live, and its next instruction stands at one of these addresses.
 fn is_at_one(machine: &Machine, pid: Pid, addresses: &[u64]) -> bool
@@ -58,7 +59,56 @@ fn is_before_stop(machine: &Machine, addresses: &[u64], bytes: &[u64]) -> bool
     stores_to_one(machine, pid, bytes)
 }
 
-/// Sends Run as long as an instruction is done and leads to no stop, and once more, `most` times at most.
+/// What came of a row of instructions.
+#[derive(Drop)]
+struct Row {
+    made: u32,
+    // Whether it led to a stop.
+    met: bool,
+    // What came of the last of them.
+    last: Option<Outcome>,
+}
+
+/// Sends Run as long as an instruction is done that uses nothing that is watched, `most` times at most. So none but the
+/// last leads to a stop.
+fn run_row(running: &mut Running, most: u32, addresses: &[u64], bytes: &[u64], watch: &Watch) -> Row
+    ensures made { MadeRow addresses.now bytes.now result.met (option_map outcome_of result.last) running.old running.new result.made }
+    ensures within { result.made ≤ most }
+{
+    let Some(pid) = running.machine.current() else {
+        return Row {
+            made: 0,
+            met: false,
+            last: None,
+        };
+    };
+    let made = running.machine.instructions_unwatched(most, watch);
+    if made == 0 {
+        return Row {
+            made: 0,
+            met: false,
+            last: None,
+        };
+    }
+    let met = is_before_stop(&running.machine, addresses, bytes);
+    Row {
+        made,
+        met,
+        last: Some(Outcome::Stepped { pid }),
+    }
+}
+
+/// What was sent, and to what it led.
+fn found(sent: u32, met: bool, last: Option<Outcome>) -> Search
+    ensures sent { result.sent ≡ sent }
+    ensures met { result.met ≡ met }
+    ensures last { result.last ≡ last }
+{
+    Search { sent, met, last }
+}
+
+/// Sends Run as long as an instruction is done and leads to no stop, and once more, `most` times at most. As long as
+/// nothing is used that is watched, in a row.
 pub(crate) fn run_to_stop(
     running: &mut Running,
     most: u32,
@@ -68,36 +118,30 @@ pub(crate) fn run_to_stop(
     requires { IsSound running.old }
     ensures { WentOn addresses.now bytes.now most result.met (option_map outcome_of result.last) running.old running.new result.sent }
 {
-    for before in 0..most {
+    let watch = Watch::over(addresses, bytes);
+    let mut sent = 0;
+    'runs: while sent < most {
         let outcome = running.run_once();
         let met = is_before_stop(&running.machine, addresses, bytes);
         let goes_on = is_done(&outcome);
-        let sent = before + 1;
+        sent += 1;
         if met {
-            return Search {
-                sent,
-                met,
-                last: Some(outcome),
-            };
+            return found(sent, true, Some(outcome));
         }
         if !goes_on {
-            return Search {
-                sent,
-                met: false,
-                last: Some(outcome),
-            };
+            return found(sent, false, Some(outcome));
         }
         if sent == most {
-            return Search {
-                sent,
-                met: false,
-                last: Some(outcome),
-            };
+            return found(sent, false, Some(outcome));
+        }
+        let row = run_row(running, most - sent, addresses, bytes, &watch);
+        sent += row.made;
+        if row.met {
+            return found(sent, true, row.last);
+        }
+        if sent == most {
+            return found(sent, false, row.last);
         }
     }
-    Search {
-        sent: 0,
-        met: false,
-        last: None,
-    }
+    found(0, false, None)
 }
