@@ -247,6 +247,6 @@ row-some addresses bytes zero met last old new is row = absurd (true≢false (sy
 row-some addresses bytes (suc n) met last old new is row = omega arith
 
 -- all were sent where none was asked for
-pub none-sent : (addresses bytes : List ℕ) (most n : ℕ) (old new : Running) → Unstopped addresses bytes n old new → (0 < n → n < most) → ¬ (n < most) → (most ≡ 0) × (new ≡ old)
+pub none-sent : (addresses bytes : List ℕ) (most n : ℕ) (old new : Running) → Unstopped addresses bytes n old new → (0 < n → n < most) → most ≤ n → (most ≡ 0) × (new ≡ old)
 none-sent addresses bytes most zero old new same fewer over = (omega (arith, over), same)
-none-sent addresses bytes most (suc n) old new before fewer over = absurd (over (fewer (omega arith)))
+none-sent addresses bytes most (suc n) old new before fewer over = absurd (let few = fewer (omega arith) in omega (arith, few, over))

@@ -71,7 +71,15 @@ struct Row {
 
 /// Sends Run as long as an instruction is done that uses nothing that is watched, `most` times at most. So none but the
 /// last leads to a stop.
-fn run_row(running: &mut Running, most: u32, addresses: &[u64], bytes: &[u64], watch: &Watch) -> Row
+fn run_row(
+    running: &mut Running,
+    most: u32,
+    addresses: &[u64],
+    bytes: &[u64],
+    watch: &Watch<'_>,
+) -> Row
+    requires addresses { watch.now.addresses.now ≡ addresses.now }
+    requires bytes { watch.now.bytes.now ≡ bytes.now }
     ensures made { MadeRow addresses.now bytes.now result.met (option_map outcome_of result.last) running.old running.new result.made }
     ensures within { result.made ≤ most }
 {

@@ -47,8 +47,8 @@ returns-then-sent-most c =
     c.run_once-outcome.ensures is refl (add-one n) (omega (arith, c.runs-test.true)) (λ unmet done. c.if-sent-most.true))
 
 -- the row leads to a stop
-pub returns-then-row-met : goal.returns-then-row-met
-returns-then-row-met c =
+pub returns-then-row : goal.returns-then-row
+returns-then-row c =
     let n = c.runs.sent in
     let a = c.args.addresses.now in
     let b = c.args.bytes.now in
@@ -59,9 +59,9 @@ returns-then-row-met c =
     let is : is_before_stop a b new.machine.world ≡ false = sym c.is_before_stop-met.ensures ∙ c.if-met.false in
     let first : Unstopped a b (n + 1) c.args.running.now new =
     subst (λ k. Unstopped a b k c.args.running.now new) (sym (add-one n)) (c.runs.running, o, c.runs.invariant.0, c.run_once-outcome.ensures, sym c.is_done-goes_on.ensures ∙ goes, is) in
-    let met : r.result.met ≡ true = c.if-row-met.true in
+    let met : r.result.met ≡ true = c.if-row.true in
     let row = subst (λ m. MadeRow a b m (option_map outcome_of r.result.last) new r.new.running r.result.made) met r.ensures.made in
-    rw (c.found-then-row-met.ensures.sent, c.found-then-row-met.ensures.met, c.found-then-row-met.ensures.last)
+    rw (c.found-then-row.ensures.sent, c.found-then-row.ensures.met, c.found-then-row.ensures.last)
     (went-on-row a b c.args.most c.args.running.now new r.new.running (n + 1) r.result.made true (option_map outcome_of r.result.last) first row
     (row-some a b r.result.made true (option_map outcome_of r.result.last) new r.new.running refl row) (omega (arith, c.runs-test.true, r.ensures.within)) (λ unmet. absurd (true≢false unmet)))
 
@@ -78,7 +78,7 @@ returns-then-sent-most-2 c =
     let is : is_before_stop a b new.machine.world ≡ false = sym c.is_before_stop-met.ensures ∙ c.if-met.false in
     let first : Unstopped a b (n + 1) c.args.running.now new =
     subst (λ k. Unstopped a b k c.args.running.now new) (sym (add-one n)) (c.runs.running, o, c.runs.invariant.0, c.run_once-outcome.ensures, sym c.is_done-goes_on.ensures ∙ goes, is) in
-    let met : r.result.met ≡ false = c.if-row-met.false in
+    let met : r.result.met ≡ false = c.if-row.false in
     let row = subst (λ m. MadeRow a b m (option_map outcome_of r.result.last) new r.new.running r.result.made) met r.ensures.made in
     let all : n + 1 + r.result.made ≡ c.args.most = omega (arith, c.if-sent-most-2.true) in
     rw (c.found-then-sent-most-2.ensures.sent, c.found-then-sent-most-2.ensures.met, c.found-then-sent-most-2.ensures.last)
@@ -97,7 +97,7 @@ runs-preserved c =
     let is : is_before_stop a b new.machine.world ≡ false = sym c.is_before_stop-met.ensures ∙ c.if-met.false in
     let first : Unstopped a b (n + 1) c.args.running.now new =
     subst (λ k. Unstopped a b k c.args.running.now new) (sym (add-one n)) (c.runs.running, o, c.runs.invariant.0, c.run_once-outcome.ensures, sym c.is_done-goes_on.ensures ∙ goes, is) in (
-      unstopped-row a b c.args.most c.args.running.now new r.new.running (n + 1) r.result.made r.result.met (option_map outcome_of r.result.last) c.if-row-met.false first r.ensures.made,
+      unstopped-row a b c.args.most c.args.running.now new r.new.running (n + 1) r.result.made r.result.met (option_map outcome_of r.result.last) c.if-row.false first r.ensures.made,
       λ _. omega (arith, c.runs-test.true, c.if-sent-most.false, c.if-sent-most-2.false, r.ensures.within),
     )
 
