@@ -6,7 +6,8 @@ export const $ = (id) => document.getElementById(id);
 export const app = {
   worker: null,
   view: null,
-  line: new Listed(), // what came of the events so far, as the worker has it
+  line: new Listed(), // what came of the events so far, as far as the page has it
+  events: { text: "", open: "" }, // the events so far, as a text, and that of those that may go on
   names: new Map(), // the program that each process of the run ran last, by its place among the files
   text: new Uint8Array(0), // the bytes that the console has shown
   faults: [], // the faults of the run

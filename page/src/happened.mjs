@@ -1,65 +1,49 @@
-// What happened: the events of the run, round the place, with what was asked and answered, who slept and who woke. The record has their
-// kinds, processes and answers; the rest is asked of the worker for the events that are shown, once the machine stands.
+// What happened: the events of the run, round the place, with what was asked and answered, who slept and who woke. The worker finds them in
+// its record, with their kinds, processes and answers; the rest is asked of it for the events that are shown, once the machine stands.
 import { $, app, ask, color_of, element, grouped, in_time, on, once, program_name, say, write } from "./app.mjs";
 import { KIND } from "./machine.mjs";
 import { all_calls, call_name } from "./calls.mjs";
 import { address_meant } from "./instruction.mjs";
-import { event_words } from "./time.mjs";
+import { CALL, WHAT } from "./rounds.mjs";
+import { words_of_event } from "./time.mjs";
 
-const BEFORE = 28, BEHIND = 16; // events that are shown before the place, and after it
-const MOST_LOOKED = 400000; // stretches that are looked at for them, each way
 const MOST_ASKED = 48; // events of one question to the worker
-
-const IS_CALL = new Set([KIND.CALL, KIND.WAIT, KIND.EXIT, KIND.FAULT]);
-/** What may be shown: its words, and whether a stretch of the record is such. */
-const WHAT = {
-  calls: ["calls and ends", (kind) => IS_CALL.has(kind)],
-  sleeps: ["sleeps", (kind) => kind === KIND.WAIT],
-  ends: ["ends and faults", (kind) => kind === KIND.EXIT || kind === KIND.FAULT],
-  faults: ["faults", (kind) => kind === KIND.FAULT],
-  turns: ["turns and ticks", (kind) => kind === KIND.TURN || kind === KIND.TICK],
-  console: ["keys, and bytes that are sent", (kind) => kind === KIND.KEY || kind === KIND.SENT],
-  all: ["all but instructions", (kind) => kind !== KIND.STEP && kind !== KIND.NONE],
-};
-const CALL = "call "; // begins the value of a call's own filter
 
 const known = new Map(); // what was told of events, by their places
 let known_of = "", asked = 0, anchor = null, seeks = 0;
 
 // ---- which events
 
-/** Whether a stretch is one of those that are wanted. */
-function wanted() {
-  const { line } = app, pid = Number($("event-pid").value), what = $("event-what").value, answer = $("event-answer").value.trim().replace(/[−–]/g, "-");
-  const is_call = (kind, number) => (kind === KIND.CALL || kind === KIND.WAIT) && call_name(number) === what.slice(CALL.length);
-  const is = what.startsWith(CALL) ? is_call : WHAT[what][1], answer_of = (k) => ({ [KIND.CALL]: line.value[k], [KIND.EXIT]: line.number[k] })[line.kind[k]];
-  return (k) => is(line.kind[k], line.number[k]) && (!pid || line.pid[k] === pid) && (answer === "" || String(answer_of(k)) === answer);
+let found = { key: "", before: [], behind: [], is_cut: false }; // what the worker has told last
+let asked_for = "";
+
+/** What is wanted, as the worker is asked. */
+const wanted = () => ({ pid: Number($("event-pid").value), what: $("event-what").value, answer: $("event-answer").value.trim().replace(/[−–]/g, "-") });
+
+/** Asks the worker for the events round a place, unless that is what it was asked last. */
+function ask_round(place) {
+  const { view } = app, wants = wanted(), key = JSON.stringify([known_of, place, view.playing, view.end, wants]);
+  if (key === asked_for) return;
+  asked_for = key;
+  ask("round", { key, place, wants });
 }
 
-/** The stretches that are wanted round a place: the last ones before it, and the next ones. */
-function round(place) {
-  const { line } = app, fits = wanted(), before = [], behind = [], first = line.find(Math.min(place, line.end - 1));
-  let looked = 0;
-  const here = first >= 0 && line.at[first] >= place ? first : first + 1;
-  for (let k = here - 1; k >= 0 && before.length < BEFORE && looked < MOST_LOOKED; k--, looked++) if (fits(k)) before.unshift(k);
-  const is_cut = looked >= MOST_LOOKED;
-  looked = 0;
-  for (let k = here; k < line.length && behind.length < BEHIND && looked < MOST_LOOKED; k++, looked++) if (fits(k)) behind.push(k);
-  return { before, behind, is_cut };
+let lasts = 0;
+/** The last event before a place that is wanted: {at, kind, pid, number, value}; null if there is none. */
+export function last_event(before, wants) {
+  const id = ++lasts;
+  ask("last_of", { id, before, wants });
+  return new Promise((done) => on_last.set(id, done));
 }
+const on_last = new Map(); // who waits for the answers, by their numbers
 
 // ---- the list
 
-/** What is known of the event of a stretch; else null. */
-function told_of(k) {
-  return known.get(app.line.at[k]) ?? null;
-}
-
-function row(k) {
-  const { line } = app, at = line.at[k], pid = line.kind[k] <= KIND.TURN ? line.pid[k] : 0, told = told_of(k);
-  const words = told ? told.words : event_words(at).replace(/^process \d+:? ?/, "").replace(/^turn of process \d+/, "has a turn");
+function row(it) {
+  const { at } = it, pid = it.kind <= KIND.TURN ? it.pid : 0, told = known.get(at) ?? null;
+  const words = told ? told.words : words_of_event(it).replace(/^process \d+:? ?/, "").replace(/^turn of process \d+/, "has a turn");
   const woke = told?.woke.length ? ` · woke ${told.woke.map((it) => `${it} (${program_name(app.names.get(it))})`).join(", ")}` : "";
-  const kind = line.kind[k] === KIND.FAULT ? "bad" : line.kind[k] === KIND.WAIT ? "waits" : line.value[k] === -1 && line.kind[k] === KIND.CALL ? "bad" : "";
+  const kind = it.kind === KIND.FAULT ? "bad" : it.kind === KIND.WAIT ? "waits" : it.value === -1 && it.kind === KIND.CALL ? "bad" : "";
   const answer = told?.answer ? element("b", {}, ` = ${told.answer}`.replace(/ = (sleeps|ends)/, " $1")) : "", swatch = pid ? { class: "swatch", style: `background:${color_of(pid)}` } : {};
   return element("button", { class: `event ${kind}`, "data-at": at, title: "Go there: before this event", onclick: () => { anchor = null; ask("go", { place: at }); } },
     element("span", { class: "number dim" }, grouped(at)), element("span", swatch), element("span", { class: "dim" }, pid ? String(pid) : ""), element("span", {}, words, answer, woke));
@@ -67,21 +51,24 @@ function row(k) {
 
 let drawn = "";
 function draw() {
-  const { view, line } = app;
+  const { view } = app;
   if (!view || $("happened").hidden) return;
   const key = `${app.booted.id} ${view.edits}`;
   if (known_of !== key) { known.clear(); known_of = key; anchor = null; }
   fill_filters();
-  const place = Math.min(anchor ?? view.at, line.end), { before, behind, is_cut } = round(place), all = [...before, ...behind];
-  const told = JSON.stringify([key, view.at, view.playing, place, all.map((k) => [line.at[k], known.has(line.at[k])]), app.names.size]);
+  ask_round(Math.min(anchor ?? view.at, view.end));
+  // The answer brings it here again.
+  if (found.key !== asked_for && !(view.playing && found.of === key)) return;
+  const { before, behind, is_cut } = found, all = [...before, ...behind];
+  const told = JSON.stringify([found.key, view.at, all.map(({ at }) => [at, known.has(at)]), app.names.size]);
   if (told === drawn) return;
   drawn = told;
   const here = element("p", { class: "here", role: "separator" }, `event ${grouped(view.at)}: here`), box = $("event-list"), rows = [];
-  for (const k of all) { if (!here.placed && line.at[k] >= view.at) { rows.push(here); here.placed = true; } rows.push(row(k)); }
+  for (const it of all) { if (!here.placed && it.at >= view.at) { rows.push(here); here.placed = true; } rows.push(row(it)); }
   if (!here.placed) rows.push(here);
   const focused = document.activeElement?.dataset?.at;
   const none = (words) => element("p", { class: "dim" }, words);
-  if (!before.length) rows.unshift(none(is_cut ? `none among the ${grouped(MOST_LOOKED)} before` : "none before"));
+  if (!before.length) rows.unshift(none(is_cut ? "none among those before that were looked at" : "none before"));
   if (!behind.length) rows.push(none("none after it, as far as the run goes"));
   box.replaceChildren(...rows);
   box.scrollTop = here.offsetTop - 0.6 * box.clientHeight;
@@ -91,7 +78,7 @@ function draw() {
 
 /** Asks the worker for what isn't known of these events, those near the place first. */
 function ask_for(all) {
-  const { line, view } = app, places = all.map((k) => line.at[k]).filter((at) => !known.has(at));
+  const { view } = app, places = all.map(({ at }) => at).filter((at) => !known.has(at));
   if (!places.length) return;
   places.sort((a, b) => Math.abs(a - view.at) - Math.abs(b - view.at));
   ask("tell_events", { id: ++asked, key: known_of, places: places.slice(0, MOST_ASKED) });
@@ -99,9 +86,9 @@ function ask_for(all) {
 
 /** Moves the part that is shown, by so many events that are wanted. */
 function further(by) {
-  const { line, view } = app, { before, behind } = round(anchor ?? view.at), list = by < 0 ? before : behind;
-  if (!list.length) return;
-  anchor = by < 0 ? line.at[list[0]] : line.at[list.at(-1)] + 1;
+  const list = by < 0 ? found.before : found.behind;
+  if (!list.length || found.key !== asked_for) return;
+  anchor = by < 0 ? list[0].at : list.at(-1).at + 1;
   draw();
 }
 
@@ -141,12 +128,10 @@ export function last_store(address, pid = app.view?.pid) {
 
 /** Goes back to the last fault before this place. */
 function last_fault() {
-  const { line, view } = app, { fault } = line.marks;
-  for (let k = fault.length - 1; k >= 0; k--) {
-    const at = line.at[fault[k]];
-    if (at >= view.at) continue;
-    ask("go", { place: at });
-    say(`Process ${line.pid[fault[k]]} is about to fault: event ${grouped(at)}`);
+  const last = app.faults.findLast((it) => it.at < app.view.at);
+  if (last) {
+    ask("go", { place: last.at });
+    say(`Process ${last.pid} is about to fault: event ${grouped(last.at)}`);
     return;
   }
   say("No process has faulted before this place.");
@@ -162,45 +147,40 @@ async function told_at(at) {
   return known.get(at);
 }
 
-/** The stretch in which a process was forked, before a place; -1 if there is none. */
-function birth_of(pid, before) {
-  const { line } = app, { call } = line.marks;
-  for (let k = call.length - 1; k >= 0; k--) if (line.at[call[k]] < before && line.kind[call[k]] === KIND.CALL && line.value[call[k]] === pid && call_name(line.number[call[k]]) === "fork") return call[k];
-  return -1;
-}
+/** The last of some events before a place. */
+const latest = (all) => all.reduce((last, it) => (it && (!last || it.at > last.at) ? it : last), null);
 
-/** The stretch of the call by which a process got a descriptor, before a place; -1 if it had it from its birth. */
+/** The call by which a process got a descriptor, before a place; null if it had it from its birth. */
 async function call_that_opened(pid, fd, before) {
-  const { line } = app, own = line.work_of.get(pid) ?? [];
-  for (let n = own.length - 1; n >= 0; n--) {
-    const k = own[n];
-    if (line.at[k] >= before || line.kind[k] !== KIND.CALL) continue;
-    const name = call_name(line.number[k]);
-    if ((name === "open" || name === "dup") && line.value[k] === fd) return k;
-    if (name === "pipe" && line.value[k] === 0 && (await told_at(line.at[k]))?.ends.includes(fd)) return k;
+  const calls = (name, answer) => last_event(before, { what: CALL + name, pid, answer: String(answer) });
+  const own = latest(await Promise.all(["open", "dup"].map((name) => calls(name, fd))));
+  for (let place = before; ; ) {
+    const pipe = await last_event(place, { what: `${CALL}pipe`, pid, answer: "0" });
+    if (!pipe || (own && own.at > pipe.at)) return own;
+    if ((await told_at(pipe.at))?.ends.includes(fd)) return pipe;
+    place = pipe.at;
   }
-  return -1;
 }
 
 /** Goes to the call by which a descriptor was opened: by the process, or by one from which it was forked. */
 export async function opened_by(pid, fd) {
-  const { line, view } = app, words = [];
+  const { view } = app, words = [];
   if (view.playing) ask("pause");
   known_of = `${app.booted.id} ${view.edits}`;
   let before = view.at, who = pid;
   for (;;) {
-    const k = await call_that_opened(who, fd, before);
-    if (k >= 0) {
-      const told = await told_at(line.at[k]);
-      ask("go", { place: line.at[k] });
-      say(`${[...words, `process ${who} opened descriptor ${fd} by ${told?.words ?? call_name(line.number[k])}`].join("; ")}: event ${grouped(line.at[k])}`);
+    const call = await call_that_opened(who, fd, before);
+    if (call) {
+      const told = await told_at(call.at);
+      ask("go", { place: call.at });
+      say(`${[...words, `process ${who} opened descriptor ${fd} by ${told?.words ?? call_name(call.number)}`].join("; ")}: event ${grouped(call.at)}`);
       return;
     }
-    const birth = birth_of(who, before);
-    if (birth < 0) { say([...words, `process ${who} had descriptor ${fd} when the machine was booted`].join("; ")); return; }
-    before = line.at[birth];
-    words.push(`process ${who} had it from its parent ${line.pid[birth]}, by the fork at event ${grouped(before)}`);
-    who = line.pid[birth];
+    const { parent, from } = app.line.lives.of(who);
+    if (!parent) { say([...words, `process ${who} had descriptor ${fd} when the machine was booted`].join("; ")); return; }
+    before = from;
+    words.push(`process ${who} had it from its parent ${parent}, by the fork at event ${grouped(before)}`);
+    who = parent;
   }
 }
 
@@ -224,6 +204,12 @@ export function start() {
   $("later").addEventListener("click", () => further(1));
   let at = -1;
   on("view", () => { if (app.view.at !== at) { at = app.view.at; anchor = null; } });
+  on("round told", ({ key, ...it }) => {
+    if (key !== asked_for) return;
+    found = { key, of: known_of, ...it };
+    if (app.view) draw();
+  });
+  on("last told", ({ id, found: it }) => { on_last.get(id)?.(it); on_last.delete(id); });
   on("events told", ({ key, list }) => {
     if (key !== known_of) return;
     for (const it of list) known.set(it.at, it);
@@ -240,5 +226,5 @@ export function start() {
   });
   $("store-address").addEventListener("keydown", (event) => { if (event.key === "Enter") $("back-store").click(); });
   $("seek-stop").addEventListener("click", () => ask("seek_no_more"));
-  on("booted", () => { drawn = filled = ""; anchor = null; known.clear(); seeks++; $("seek-stop").hidden = true; $("event-list").replaceChildren(); });
+  on("booted", () => { drawn = filled = asked_for = ""; anchor = null; known.clear(); seeks++; $("seek-stop").hidden = true; $("event-list").replaceChildren(); });
 }

@@ -129,7 +129,7 @@ function plain_words({ kind, number }, machine) {
 
 /** The event at a place of the record: {at, words, answer, woke, ends}; the run stands after it then. `ends`: the descriptors of a pipe. */
 export function told_event(run, place) {
-  const { machine, line } = run, k = line.find(place), event = { kind: line.kind[k], pid: line.pid[k], number: line.number[k], value: line.value[k] };
+  const { machine, line } = run, k = line.find(place), event = { kind: line.kind(k), pid: line.pid(k), number: line.number(k), value: line.value(k) };
   run.go(place);
   const slept = asleep(machine), is_call = event.kind === KIND.CALL || event.kind === KIND.WAIT || event.kind === KIND.EXIT;
   const call = is_call ? call_of(machine, event.pid) : null, reading = new Reading(run, event.pid);

@@ -79,7 +79,7 @@ export function calls_of(machine, pid, frames) {
 }
 
 /** Forward: plays on up to the end of the step. Answers words that say why it ended elsewhere, or nothing. */
-function forward(run, plan, { how, pid, ...known }, heard, halted) {
+function forward(run, plan, { how, pid, ...known }, halted) {
   const { machine } = run, from = standing(machine, pid, known), program = run.program_of(pid);
   if (!from) return "";
   const addresses = addresses_of(how, from, known, returns_of(machine, pid, known)), own = { addresses, bytes: [] }, none = { addresses: [], bytes: [] };
@@ -93,7 +93,6 @@ function forward(run, plan, { how, pid, ...known }, heard, halted) {
     else {
       if (halted()) return "process 1 is gone: nobody runs again";
       const told = plan.next(AT_ONCE, stops());
-      heard(told);
       kind = told.kind;
       idle = kind === KIND.IDLE ? idle + 1 : kind === KIND.TICK || kind === KIND.NONE ? idle : 0;
     }
@@ -116,7 +115,7 @@ function beginnings(run, from, to, pid, known) {
   note();
   for (let k = Math.max(0, line.find(run.at)); run.at < to && k < line.length; k++) {
     const end = Math.min(to, line.end_of(k));
-    if (line.pid[k] !== pid || line.kind[k] !== KIND.STEP) { run.replay(end); note(); continue; }
+    if (line.pid(k) !== pid || line.kind(k) !== KIND.STEP) { run.replay(end); note(); continue; }
     while (run.at < end) { const told = machine.run_to_stop(end - run.at, own); run.at += told.sent; if (told.met) note(); }
   }
   return found;
@@ -124,7 +123,7 @@ function beginnings(run, from, to, pid, known) {
 
 /** Back: goes to where the line before began, or the call of the function. */
 function backward(run, { how, pid, ...known }) {
-  const born = run.names_of.get(pid)?.findLast((it) => it.at <= run.at)?.at ?? 0;
+  const named = run.names.last_of(pid, run.at), born = named < 0 ? 0 : run.names.at[named];
   const here = run.at, from = standing(run.machine, pid, known) ?? { pc: 0n, line: "", frame: 0n };
   const fits = (it) => (how === "out" ? it.frame > from.frame : how === "into" || it.frame >= from.frame);
   let list = [];
@@ -142,6 +141,6 @@ function backward(run, { how, pid, ...known }) {
 }
 
 /** A step by a line; answers words that say why it ended elsewhere, or nothing. */
-export function line_step(run, plan, wants, heard, halted) {
-  return wants.back ? backward(run, wants) : forward(run, plan, wants, heard, halted);
+export function line_step(run, plan, wants, halted) {
+  return wants.back ? backward(run, wants) : forward(run, plan, wants, halted);
 }

@@ -1,5 +1,5 @@
 // How many instructions each process has made, up to a place of a run.
-import { KIND } from "./machine.mjs";
+import { is_made } from "./record.mjs";
 
 export class Made {
   /** At the beginning of a record; `edits` tells which one it is. */
@@ -9,20 +9,29 @@ export class Made {
     this.by = new Map();
   }
 
-  /** Goes to a place of the record, forth or back: only what lies between is looked at. */
+  /** Goes to a place of the record, forth or back: what lies between is added up, or taken away; whole blocks by their sums. */
   go(line, to) {
-    for (let k = line.find(this.at); this.at < to; k++) this.add(line, k, Math.min(line.end_of(k), to));
-    for (let k = line.find(this.at - 1); this.at > to; k--) this.add(line, k, Math.max(line.at[k], to));
+    const sign = to > this.at ? 1 : -1;
+    while (this.at !== to) {
+      const number = line.number_of(sign > 0 ? this.at : this.at - 1), ends = [line.start(number), line.end_of_block(number)], [begin, end] = sign > 0 ? ends : ends.reverse();
+      if (line.over[number] && this.at === begin && sign * (to - end) >= 0) {
+        const { pids, made } = line.over[number];
+        pids.forEach((pid, k) => this.add(pid, sign * made[k]));
+        this.at = end;
+      } else this.within(line, sign, sign * (to - end) > 0 ? end : to);
+    }
   }
 
-  /** Goes to a place of a stretch. */
-  add(line, stretch, to) {
-    const kind = line.kind[stretch], pid = line.pid[stretch];
-    if (kind <= KIND.FAULT && kind !== KIND.WAIT) this.by.set(pid, this.of(pid) + to - this.at);
-    this.at = to;
+  /** Goes to a place of the same block, by its stretches. */
+  within(line, sign, to) {
+    for (let k = line.find(sign > 0 ? this.at : this.at - 1); this.at !== to; k += sign) {
+      const end = sign > 0 ? Math.min(line.end_of(k), to) : Math.max(line.at(k), to);
+      if (is_made(line.kind(k))) this.add(line.pid(k), end - this.at);
+      this.at = end;
+    }
   }
 
-  of(pid) {
-    return this.by.get(pid) ?? 0;
-  }
+  add(pid, count) { this.by.set(pid, this.of(pid) + count); }
+
+  of(pid) { return this.by.get(pid) ?? 0; }
 }

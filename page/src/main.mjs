@@ -18,6 +18,7 @@ import * as why from "./why.mjs";
 import * as lessons from "./lessons.mjs";
 import * as session from "./session.mjs";
 import * as happened from "./happened.mjs";
+import * as parts from "./parts.mjs";
 import * as translate from "./translate.mjs";
 import * as manual from "./manual.mjs";
 import * as slides from "./slides.mjs";
@@ -47,14 +48,18 @@ function redraw() {
   tell("panels");
 }
 
+function take_events({ from, text, open }) {
+  app.events = { text: app.events.text.slice(0, from) + text, open };
+}
+
 function take_names({ from, list }) {
   if (from === 0) app.names = new Map();
   for (const { pid, place } of list) app.names.set(pid, place);
 }
 
 function take_view(view) {
-  if (view.anew) app.line = new Listed();
   app.line.take(view.line);
+  take_events(view.events);
   take_names(view.names);
   take_text(view.text);
   if (view.faults) app.faults = view.faults;
@@ -81,18 +86,22 @@ function take_view(view) {
 /** Another machine: nothing of the one before is drawn any more. */
 function take_boot({ id, took }) {
   app.booted = { ...programs.booting(id), id, took };
-  Object.assign(app, { view: null, line: new Listed(), names: new Map(), text: text_room.subarray(0, 0), faults: [], chosen: 0 });
+  Object.assign(app, { view: null, line: new Listed(), events: { text: "", open: "" }, names: new Map(), text: text_room.subarray(0, 0), faults: [], chosen: 0 });
   tell("booted");
   look();
 }
 
 function heard({ data }) {
   if (data.view) take_view(data.view);
+  else if (data.stretches) app.line.take(data.stretches);
+  else if (data.part) { if (parts.take(data.part)) redraw(); }
   else if (data.booted) take_boot(data.booted);
   else if (data.refused) programs.refused(data.refused);
   else if (data.replayed) tell("replayed", data.replayed);
   else if (data.assembled) tell("assembled", data.assembled);
   else if (data.events_told) tell("events told", data.events_told);
+  else if (data.round) tell("round told", data.round);
+  else if (data.last_told) tell("last told", data.last_told);
   else if (data.explained) tell("explained", data.explained);
   else if (data.calls_told) tell("calls told", data.calls_told);
   else if (data.sought) tell("sought", data.sought);
@@ -163,7 +172,7 @@ function begin() {
   app.worker = new Worker(URL.createObjectURL(new Blob([DATA.worker], { type: "text/javascript" })));
   app.worker.onmessage = heard;
   app.worker.onerror = (event) => { programs.refuse(event.message); console.error(event.message); };
-  for (const part of [terminal, editor, works, time, breaks, processes, instruction, c_source, pages, opened, why, programs, sharing, lessons, session, happened, translate, manual, slides, first]) part.start();
+  for (const part of [terminal, editor, works, time, breaks, processes, instruction, c_source, pages, opened, why, programs, sharing, lessons, session, happened, parts, translate, manual, slides, first]) part.start();
   tabs();
   keep_clear();
   on("ready", async () => {

@@ -3,6 +3,7 @@
 import { $, app, ask, once, say } from "./app.mjs";
 import { all_calls } from "./calls.mjs";
 import { way_of } from "./reach.mjs";
+import { keys_in } from "./spans.mjs";
 import { machine_of, shipped_files } from "./works.mjs";
 import { events_shown, show_events } from "./happened.mjs";
 import { translate } from "./translate.mjs";
@@ -111,12 +112,12 @@ export function seen_now() {
 
 /** A short link to what is shown: if its run is one of an example as it was shipped, in rounds, whose keys were typed at the start. Else null. */
 export function short_place() {
-  const { work, booted, view, line } = app, { example, machine } = work;
+  const { work, booted, view } = app, { example, machine } = work;
   const name = example ?? Object.keys(DATA.examples).find((it) => work.name === `${it}, as a link has it`);
   if (!name || !booted?.how.rounds || booted.work !== work.name || !view) return null;
   const shipped = shipped_files(name), is_same = (it, own) => it.name === own.name && (it.text === undefined ? own.built_in : it.text === own.text);
   const is_shipped = work.files.length === shipped.length && shipped.every((it, k) => is_same(it, work.files[k])) && booted.files.every((it) => it.text === undefined || it.text === it.from.text);
-  const keys = programs.keys_of(machine.keys), is_typed = line.marks.key.some((stretch, k) => line.number[stretch] !== keys[k]);
+  const keys = programs.keys_of(machine.keys), is_typed = keys_in(app.events).some((it, k) => it !== keys[k]);
   if (!is_shipped || is_typed || booted.config.frames !== Number(machine.frames) || booted.how.quantum !== Number(machine.quantum)) return null;
   const words = new URLSearchParams({ example: name }), usual = machine_of({ ...DATA.examples[name], rounds: true });
   if (Number(machine.frames) !== Number(usual.frames)) words.set("frames", machine.frames);

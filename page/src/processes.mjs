@@ -1,7 +1,6 @@
 // The processes: a tree by parents, with what each does, and beside it the picture of turns.
 import { $, app, ask, bytes_words, color_of, element, fresh, grouped, in_time, on, program_name, style_of } from "./app.mjs";
 import { KIND } from "./machine.mjs";
-import { call_name } from "./calls.mjs";
 import { range } from "./time.mjs";
 
 /** In which call a process sleeps, and on what: the report's words, without who could wake it. */
@@ -79,23 +78,10 @@ function draw() {
 
 // ---- the picture of turns
 
-/** The lives of all processes of the run: {pid, parent, from, to, end, reaped, by}, in the order of their birth. */
-function lives() {
-  const { line } = app;
-  if (lives.edits !== app.view.edits || lives.done > line.length) { lives.by = new Map([[1, { pid: 1, parent: 0, from: 0, to: Infinity, reaped: Infinity }]]); lives.done = 0; lives.edits = app.view.edits; }
-  for (; lives.done < line.length; lives.done++) {
-    const k = lives.done, kind = line.kind[k], pid = line.pid[k];
-    if (kind === KIND.CALL && call_name(line.number[k]) === "fork" && line.value[k] > 0) lives.by.set(line.value[k], { pid: line.value[k], parent: pid, from: line.at[k], to: Infinity, reaped: Infinity });
-    else if (kind === KIND.EXIT || kind === KIND.FAULT) { const it = lives.by.get(pid); if (it) { it.to = line.at[k]; it.end = kind; } }
-    else if (kind === KIND.CALL && call_name(line.number[k]) === "wait" && line.value[k] > 0) { const it = lives.by.get(line.value[k]); if (it) { it.reaped = line.at[k]; it.by = pid; } }
-  }
-  return [...lives.by.values()];
-}
-
-/** So many of these lives at most: those that are nearest to a place of the run, first those that go on there. */
+/** So many of these pids at most: those whose lives are nearest to a place of the run, first those that go on there. */
 function fitting(all, most, at) {
   if (all.length <= most) return all;
-  const distance = (it) => (it.from > at ? it.from - at : it.reaped < at ? at - it.reaped : 0);
+  const { from, reaped } = app.line.lives, distance = (pid) => (from[pid] > at ? from[pid] - at : reaped[pid] < at ? at - reaped[pid] : 0);
   const limit = Float64Array.from(all, distance).sort()[most - 1];
   let room = most - all.filter((it) => distance(it) < limit).length;
   return all.filter((it) => distance(it) < limit || (distance(it) === limit && room-- > 0));
@@ -188,7 +174,7 @@ function draw_life(draw, it, { view, from, to, x_of, bar, high, top_of }) {
 function draw_turns() {
   const canvas = $("turns"), { draw, width, height } = fresh(canvas), { view } = app, { from, to } = range();
   if (!view || width < 40) return;
-  const all = lives().filter((it) => it.from <= to && it.to >= from), shown = fitting(all, Math.max(2, Math.floor((height - 14) / 7)), view.at);
+  const { lives } = app.line, shown = fitting(lives.within(from, to), Math.max(2, Math.floor((height - 14) / 7)), view.at).map((pid) => lives.of(pid));
   const left = 74, scale = (width - left - 4) / (to - from), x_of = (at) => left + (Math.max(from, Math.min(to, at)) - from) * scale;
   const high = Math.min(26, (height - 14) / Math.max(1, shown.length)), bar = Math.max(2, high - 6), top_of = new Map(shown.map((it, k) => [it.pid, 4 + k * high]));
   const picture = { view, from, to, scale, x_of, bar, high, top_of };
@@ -213,7 +199,6 @@ export function start() {
   on("panels", () => { draw(); show_turns(); });
   on("zoom", () => { if (app.view) show_turns(); });
   on("booted", () => {
-    lives.edits = undefined;
     rows = new Map();
     order = "";
     $("process-rows").replaceChildren();

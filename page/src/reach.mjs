@@ -2,14 +2,16 @@
 // up to there by its plan, so the same programs in the same rounds come to the same place. It is done in the worker.
 import { KIND } from "./machine.mjs";
 import { call_name } from "./calls.mjs";
+import { bits_of } from "./record.mjs";
 
 const MOST = 400000000; // events that a link may lead through
 const STILL = 4; // ticks at which nobody may run, until that is how the run ends
 
 const NAMED = { turn: [KIND.TURN], tick: [KIND.TICK], key: [KIND.KEY], fault: [KIND.FAULT], exit: [KIND.EXIT], end: [KIND.EXIT, KIND.FAULT], asleep: [KIND.WAIT] };
 
-/** Whether an outcome is one of those that a word names: a kind of event, or a call that answers. */
-const is_named = (word, { kind, number }) => (NAMED[word] ? NAMED[word].includes(kind) : kind === KIND.CALL && call_name(number) === word);
+/** Whether an outcome of a kind may be one of those that a word names; and whether it is: a kind of event, or a call that answers. */
+const is_of = (word, kind) => (NAMED[word] ?? [KIND.CALL]).includes(kind);
+const is_named = (word, { kind, number }) => is_of(word, kind) && (NAMED[word] !== undefined || call_name(number) === word);
 
 /** What a link's `at` means, `120`, `fork`, `fork.2` or `last`, as {place}, {word, count}, or {is_last}; null if it means nothing. */
 export function way_of(text, calls) {
@@ -21,8 +23,8 @@ export function way_of(text, calls) {
 }
 
 export class Reach {
-  constructor(run, plan, to, heard) {
-    Object.assign(this, { run, plan, to, heard, left: to.count ?? 0, still: 0, still_from: null, is_there: false });
+  constructor(run, plan, to) {
+    Object.assign(this, { run, plan, to, left: to.count ?? 0, still: 0, still_from: null, is_there: false });
     if (to.place !== undefined && to.place <= run.end) { run.go(to.place); this.is_there = true; } else if (!this.is_in_record()) run.go(run.end);
     plan.find();
   }
@@ -30,10 +32,12 @@ export class Reach {
   /** Goes to the place after the event that is named, if the record has it already. */
   is_in_record() {
     const { run, to } = this, { line } = run;
-    for (let k = 0; to.word && k < line.length && !this.is_there; k++) {
-      if (!is_named(to.word, { kind: line.kind[k], number: line.number[k] }) || --this.left > 0) continue;
-      run.go(line.at[k] + 1);
+    if (!to.word) return false;
+    for (const k of line.along(0, 1, { kinds: bits_of((kind) => is_of(to.word, kind)) })) {
+      if (!is_named(to.word, { kind: line.kind(k), number: line.number(k) }) || --this.left > 0) continue;
+      run.go(line.at(k) + 1);
       this.is_there = true;
+      break;
     }
     return this.is_there;
   }
@@ -49,7 +53,6 @@ export class Reach {
     const { run, plan, to } = this;
     while (!this.is_over) {
       const told = plan.next(to.place === undefined ? 100000 : Math.min(100000, to.place - run.at));
-      this.heard(told);
       this.note(told);
       if (performance.now() > until && !this.is_over) return false;
     }

@@ -2,15 +2,20 @@
 // `at` events; the record may go on beyond, after a step back, and is cut there by the first event that differs.
 import { KIND, EVENT } from "./machine.mjs";
 import { Copies } from "./copies.mjs";
-import { Timeline } from "./timeline.mjs";
+import { Names } from "./names.mjs";
+import { Record } from "./record.mjs";
+import { Shown } from "./shown.mjs";
+import { Events } from "./spans.mjs";
 
 const STRETCH = 300; // instructions that take as long as a stretch takes to begin, by a replay: two microseconds
 const NEAR_EVENTS = 100000, NEAR_STRETCHES = 500; // a replay of so many takes a millisecond, less than to put a copy back
 const MOST_AT_ONCE = 1000000000; // Runs of one call of the module
 
 export class Run {
-  constructor(machine) {
+  /** `block_over` is told each block of the record that is over. */
+  constructor(machine, block_over = () => {}) {
     this.machine = machine;
+    this.block_over = block_over;
     this.copies = new Copies(machine);
     this.booted = false;
   }
@@ -23,11 +28,12 @@ export class Run {
     this.config = config;
     this.files = files;
     this.at = 0;
-    this.line = new Timeline();
-    this.shown = { at: new Float64Array(4096), bytes: new Uint8Array(4096), length: 0 };
-    this.names = [];
-    this.names_of = new Map();
-    this.ends = []; // the ends of processes, in their order: {at, pid, is_fault, number}
+    this.events = new Events();
+    this.line = new Record(this);
+    this.shown = new Shown();
+    this.names = new Names();
+    this.faults = []; // {at, pid, cause}, in their order
+    this.told = 0; // up to which place the page knows the record
     this.name(1);
     this.edits = 0;
     this.copies.begin();
@@ -42,10 +48,11 @@ export class Run {
   // ---- the record
 
   heard(event, told, count) {
+    this.events.add(event, event === EVENT.KEY ? told.number : 0, count);
     this.line.add(event, told, count);
     this.at += count;
     if (told.kind === KIND.CALL && told.value >= 0) this.heard_call(this.machine.kernel_calls.get(told.number), told);
-    if (told.kind === KIND.EXIT || told.kind === KIND.FAULT) this.ends.push({ at: this.at - 1, pid: told.pid, is_fault: told.kind === KIND.FAULT, number: told.number });
+    if (told.kind === KIND.FAULT) this.faults.push({ at: this.at - 1, pid: told.pid, cause: told.number });
     if (told.kind === KIND.HALTED || (told.pid === 1 && (told.kind === KIND.EXIT || told.kind === KIND.FAULT))) this.halted = true;
   }
 
@@ -59,45 +66,21 @@ export class Run {
   name(pid) {
     const place = this.machine.program(pid);
     if (place === null) return;
-    const name = { at: this.at, pid, place };
-    this.names.push(name);
-    if (!this.names_of.has(pid)) this.names_of.set(pid, []);
-    this.names_of.get(pid).push(name);
-  }
-
-  show(bytes) {
-    const { shown } = this;
-    for (const byte of bytes) {
-      if (shown.length === shown.at.length) {
-        const at = new Float64Array(2 * shown.length), all = new Uint8Array(2 * shown.length);
-        at.set(shown.at);
-        all.set(shown.bytes);
-        shown.at = at;
-        shown.bytes = all;
-      }
-      shown.at[shown.length] = this.at;
-      shown.bytes[shown.length++] = byte;
-    }
+    this.names.add(this.at, pid, place);
   }
 
   /** How many bytes the console has shown at this place. */
-  shown_count() {
-    const { shown } = this;
-    let low = 0, high = shown.length;
-    while (low < high) {
-      const middle = (low + high) >> 1;
-      if (shown.at[middle] <= this.at) low = middle + 1; else high = middle;
-    }
-    return low;
-  }
+  shown_count() { return this.shown.count(this.at); }
 
   /** Forgets what the record has beyond this place. */
   cut() {
     if (!this.is_past) return;
-    this.shown.length = this.shown_count();
+    this.shown.cut(this.at);
     this.line.cut(this.at);
-    while (this.names.length && this.names.at(-1).at > this.at) this.names_of.get(this.names.pop().pid).pop();
-    while (this.ends.length && this.ends.at(-1).at >= this.at) this.ends.pop();
+    this.events.cut(this.at);
+    this.names.cut(this.at);
+    this.faults = this.faults.filter((it) => it.at < this.at);
+    this.told = Math.min(this.told, this.at);
     this.copies.cut(this.at);
     this.edits++;
     this.halted = this.machine.facts().halted;
@@ -105,7 +88,10 @@ export class Run {
 
   /** The program that a process runs at this place, by its place in the list of files; null where it isn't known. */
   program_of(pid) {
-    return this.names_of.get(pid)?.findLast((it) => it.at <= this.at)?.place ?? null;
+    const place = pid ? this.machine.program(pid) : null;
+    if (place !== null) return place;
+    const k = this.names.last_of(pid, this.at);
+    return k < 0 ? null : this.names.place[k];
   }
 
   // ---- forward
@@ -116,7 +102,7 @@ export class Run {
     const told = this.machine.event(event, byte);
     if (event === EVENT.KEY) told.number = byte;
     this.heard(event, told, 1);
-    if (told.bytes.length) this.show(told.bytes);
+    for (const it of told.bytes) this.shown.add(it, this.at);
     this.keep();
     return told;
   }
@@ -124,17 +110,18 @@ export class Run {
   /** Sends Run, `most` times at most, and tells how many were sent and what came of the last. `stops`: it goes up to a stop at most. */
   run(most, stops = null) {
     this.cut();
-    const current = this.current;
-    if (!current && !this.halted) most = 1;
-    const { sent, last } = this.sent(most, stops);
-    if (last === null) this.heard(EVENT.RUN, { kind: KIND.STEP, pid: current, number: 0, value: 0 }, sent);
-    else if (last.kind === KIND.IDLE || last.kind === KIND.HALTED) this.heard(EVENT.RUN, last, sent);
-    else {
-      if (sent > 1) this.heard(EVENT.RUN, { kind: KIND.STEP, pid: current, number: 0, value: 0 }, sent - 1);
-      this.heard(EVENT.RUN, last, 1);
-    }
+    const { sent, last } = this.runs(most, stops, (told, count) => this.heard(EVENT.RUN, told, count));
     this.keep();
     return { sent, kind: last === null ? KIND.STEP : last.kind, last };
+  }
+
+  /** Sends Run, and calls with each outcome and how many have come of it. */
+  runs(most, stops, hear) {
+    const { current } = this, some = current || this.machine.facts().halted ? most : 1, { sent, last } = this.sent(some, stops);
+    const is_same = last !== null && (last.kind === KIND.IDLE || last.kind === KIND.HALTED), done = last === null ? sent : is_same ? 0 : sent - 1;
+    if (done > 0) hear({ kind: KIND.STEP, pid: current, number: 0, value: 0 }, done);
+    if (last !== null) hear(last, sent - done);
+    return { sent, last };
   }
 
   /** Sends Run: {sent, last}, where `last` is null if each is a done instruction; up to a stop, if there are stops. */
@@ -144,29 +131,33 @@ export class Run {
     return told.last?.kind === KIND.STEP ? { ...told, last: null } : told;
   }
 
-  /** Sends again what the record has next, up to a place. `stops`: tells those of the process that runs; then it goes on up to one, and tells whether it stands there. */
-  replay(to, stops = null) {
-    const { line, machine } = this;
-    const until = Math.min(to, line.end);
-    let place = line.find(this.at);
-    while (this.at < until) {
-      const event = line.event[place];
-      let stop = line.end_of(place);
-      if (event !== EVENT.RUN) {
-        for (; this.at < Math.min(stop, until); this.at++) machine.event(event, event === EVENT.KEY ? line.number[place] : 0);
-        place++;
-      } else {
-        while (place + 1 < line.length && line.event[place + 1] === EVENT.RUN && stop < until) stop = line.end_of(++place);
-        stop = Math.min(stop, until);
-        while (this.at < stop) {
-          const told = this.sent(Math.min(stop - this.at, MOST_AT_ONCE), stops?.() ?? null);
-          this.at += told.sent;
-          if (told.met) return true;
-        }
-        place++;
+  /**
+   * Sends again what the record has next, up to a place. `stops`: tells those of the process that runs; then it goes on up to one, and tells
+   * whether it stands there. `hear` is called with each event, what came of it, and how many.
+   */
+  replay(to, stops = null, hear = null) {
+    const until = Math.min(to, this.end);
+    if (this.at >= until) return false;
+    for (const { event, byte, end } of this.events.from(this.at)) {
+      for (const stop = Math.min(end, until); this.at < stop; ) {
+        const told = event === EVENT.RUN ? this.run_again(stop, stops, hear) : this.send_again(event, byte, hear);
+        this.at += told.sent;
+        if (told.met) return true;
       }
+      if (this.at >= until) break;
     }
     return false;
+  }
+
+  run_again(stop, stops, hear) {
+    const most = Math.min(stop - this.at, MOST_AT_ONCE);
+    return hear ? this.runs(most, null, (told, count) => hear(EVENT.RUN, told, count)) : this.sent(most, stops?.() ?? null);
+  }
+
+  send_again(event, byte, hear) {
+    const told = this.machine.event(event, byte);
+    hear?.(event, event === EVENT.KEY ? { ...told, number: byte } : told, 1);
+    return { sent: 1, met: false };
   }
 
   // ---- copies of the machine, to come back fast
@@ -183,13 +174,16 @@ export class Run {
 
   /** A place a little before another: the way from there to it is short. */
   shortly_before(place) {
-    const stretch = this.line.find(place - 1) - NEAR_STRETCHES;
-    return Math.max(0, place - NEAR_EVENTS, stretch > 0 ? this.line.at[stretch] : 0);
+    const { line } = this, stretch = line.find(place - 1) - NEAR_STRETCHES;
+    return Math.max(0, place - NEAR_EVENTS, stretch > 0 ? line.at(stretch) : 0);
   }
 
   /** Goes to a place of the record. On a long way a copy is kept a little before the place: steps back from there are short. */
   go(place) {
-    const to = Math.max(0, Math.min(place, this.line.end)), copy = this.copies.before(to), near = this.shortly_before(to);
+    const { line } = this, to = Math.max(0, Math.min(place, this.end)), number = line.number_of(Math.max(0, to - 1));
+    // What came of the events round the place is wanted too: if it isn't at hand, it is heard on the way.
+    if (!line.has(number)) line.make(number, Math.max(line.start(number), to - NEAR_EVENTS));
+    const copy = this.copies.before(to), near = this.shortly_before(to);
     if (to < this.at || copy.at > this.at) this.restore(copy);
     if (this.at < near) {
       this.replay(near);
@@ -198,14 +192,29 @@ export class Run {
     this.replay(to);
   }
 
-  /** Looks at the machine as it was at another place, and comes back. */
-  look(place, at_it) {
-    const here = this.copies.copy(this.at, 0);
-    this.go(place);
-    const found = at_it();
+  /** Goes over a part of the record again, and calls with what comes of it. A copy is kept at a place of it, if one is given. */
+  over_again(from, to, near, hear) {
+    const copy = this.copies.before(from);
+    if (from < this.at || copy.at > this.at) this.restore(copy);
+    this.replay(from);
+    if (near !== null) {
+      this.replay(near, null, hear);
+      this.copies.keep_near(this.at);
+    }
+    this.replay(to, null, hear);
+  }
+
+  /** Does something elsewhere in the run, and comes back. */
+  aside(action) {
+    const here = this.copies.copy(this.at, 0), found = action();
     this.restore(here);
     this.copies.give_up(here);
     return found;
+  }
+
+  /** Looks at the machine as it was at another place, and comes back. */
+  look(place, at_it) {
+    return this.aside(() => { this.go(place); return at_it(); });
   }
 }
 
@@ -227,21 +236,20 @@ export class Plan {
 
   /** Finds where in a round the record ends. */
   find() {
-    const { line } = this.run;
+    const { events, line } = this.run;
     this.runs = 0;
     this.sends = 0;
     this.keyed = false;
     this.ticked = false;
-    for (let place = line.length - 1; place >= 0; place--) {
-      const event = line.event[place], count = line.end_of(place) - line.at[place];
+    for (const { event, at, end } of events.back()) {
       if (event === EVENT.TICK) { this.ticked = true; break; }
-      if (event === EVENT.SEND) this.sends += count;
+      if (event === EVENT.SEND) this.sends += end - at;
       else if (event === EVENT.KEY) this.keyed = true;
-      else this.runs += count;
+      else this.runs += end - at;
     }
     if (this.sends >= 32 || !this.ticked) { this.ticked = false; this.sends = 0; }
     else if (this.runs > 0 || this.keyed) this.ticked = false;
-    this.is_idle = line.length > 0 && line.kind[line.length - 1] === KIND.IDLE;
+    this.is_idle = line.length > 0 && line.kind(line.length - 1) === KIND.IDLE;
   }
 
   /** Keys that are typed: each is handed over once the console has room for it. */

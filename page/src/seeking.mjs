@@ -10,7 +10,7 @@ const MOST_STRETCHES = 20000; // of a part
 /** Where the part begins that ends before a place. */
 function start_of_part(line, to, most) {
   const first = line.find(to - 1) - MOST_STRETCHES;
-  return Math.max(0, to - most, first > 0 ? line.at[first] : 0);
+  return Math.max(0, to - most, first > 0 ? line.at(first) : 0);
 }
 
 /** Goes from a place to another, and calls for each stretch between with how far it goes: that call is to bring the run there. */
@@ -45,14 +45,14 @@ function store_in(run, from, to, pid, address) {
   const { line, machine } = run;
   let found = null;
   through(run, from, to, (k, end) => {
-    const kind = line.kind[k], own = line.pid[k] === pid, name = kind === KIND.CALL ? call_name(line.number[k]) : "";
+    const kind = line.kind(k), own = line.pid(k) === pid, name = kind === KIND.CALL ? call_name(line.number(k)) : "";
     if (own && kind === KIND.STEP) search(run, end, UNTIL.STORE, 0, address, (at) => { found = { place: at - 1, words: "a store of the program" }; });
     else if (own && kind === KIND.CALL) {
-      const { words } = call_of(machine, pid), place = run.at, what = call_stored(name, words, line.value[k], address);
+      const { words } = call_of(machine, pid), place = run.at, what = call_stored(name, words, line.value(k), address);
       run.replay(end);
       if (what) found = { place, words: what };
     } else {
-      if (name === "fork" && line.value[k] === pid) found = { place: run.at, parent: line.pid[k] };
+      if (name === "fork" && line.value(k) === pid) found = { place: run.at, parent: line.pid(k) };
       run.replay(end);
     }
   });
@@ -68,10 +68,10 @@ function stop_in(run, from, to, before, breaks) {
   const note = (place, words) => { if (place < before && (!found || place >= found.place)) found = { place, words }; };
   for (const it of breaks) {
     through(run, from, to, (k, end) => {
-      const kind = line.kind[k], pid = line.pid[k];
+      const kind = line.kind(k), pid = line.pid(k);
       if (it.kind === "call") {
         run.replay(end);
-        if ((kind === KIND.CALL || kind === KIND.WAIT) && line.number[k] === it.number) note(end, `after ${it.name}`);
+        if ((kind === KIND.CALL || kind === KIND.WAIT) && line.number(k) === it.number) note(end, `after ${it.name}`);
       } else if (kind === KIND.STEP && fits(it, pid)) {
         const is_store = it.kind === "store";
         search(run, end, is_store ? UNTIL.STORE : UNTIL.AT, is_store ? 0 : pid, it.address, (at) => note(is_store ? at - 1 : at, is_store ? `before a store to ${it.name}` : `at ${it.name}`));

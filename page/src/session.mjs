@@ -3,6 +3,7 @@
 import { $, app, ask, grouped, on, say } from "./app.mjs";
 import { keep, keep_here, kept, kept_here } from "./kept.mjs";
 import { flush } from "./works.mjs";
+import { keys_in } from "./spans.mjs";
 import { play_again, run_now } from "./sharing.mjs";
 import * as editor from "./editor.mjs";
 import * as lessons from "./lessons.mjs";
@@ -70,7 +71,7 @@ let before = null; // the run that the last boot has ended, if keys were typed i
 
 /** Notes the run that is left: what was typed in it isn't lost. */
 function leave() {
-  if (!app.line.marks.key.length) return;
+  if (!keys_in(app.events).length) return;
   const run = run_now(true);
   if (run) before = { work: app.booted.work, run: { ...run, plays: false } };
   offer();

@@ -1,7 +1,7 @@
 // Sharing: a run as a link, as a file that the page opens, and as a record that the terminal plays too.
 import { $, app, ask, base64, element, grouped, once, say, tell } from "./app.mjs";
 import { EVENT } from "./machine.mjs";
-import { spans_of, text_of } from "./spans.mjs";
+import { spans_of } from "./spans.mjs";
 import { bytes_of_file, packed_file, touch, unpacked_file, work_of } from "./works.mjs";
 import { arrive, follow_place, is_slide, seen_now, short_place, words_of } from "./places.mjs";
 import { manual_place, open_manual } from "./manual.mjs";
@@ -16,26 +16,16 @@ const MOST_STRETCHES = 1000000;
 
 // ---- the run that the page has, as a value that can be kept
 
-const events = { key: "", text: "", open: [], place: 0 }; // what was told of a record: its text, the span that may go on, and how many stretches these are
-/** The events of the record as a text. What was told of it before is not looked at again: a long record has millions. */
-function events_now() {
-  const { booted, view, line } = app, key = `${booted.id} ${view.edits}`, settled = Math.max(0, line.length - 1);
-  if (events.key !== key || events.place > settled) Object.assign(events, { key, text: "", open: [], place: 0 });
-  const spans = line.spans(events.place, settled, events.open), open = spans.splice(-1);
-  Object.assign(events, { text: events.text + text_of(spans), open, place: settled });
-  return events.text + text_of(line.spans(settled, line.length, structuredClone(open)));
-}
-
 /** The run of the machine, up to where its record goes: its files, settings and events, and the place; null if there is none, or it is too long. `is_whole`: with all its files, also those of the list. */
 export function run_now(is_whole = false) {
-  const { booted, view, line } = app;
-  if (!booted || !view || line.end > MOST_EVENTS || line.length > MOST_STRETCHES) return null;
+  const { booted, view, events } = app;
+  if (!booted || !view || view.end > MOST_EVENTS || view.stretches > MOST_STRETCHES) return null;
   // A file that was edited since is not what the machine has.
   const files = booted.files.map(({ name, from, text }) => {
     const place = app.files.indexOf(from);
     return place >= 0 && from.text === text && !is_whole ? { name, place } : { name, file: packed_file(text !== undefined ? { name: from.name, text } : from) };
   });
-  return { built: DATA.built, files, frames: booted.config.frames, how: booted.how, events: events_now(), end: line.end, stretches: line.length, at: view.at, keys: view.waiting_keys ?? [], plays: view.playing };
+  return { built: DATA.built, files, frames: booted.config.frames, how: booted.how, events: events.text + events.open, end: view.end, stretches: view.stretches, at: view.at, keys: view.waiting_keys ?? [], plays: view.playing };
 }
 
 /** The files of the list that a kept run names: {name, from} of each. */

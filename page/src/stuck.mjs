@@ -1,6 +1,5 @@
 // A deadlock: whether nobody can go on, and in which calls all of them sleep.
 import { app, program_name } from "./app.mjs";
-import { KIND } from "./machine.mjs";
 import { call_name } from "./calls.mjs";
 
 const ENDS = { read: 3, write: 4 }; // the kind of a descriptor that a call waits for, if that is a pipe's end
@@ -26,10 +25,3 @@ export const stuck_words = (list) => `nobody can go on: ${list.slice(0, 4).map((
 
 /** The process whose sleep tells most: one that waits for a pipe, before those that wait for children. */
 export const first_of = (list) => list.find((it) => call_name(it.call.number) !== "wait") ?? list[0];
-
-/** The place of the event by which a process fell asleep; null where the record doesn't have it. */
-export function place_of_sleep(pid) {
-  const { line, view } = app, own = line.work_of.get(pid) ?? [];
-  for (let k = own.length - 1; k >= 0; k--) if (line.kind[own[k]] === KIND.WAIT && line.at[own[k]] < view.at) return line.at[own[k]];
-  return null;
-}

@@ -98,13 +98,16 @@ function draw_slider() {
   triangle(draw, x, height - 7, 7);
 }
 
-/** What came of the event at a place, in words. */
-export function event_words(place) {
+/** What came of the event at a place, in words; none if the page doesn't have it. */
+function event_words(place) {
   const { line } = app, found = line.find(place);
-  if (found < 0) return "";
-  const pid = line.pid[found], number = line.number[found], value = line.value[found];
+  return found < 0 || !line.has(place, place) ? "" : words_of_event({ kind: line.kind[found], pid: line.pid[found], number: line.number[found], value: line.value[found] });
+}
+
+/** An outcome in words. */
+export function words_of_event({ kind, pid, number, value }) {
   const who = `process ${pid}`;
-  switch (line.kind[found]) {
+  switch (kind) {
     case KIND.STEP: return `${who}: an instruction`;
     case KIND.CALL: return `${who}: ${call_name(number)} answers ${value}`;
     case KIND.WAIT: return `${who} waits in ${call_name(number)}`;
@@ -161,7 +164,8 @@ function told() {
   write($("play"), view.playing ? "❚❚ Pause" : "▶ Play");
   const past = view.at < view.end, state = facts.halted ? `ended with ${facts.status}` : facts.current ? `${program_name(view.program)} (${facts.current}) runs` : "nobody runs";
   write(clock.words, `event ${grouped(view.at)}${past ? ` of ${grouped(view.end)}` : ""} · tick ${grouped(facts.clock)} · ${state}`);
-  write(clock.last, !view.playing && view.at > 0 ? ` · last: ${event_words(view.at - 1)}` : "");
+  const last = view.playing || view.at === 0 ? "" : event_words(view.at - 1);
+  write(clock.last, last && ` · last: ${last}`);
   const stopped = !view.playing && view.stopped !== "paused" ? view.stopped : "";
   write(clock.between, stopped ? " · " : "");
   write(clock.stopped, stopped);

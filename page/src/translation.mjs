@@ -1,5 +1,6 @@
 // The translation of an address by the page table of a process, and the last trap of a process, as the module tells them: for the worker.
 import { KIND } from "./machine.mjs";
+import { bits_of } from "./record.mjs";
 
 const TRAPFRAME = 2, ROOT = 3, MIDDLE = 4, LAST = 5;
 
@@ -29,10 +30,11 @@ export function translation(machine, count, pid, address) {
 /** The last trap of a process before a place, that where the run stands if no other is given: {at, kind, number, pc, address}; null if it had none. */
 export function last_trap(run, pid, before = run.at) {
   const { line, machine } = run;
-  for (let k = line.find(before - 1); k >= 0; k--) {
-    const kind = line.kind[k];
-    if (line.pid[k] !== pid || kind === KIND.STEP || kind > KIND.FAULT) continue;
-    const at = line.at[k], number = line.number[k];
+  const is_trap = (kind) => kind !== KIND.STEP && kind <= KIND.FAULT;
+  for (const k of line.along(line.find(before - 1), -1, { kinds: bits_of(is_trap), pid })) {
+    const kind = line.kind(k);
+    if (line.pid(k) !== pid || !is_trap(kind)) continue;
+    const at = line.at(k), number = line.number(k);
     return run.look(at, () => {
       const process = machine.process(pid), pc = machine.register(pid, 0);
       // A call that was begun before has moved the pc behind its ecall.

@@ -1,6 +1,7 @@
 // Why: each fault of the run, and who sleeps on what and who could wake it, in the words of the proved report (crates/xv_report).
 import { $, app, ask, element, grouped, on, tell, write } from "./app.mjs";
-import { first_of, place_of_sleep, stuck, stuck_words } from "./stuck.mjs";
+import { last_event } from "./happened.mjs";
+import { first_of, stuck, stuck_words } from "./stuck.mjs";
 import * as editor from "./editor.mjs";
 import { hex } from "./words.mjs";
 
@@ -27,12 +28,12 @@ function translate_fault({ at, pid, told }) {
 }
 
 /** Goes to the call in which a process sleeps, and to its line. */
-function see_sleep({ pid, program }) {
-  const place = place_of_sleep(pid);
+async function see_sleep({ pid, program }) {
   globalThis.show_tab("why");
-  if (place === null) return;
+  const sleep = await last_event(app.view.at, { what: "sleeps", pid });
+  if (!sleep) return;
   app.chosen = pid;
-  go_and_show(place, program);
+  go_and_show(sleep.at, program);
 }
 
 const texts = new Map(); // the reports of faults, by their places

@@ -2,6 +2,9 @@
 import { Machine, KIND, EVENT } from "./machine.mjs";
 import { Made } from "./made.mjs";
 import { Run, Plan } from "./run.mjs";
+import { bits_of } from "./record.mjs";
+import { spans_of } from "./spans.mjs";
+import { last_of, round } from "./rounds.mjs";
 import { store_width } from "./words.mjs";
 import { calls_of, line_step } from "./line_steps.mjs";
 import { learn_calls } from "./calls.mjs";
@@ -20,17 +23,17 @@ const MOST_FUTURES = 8;
 const MOST_WAITING = 20000; // keys that wait, of which the page is told
 const ASKED = 60; // ms that the page's questions about events may take, before other messages are heard
 const EVENTS_AT_ONCE = 4; // events that are looked at from one copy of the machine
+const ROUND = 2000, MOST_OF_PART = 32768; // stretches round a place of which the page is told, and of a part that it shows
 
 let machine = null, run = null, plan = null;
 let settings = { rounds: false, quantum: 1000, speed: 0 };
 let playing = false, timer = 0, turn = 0, next_tick = 0, owed = 0, slice_from = 0;
-let wanted = { pid: 1, panels: {}, memory: null, translate: 0n, told: 0, named: 0, shown: 0, faults: -1, edits: -1 };
+let wanted = { pid: 1, panels: {}, memory: null, translate: 0n, named: 0, shown: 0, text: 0, faults: -1, edits: -1 };
 let breaks = [];
 let next_whole = 0;
 let stopped = "";
 let made = new Made();
-let faults = [];
-let futures = []; // what keys that were typed in the past have cut off, in their order: {at, end, spans}
+let futures = []; // what keys that were typed in the past have cut off, in their order: {at, end, text}; `text`: the events from there on
 let ended = null; // the last process as it ended, if none lives: what was told of it last
 let trap = { key: "", told: null }; // the last trap of the process that is looked at
 let search = null; // a search back in the run, which goes on part by part
@@ -110,14 +113,22 @@ function files(list) {
   return { descriptors, pipes: [...pipes.values()], console: [0, 1, 2].map((list) => machine.console(list)) };
 }
 
-/** What came of the run since the last view: stretches, names of programs, and bytes that the console has shown. */
+/** The stretches of the block that may go on, or of one that is over, of which the page doesn't know. */
+function new_stretches(block) {
+  // The last one that was told may have gone on.
+  const part = block.part(Math.max(0, block.find(Math.max(run.told - 1, block.start))));
+  run.told = block.end;
+  return part;
+}
+
+/** What came of the run since the last view: stretches, events, names of programs, and bytes that the console has shown. */
 function news() {
-  const { line, names } = run, anew = wanted.edits !== run.edits, shown = run.shown_count();
-  if (anew) Object.assign(wanted, { told: 0, named: 0, shown: 0, faults: -1, edits: run.edits });
-  // The last stretch that was told may have gone on.
-  const from = Math.max(0, wanted.told - 1), text_from = Math.min(wanted.shown, shown);
-  const told = { anew, shown, line: line.part(from), names: { from: wanted.named, list: names.slice(wanted.named) }, text: { from: text_from, bytes: run.shown.bytes.slice(text_from, shown) } };
-  Object.assign(wanted, { told: line.length, named: names.length, shown });
+  const { line, names, events } = run, anew = wanted.edits !== run.edits, shown = run.shown_count();
+  if (anew) Object.assign(wanted, { named: 0, shown: 0, text: 0, faults: -1, edits: run.edits });
+  const text_from = Math.min(wanted.shown, shown), list = [];
+  for (let k = wanted.named; k < names.length; k++) list.push({ pid: names.pid[k], place: names.place[k] });
+  const told = { anew, shown, line: new_stretches(line.last), stretches: line.length, events: events.text(wanted.text), names: { from: wanted.named, list }, text: { from: text_from, bytes: run.shown.bytes.slice(text_from, shown) } };
+  Object.assign(wanted, { named: names.length, shown, text: events.length });
   return told;
 }
 
@@ -150,14 +161,22 @@ function trap_of(pid) {
   return trap.told;
 }
 
+/** The end of a process before this place, of pid 0 that which was last: {at, pid, is_fault, number}. */
+function end_before(of_pid) {
+  const { line } = run, is_end = (kind) => kind === KIND.EXIT || kind === KIND.FAULT;
+  for (const k of line.along(line.find(run.at - 1), -1, { kinds: bits_of(is_end), pid: of_pid })) {
+    if (is_end(line.kind(k)) && (!of_pid || line.pid(k) === of_pid)) return { at: line.at(k), pid: line.pid(k), is_fault: line.kind(k) === KIND.FAULT, number: line.number(k) };
+  }
+  return null;
+}
+
 /** A process as it ended, with what the panels show of it, and the frames as they were then; of pid 0 that which ended last. */
 function as_it_ended(of_pid, { panels, memory, translate }) {
-  const end = run.ends.findLast((it) => it.at < run.at && (of_pid === 0 || it.pid === of_pid));
+  const end = end_before(of_pid);
   if (!end) return null;
   const { at, pid } = end, key = JSON.stringify([run.edits, at, pid, panels, String(memory), String(translate)]);
   if (ended?.key === key) return ended.told;
-  const program = run.names_of.get(pid)?.findLast((it) => it.at <= at)?.place ?? null;
-  const told = run.look(at, () => ({ pid, ended: { ...end, program }, ...process_panels(pid, panels), ...(panels.translate ? { trap: last_trap(run, pid, at + 1) } : {}), ...(panels.pages ? { frames: frames() } : {}) }));
+  const told = run.look(at, () => ({ pid, ended: { ...end, program: run.program_of(pid) }, ...process_panels(pid, panels), ...(panels.translate ? { trap: last_trap(run, pid, at + 1) } : {}), ...(panels.pages ? { frames: frames() } : {}) }));
   ended = { key, told };
   return told;
 }
@@ -186,8 +205,8 @@ function view() {
   const told = { at: run.at, end: run.end, facts, program: run.program_of(facts.current), playing, stopped, edits: run.edits, ...news() };
   if (!playing || told.anew || began >= next_whole) {
     told.whole = whole(facts.current);
-    if (faults.length !== wanted.faults) told.faults = why_of_faults();
-    wanted.faults = faults.length;
+    if (run.faults.length !== wanted.faults) told.faults = why_of_faults();
+    wanted.faults = run.faults.length;
     const took = performance.now() - began;
     next_whole = began + took + Math.max(WHOLE, WHOLE_REST * took);
   }
@@ -196,23 +215,14 @@ function view() {
 
 /** The faults of the record, each with the machine as it was before. */
 function why_of_faults() {
-  const { line } = run;
-  faults = faults.filter((it) => {
-    const place = line.find(it.at);
-    return place >= 0 && line.kind[place] === KIND.FAULT && line.at[place] === it.at && line.pid[place] === it.pid;
-  });
-  for (const fault of faults) {
+  for (const fault of run.faults) {
     if (fault.told) continue;
     fault.told = run.look(fault.at, () => {
       const { pid, cause } = fault;
       return { registers: machine.registers(pid), program: run.program_of(pid), address: machine.address(pid), cause, text: machine.fault_text(cause) };
     });
   }
-  return faults;
-}
-
-function heard(told) {
-  if (told && told.kind === KIND.FAULT) faults.push({ at: run.at - 1, pid: told.pid, cause: told.number });
+  return run.faults;
 }
 
 // ---- play
@@ -252,8 +262,9 @@ const looks_at_each = () => breaks.some((it) => it.kind !== "call");
 function stop_of_record(to) {
   const { line } = run;
   if (!breaks.some((it) => it.kind === "call")) return null;
-  for (let k = Math.max(0, line.find(run.at)); k < line.length && line.at[k] < to; k++) {
-    if (stops_on({ kind: line.kind[k], number: line.number[k] })) return Math.max(run.at, line.at[k]) + 1;
+  for (const k of line.along(Math.max(0, line.find(run.at)), 1, { kinds: bits_of((kind) => kind === KIND.CALL || kind === KIND.WAIT) })) {
+    if (line.at(k) >= to) return null;
+    if (stops_on({ kind: line.kind(k), number: line.number(k) })) return Math.max(run.at, line.at(k)) + 1;
   }
   return null;
 }
@@ -292,13 +303,12 @@ function piece(most) {
   }
   if (halted()) { stop("process 1 is gone: nobody runs again"); return false; }
   const stops = looks ? stops_of_current() : null, told = settings.rounds || settings.speed ? plan.next(some, stops) : plan.next_of_terminal(some, false, stops);
-  heard(told);
   if (stops_on(told)) { stop("at a kernel call"); return false; }
   return after_step();
 }
 /** Whether to go on after what was sent; a key or a byte that is sent leads no process to a break point at which it stands already. */
 function after_step() {
-  if (!looks_at_each() || run.line.event[run.line.find(run.at - 1)] !== EVENT.RUN) return true;
+  if (!looks_at_each() || run.line.event(run.line.find(run.at - 1)) !== EVENT.RUN) return true;
   const why = breaks_here();
   if (why === null) return true;
   stop(why);
@@ -362,9 +372,9 @@ const IS = {
 function forward(what) {
   const is = IS[what], { line } = run;
   if (run.is_past) {
-    for (let place = line.find(run.at); place >= 0 && place < line.length; place++) {
-      if (!is(line.kind[place])) continue;
-      run.go(Math.max(run.at, line.at[place]) + 1);
+    for (const k of line.along(line.find(run.at), 1, { kinds: bits_of(is) })) {
+      if (!is(line.kind(k))) continue;
+      run.go(Math.max(run.at, line.at(k)) + 1);
       return;
     }
     run.go(run.end);
@@ -374,7 +384,6 @@ function forward(what) {
   for (let sent = 0; sent < MOST; ) {
     if (halted()) { stopped = "process 1 is gone: nobody runs again"; return; }
     const before = run.at, told = plan.next(what === "step" ? 1 : 100000);
-    heard(told);
     sent += run.at - before;
     if (is(told.kind)) return;
     idle = told.kind === KIND.IDLE ? idle + 1 : told.kind === KIND.TICK || told.kind === KIND.NONE ? idle : 0;
@@ -386,9 +395,9 @@ function forward(what) {
 /** Goes back before the last event of this kind. */
 function backward(what) {
   const is = IS[what], { line } = run;
-  for (let place = line.find(run.at - 1); place >= 0; place--) {
-    if (!is(line.kind[place])) continue;
-    run.go(Math.min(run.at, line.end_of(place)) - 1);
+  for (const k of line.along(line.find(run.at - 1), -1, { kinds: bits_of(is) })) {
+    if (!is(line.kind(k))) continue;
+    run.go(Math.min(run.at, line.end_of(k)) - 1);
     return;
   }
   run.go(0);
@@ -398,7 +407,7 @@ function step(what, is_back) {
   playing = false;
   no_more();
   stopped = "";
-  if (what === "one") { if (is_back) run.go(run.at - 1); else if (run.is_past) run.go(run.at + 1); else heard(plan.next(1)); }
+  if (what === "one") { if (is_back) run.go(run.at - 1); else if (run.is_past) run.go(run.at + 1); else plan.next(1); }
   else if (is_back) backward(what);
   else forward(what);
   view();
@@ -413,7 +422,7 @@ function finish(rounds) {
   const ticks = machine.facts().clock + rounds;
   for (let sent = 0; sent < 40 * MOST && !halted() && machine.facts().clock < ticks; ) {
     const before = run.at;
-    heard(plan.next(1000000));
+    plan.next(1000000);
     sent += run.at - before;
   }
   view();
@@ -423,19 +432,16 @@ function finish(rounds) {
 
 /** Cuts off what the record has beyond this place. It can be taken back. */
 function cut_off() {
-  futures = [...futures.slice(1 - MOST_FUTURES), { at: run.at, end: run.end, spans: run.line.spans() }];
+  futures = [...futures.slice(1 - MOST_FUTURES), { at: run.at, end: run.end, text: run.events.text_from(run.at) }];
   run.cut();
   plan.find();
 }
 
-/** Sends the events of spans, but for so many at their beginning. */
-function send_again(spans, skipped = 0) {
-  let skip = skipped;
+/** Sends the events of spans. */
+function send_again(spans) {
   for (const [event, byte, count] of spans) {
-    const passed = Math.min(skip, count);
-    skip -= passed;
-    if (event === EVENT.RUN) for (let left = count - passed; left > 0; ) { const { sent, last } = run.run(Math.min(left, MOST)); heard(last); left -= sent; }
-    else for (let k = passed; k < count; k++) run.send(event, byte);
+    if (event === EVENT.RUN) for (let left = count; left > 0; ) left -= run.run(Math.min(left, MOST)).sent;
+    else for (let k = 0; k < count; k++) run.send(event, byte);
   }
 }
 
@@ -446,11 +452,11 @@ function take_back() {
   playing = false;
   no_more();
   stopped = "";
-  const typed = run.end > future.at ? [{ at: future.at, end: run.end, spans: run.line.spans() }] : [];
+  const typed = run.end > future.at ? [{ at: future.at, end: run.end, text: run.events.text_from(future.at) }] : [];
   plan.keys = [];
   run.go(future.at);
   run.cut();
-  send_again(future.spans, future.at);
+  send_again(spans_of(future.text));
   futures.push(...typed);
   plan.find();
   run.go(future.at);
@@ -504,7 +510,6 @@ function boot({ id, config, files, how = {}, keys = [], breaks: list }) {
     view();
     return false;
   }
-  faults = [];
   futures = [];
   ended = null;
   breaks = list;
@@ -520,7 +525,7 @@ function boot({ id, config, files, how = {}, keys = [], breaks: list }) {
 const obey = {
   module({ bytes }) {
     machine = new Machine(new WebAssembly.Module(bytes));
-    run = new Run(machine);
+    run = new Run(machine, (block) => { postMessage({ stretches: new_stretches(block) }); });
     learn_calls([...machine.kernel_calls]);
     postMessage({ ready: [...machine.kernel_calls] });
   },
@@ -553,10 +558,18 @@ const obey = {
   },
   breaks({ list }) { breaks = list; },
   tell_events,
+  /** Tells the events round a place that are wanted. */
+  round({ key, place, wants }) { if (run?.booted) postMessage({ round: { key, ...round(run.line, Math.min(place, run.end), wants, playing) } }); },
+  /** Tells the last event before a place that is wanted; null if there is none. */
+  last_of({ id, before, wants }) { postMessage({ last_told: { id, found: run?.booted ? last_of(run.line, Math.min(before, run.end), wants) : null } }); },
+  /** Tells the stretches of a part that the page shows, or round the place where the run stands, of which it has but some. */
+  stretches({ name, key, from, to }) {
+    if (run?.booted) postMessage({ part: { name, key, part: run.line.part(from, to, name === "place" ? ROUND : 0, MOST_OF_PART) } });
+  },
   /** Tells a fault in the words of the report, with what is known of its program's source. */
   explain({ at, known }) {
     if (!run?.booted || at >= run.end) return;
-    const fault = faults.find((it) => it.at === at);
+    const fault = run.faults.find((it) => it.at === at);
     if (fault?.told) postMessage({ explained: { at, edits: run.edits, text: run.look(at, () => { machine.know(fault.told.program, known); return machine.fault_text(fault.cause); }) } });
   },
   /** Tells the calls that led to where a process stands. */
@@ -565,7 +578,7 @@ const obey = {
   line_step(wants) {
     playing = false;
     no_more();
-    stopped = line_step(run, plan, wants, heard, halted);
+    stopped = line_step(run, plan, wants, halted);
     view();
   },
   /** Looks for the last store to an address, or the last stop of a break point, before this place. */
@@ -582,12 +595,12 @@ const obey = {
     playing = false;
     no_more();
     stopped = "";
-    search = new Reach(run, plan, to, heard);
+    search = new Reach(run, plan, to);
     search.gone = () => postMessage({ reached: { is: true, at: run.at } });
     reach_on(search);
   },
   assemble({ text, id }) { postMessage({ assembled: { id, ...machine.assemble(text) } }); },
-  record() { postMessage({ record: { config: run.config, files: run.files.map(({ name, bytes }) => ({ name, bytes })), spans: run.line.spans() } }); },
+  record() { postMessage({ record: { config: run.config, files: run.files.map(({ name, bytes }) => ({ name, bytes })), spans: run.events.spans() } }); },
   /** Plays a record: its events, one by one. Then it goes to a place of it, and plays on, if that is wanted. */
   replay({ spans, keys = [], at = null, play: plays = false, ...asked }) {
     playing = false;
@@ -625,7 +638,7 @@ function safely(action) {
   }
 }
 
-const ASIDE = new Set(["look", "assemble", "breaks", "tell_events", "explain", "calls", "record", "settings"]); // what a search goes on beside
+const ASIDE = new Set(["look", "assemble", "breaks", "tell_events", "round", "last_of", "stretches", "explain", "calls", "record", "settings"]); // what a search goes on beside
 
 onmessage = ({ data }) => {
   if (!ASIDE.has(data.do) && search) { search.gone(); search = null; }

@@ -47,7 +47,7 @@ function on_the_way(places, call) {
   const stops = () => { while (next < places.length && places[next] === at) call(places[next++]); };
   other.boot(config, files);
   stops();
-  for (const [event, byte, count] of run.line.spans()) {
+  for (const [event, byte, count] of run.events.spans()) {
     for (let left = count; left > 0; stops()) {
       const most = next < places.length ? Math.min(left, places[next] - at) : left;
       const sent = event === EVENT.RUN ? other.run(most).sent : (other.event(event, byte), 1);
@@ -117,7 +117,7 @@ function steps_are_short() {
 
 /** The copy near a place follows where the run goes a long way. */
 function near_follows() {
-  const { line } = run, late = line.at[line.length - 10], early = line.at[Math.floor(line.length / 2)];
+  const { line } = run, late = line.at(line.length - 10), early = line.at(Math.floor(line.length / 2));
   run.go(0);
   run.go(late);
   const { near } = run.copies;

@@ -35,10 +35,11 @@ export async function open(url, { width = 1400, height = 900, dark = false, mobi
     waiting.set(id, (it) => (it.error ? fail(new Error(`${method}: ${it.error.message}`)) : done(it.result)));
     input.write(JSON.stringify({ id, method, params, sessionId: to }) + "\0");
   });
-  /** The bytes of JavaScript that are in use behind a collection of garbage. */
+  /** The bytes that JavaScript uses behind a collection of garbage, without its arrays of numbers and with them. */
   const heap_of = async (to) => {
     await send("HeapProfiler.collectGarbage", {}, to);
-    return (await send("Runtime.getHeapUsage", {}, to)).usedSize;
+    const { usedSize, backingStorageSize = 0 } = await send("Runtime.getHeapUsage", {}, to);
+    return { used: usedSize, all: usedSize + backingStorageSize };
   };
   const { targetInfos } = await send("Target.getTargets");
   session = (await send("Target.attachToTarget", { targetId: targetInfos.find((it) => it.type === "page").targetId, flatten: true })).sessionId;
@@ -50,7 +51,10 @@ export async function open(url, { width = 1400, height = 900, dark = false, mobi
   const page = {
     logs, send, sleep,
     /** The memory of the page's JavaScript, and of its workers', in bytes. */
-    async heaps() { return { page: await heap_of(session), workers: await Promise.all(workers.map(heap_of)), resident: resident(chrome.pid) }; },
+    async heaps() {
+      const told = await Promise.all([session, ...workers].map(heap_of)), [page, ...others] = told.map((it) => it.used);
+      return { page, workers: others, all: told.map((it) => it.all), resident: resident(chrome.pid) };
+    },
     async go(to) { await send("Page.navigate", { url: to }); await page.until("window.ready === true", 120000).catch((error) => logs.push(error.message)); },
     async eval(expression) {
       const { result, exceptionDetails } = await send("Runtime.evaluate", { expression, awaitPromise: true, returnByValue: true });

@@ -17,7 +17,7 @@ for (let drawn = 0; Date.now() - began < minutes * 60000; ) {
   await page.type(COMMANDS[count++ % COMMANDS.length] + "\n");
   await page.sleep(seconds * 1000);
   if (Date.now() - told_at < 30000 && told_at) continue;
-  const heaps = await page.heaps(), view = await page.eval("({ end: page.app.line.end, length: page.app.line.length, module: page.app.view?.memory_bytes, copies: page.app.view?.copies, copies_bytes: page.app.view?.copies_bytes ?? 0, drawn: page.drawn() })");
+  const heaps = await page.heaps(), view = await page.eval("({ end: page.app.line.end, length: page.app.view?.stretches ?? page.app.line.length, module: page.app.view?.memory_bytes, copies: page.app.view?.copies, copies_bytes: page.app.view?.copies_bytes ?? 0, drawn: page.drawn() })");
   const since = told_at ? (Date.now() - told_at) / 1000 : 1, now = Date.now();
   told.push({ ...heaps, ...view });
   console.log(`${((now - began) / 60000).toFixed(1).padStart(6)} ${String(view.end).padStart(8)} ${String(view.length).padStart(10)} ${mib(heaps.page)}    ${heaps.workers.map(mib).join(" ")}      ${mib(view.module)}      ${String(view.copies).padStart(4)}      ${mib(view.copies_bytes)}        ${mib(heaps.resident)}      ${told_at ? ((view.drawn - drawn) / since).toFixed(1) : ""}`);

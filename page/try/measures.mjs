@@ -76,12 +76,12 @@ const COUNT_FRAMES = `(() => {
 export async function crowd(page, seconds = 5) {
   await boots(page, CROWD);
   await page.eval("page.ask('settings', { rounds: true, quantum: 200 }); page.ask('play')");
-  await page.until("page.app.line.length > 100000", 120000);
+  await page.until("page.app.view?.stretches > 100000", 120000);
   await page.eval(COUNT_FRAMES);
   const began = Date.now();
   await page.sleep(seconds * 1000);
   const seen = await page.eval(`({
-    frames: window.frames_seen, longest: window.longest, stretches: page.app.line.length,
+    frames: window.frames_seen, longest: window.longest, stretches: page.app.view.stretches,
     processes: page.app.view?.processes.length, events: page.app.line.end,
   })`);
   seen.frames = (seen.frames * 1000) / (Date.now() - began);
