@@ -5,9 +5,10 @@ import { KIND } from "./machine.mjs";
 import { COLUMNS, Timeline } from "./timeline.mjs";
 import { Lives } from "./lives.mjs";
 
-const MOST = 122880; // stretches, before they are thinned out
-const LAST = 16384; // of them are left in any case
-const MOST_THIN = 32768; // are left of those before, but for parts that are looked at
+const MOST = 61440; // stretches, before they are thinned out
+const LAST = 8192; // of them are left in any case
+const MOST_THIN = 24576; // are left of those before, but for parts that are looked at
+const CELLS = 8192; // into which a run is divided at least: more than a picture has pixels
 
 export class Listed extends Timeline {
   constructor() {
@@ -15,7 +16,7 @@ export class Listed extends Timeline {
     this.lives = new Lives();
     this.whole_from = 0; // from this place on all stretches are here
     this.parts = new Map(); // parts of which all are here too, by their names: {from, to}
-    this.cell = 1; // events of a cell, of which so many stretches are left that each kind and each process is seen
+    this.cell = 1; // events of a cell: so many stretches of it are left that each kind and each process is seen
     this.clear_lists();
   }
 
@@ -27,18 +28,33 @@ export class Listed extends Timeline {
     this.mark_of = { [KIND.CALL]: call, [KIND.WAIT]: call, [KIND.EXIT]: end, [KIND.FAULT]: fault, [KIND.TICK]: tick, [KIND.KEY]: key };
   }
 
-  /** Calls with each list in which a stretch stands. */
-  each_list(stretch, call) {
-    const kind = this.kind[stretch], pid = this.pid[stretch], marks = this.mark_of[kind];
-    if (marks) call(marks);
-    if (kind > KIND.FAULT) return;
-    if (!this.work_of.has(pid)) this.work_of.set(pid, []);
-    call(this.work);
-    call(this.work_of.get(pid));
+  /** The list of a process's stretches. */
+  own_list(pid) {
+    const own = this.work_of.get(pid) ?? [];
+    if (!own.length) this.work_of.set(pid, own);
+    return own;
   }
 
+  /** Puts the stretches from one on into the lists. */
   list_from(stretch) {
-    for (let k = stretch; k < this.length; k++) this.each_list(k, (list) => list.push(k));
+    for (let k = stretch; k < this.length; k++) {
+      const kind = this.kind[k];
+      this.mark_of[kind]?.push(k);
+      if (kind > KIND.FAULT) continue;
+      this.work.push(k);
+      this.own_list(this.pid[k]).push(k);
+    }
+  }
+
+  /** Takes the stretches from one on out of the lists. */
+  unlist_from(stretch) {
+    for (let k = this.length - 1; k >= stretch; k--) {
+      const kind = this.kind[k];
+      this.mark_of[kind]?.pop();
+      if (kind > KIND.FAULT) continue;
+      this.work.pop();
+      this.own_list(this.pid[k]).pop();
+    }
   }
 
   /** Takes what is new at the end: what it had from there on is forgotten. */
@@ -53,9 +69,8 @@ export class Listed extends Timeline {
 
   cut(place) {
     if (place >= this.end) return;
-    const { length } = this;
-    const found = this.find(place), first = this.at[found] === place ? found : found + 1;
-    for (let k = length - 1; k >= first; k--) this.each_list(k, (list) => list.pop());
+    const found = this.find(place);
+    this.unlist_from(this.at[found] === place ? found : found + 1);
     this.lives.cut(place);
     super.cut(place);
     this.whole_from = Math.min(this.whole_from, place);
@@ -71,30 +86,40 @@ export class Listed extends Timeline {
 
   /** Leaves the last stretches, those of the parts, and so many others. */
   thin() {
-    this.whole_from = Math.max(this.whole_from, this.at[this.length - LAST]);
-    let left = this.left();
-    for (; left.length > LAST + MOST_THIN && this.cell < this.end; left = this.left()) this.cell *= 2;
-    for (const name in COLUMNS) left.forEach((k, place) => { this[name][place] = this[name][k]; });
-    this.length = left.length;
+    const whole = this.length - LAST, of_parts = [...this.parts.values()].reduce((sum, it) => sum + this.find(it.to - 1) - this.find(it.from) + 1, 0);
+    this.whole_from = Math.max(this.whole_from, this.at[whole]);
+    this.cell = Math.max(this.cell, this.end / CELLS);
+    let left = this.left(new Int32Array(whole).map((_, k) => k));
+    for (; left.length > MOST_THIN + of_parts && this.cell < this.end; left = this.left(left)) this.cell *= 2;
+    for (const name in COLUMNS) {
+      const list = this[name];
+      for (let k = 0; k < left.length; k++) list[k] = list[left[k]];
+      list.copyWithin(left.length, whole, this.length);
+    }
+    this.length = left.length + LAST;
     this.clear_lists();
     this.list_from(0);
   }
 
-  /** The numbers of the stretches that are left: of a cell the first of each kind of each process, and the last of each process. */
-  left() {
-    const left = [], parts = [...this.parts.values()];
-    let cell = -1, seen = new Set(), last = new Map();
-    const over = () => { left.push(...last.values()); last = new Map(); seen = new Set(); };
-    for (let k = 0; k < this.length; k++) {
-      const at = this.at[k], now = Math.floor(at / this.cell);
-      if (now !== cell) { over(); cell = now; }
-      if (at >= this.whole_from || parts.some((it) => at >= it.from && at < it.to)) { left.push(k); continue; }
-      const sign = 16 * this.pid[k] + this.kind[k];
-      if (seen.has(sign)) last.set(this.pid[k], k);
-      else { seen.add(sign); last.delete(this.pid[k]); left.push(k); }
+  /** Which of some stretches are left: those of the parts; and of a cell the first of each kind of each process, and the last of each process. */
+  left(some) {
+    const { at, pid, kind, cell } = this, count = this.lives.most + 1, cells = new Int32Array(count).fill(-1), kinds = new Uint16Array(count), last = new Int32Array(count).fill(-1);
+    const is_left = new Uint8Array(this.length);
+    for (const k of some) {
+      const own = pid[k], bit = 1 << kind[k], now = Math.floor(at[k] / cell);
+      if (cells[own] !== now) {
+        // The last of the cell before is left too.
+        if (last[own] >= 0) is_left[last[own]] = 1;
+        cells[own] = now;
+        kinds[own] = 0;
+      }
+      last[own] = k;
+      if (!(kinds[own] & bit)) is_left[k] = 1;
+      kinds[own] |= bit;
     }
-    over();
-    return left.sort((a, b) => a - b);
+    for (const k of last) if (k >= 0) is_left[k] = 1;
+    for (const it of this.parts.values()) is_left.fill(1, this.find(it.from), this.find(it.to - 1) + 1);
+    return some.filter((k) => is_left[k]);
   }
 
   /** Takes all stretches of a part of which some are here; the part of this name before is thinned out with the next. */

@@ -23,7 +23,7 @@ const MOST_FUTURES = 8;
 const MOST_WAITING = 20000; // keys that wait, of which the page is told
 const ASKED = 60; // ms that the page's questions about events may take, before other messages are heard
 const EVENTS_AT_ONCE = 4; // events that are looked at from one copy of the machine
-const ROUND = 2000, MOST_OF_PART = 32768; // stretches round a place of which the page is told, and of a part that it shows
+const ROUND = 2000, MOST_OF_PART = 16384; // stretches round a place of which the page is told, and of a part that it shows
 
 let machine = null, run = null, plan = null;
 let settings = { rounds: false, quantum: 1000, speed: 0 };

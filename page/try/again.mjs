@@ -100,10 +100,10 @@ function shown_is_right() {
 let shown_at = [];
 
 function page_has_its_parts() {
-  holds(listed.length <= 122880 && listed.end === run.end, `the page has ${listed.length} stretches of ${all.length}`);
+  holds(listed.length <= 61440 && listed.end === run.end, `the page has ${listed.length} stretches of ${all.length}`);
   for (let k = 0; k < 6; k++) {
     const place = random(run.end), [name, from, to] = k % 2 ? ["place", Math.max(0, place - 1), place] : ["part", place, Math.min(run.end, place + random(100000))];
-    const part = run.line.part(from, to, k % 2 ? 2000 : 0, 32768);
+    const part = run.line.part(from, to, k % 2 ? 2000 : 0, 16384);
     if (!part) continue;
     listed.take_part(name, part);
     const first = all.findLastIndex((it) => it.at <= from), own = listed.find(from);
