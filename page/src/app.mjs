@@ -1,5 +1,7 @@
 // What the panels share: the worker, the last view of the machine, the files, and who wants to hear of changes.
 import { Listed } from "./listed.mjs";
+import { LastNames } from "./names.mjs";
+import { EventsText } from "./spans.mjs";
 
 export const $ = (id) => document.getElementById(id);
 
@@ -7,8 +9,8 @@ export const app = {
   worker: null,
   view: null,
   line: new Listed(), // what came of the events so far, as far as the page has it
-  events: { text: "", open: "" }, // the events so far, as a text, and that of those that may go on
-  names: new Map(), // the program that each process of the run ran last, by its place among the files
+  events: new EventsText(), // the events so far, as a text
+  names: new LastNames(), // the program that each process of the run ran last, by its place among the files
   text: new Uint8Array(0), // the bytes that the console has shown
   faults: [], // the faults of the run
   work: { name: "", files: [], gone: [], breaks: [] }, // the work that is open (works.mjs)

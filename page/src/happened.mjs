@@ -60,7 +60,7 @@ function draw() {
   // The answer brings it here again.
   if (found.key !== asked_for && !(view.playing && found.of === key)) return;
   const { before, behind, is_cut } = found, all = [...before, ...behind];
-  const told = JSON.stringify([found.key, view.at, all.map(({ at }) => [at, known.has(at)]), app.names.size]);
+  const told = JSON.stringify([found.key, view.at, all.map(({ at }) => [at, known.has(at)]), app.names.most]);
   if (told === drawn) return;
   drawn = told;
   const here = element("p", { class: "here", role: "separator" }, `event ${grouped(view.at)}: here`), box = $("event-list"), rows = [];
@@ -95,7 +95,7 @@ function further(by) {
 let filled = "";
 /** The processes and calls that one may choose from. */
 function fill_filters() {
-  const pids = [...app.names.keys()].slice(-200), told = JSON.stringify([pids, [...app.names.values()].slice(-200), app.booted.id]);
+  const pids = app.names.pids(200), told = JSON.stringify([pids, pids.map((pid) => app.names.get(pid)), app.booted.id]);
   if (told === filled) return;
   filled = told;
   const chosen = $("event-pid").value;

@@ -5,10 +5,10 @@ import { KIND } from "./machine.mjs";
 import { COLUMNS, Timeline } from "./timeline.mjs";
 import { Lives } from "./lives.mjs";
 
-const MOST = 61440; // stretches, before they are thinned out
+const MOST = 98304; // stretches, before they are thinned out
 const LAST = 8192; // of them are left in any case
-const MOST_THIN = 24576; // are left of those before, but for parts that are looked at
-const CELLS = 8192; // into which a run is divided at least: more than a picture has pixels
+const MOST_THIN = 32768; // are left of those before, but for parts that are looked at
+const GRAINS = 8192; // into which a run is divided at most, of each of which a stretch is left: more than a picture has pixels
 
 export class Listed extends Timeline {
   constructor() {
@@ -16,7 +16,7 @@ export class Listed extends Timeline {
     this.lives = new Lives();
     this.whole_from = 0; // from this place on all stretches are here
     this.parts = new Map(); // parts of which all are here too, by their names: {from, to}
-    this.cell = 1; // events of a cell: so many stretches of it are left that each kind and each process is seen
+    this.cell = 1; // events of a cell, one grain or many: of it so many stretches are left that each kind and each process is seen
     this.clear_lists();
   }
 
@@ -88,7 +88,8 @@ export class Listed extends Timeline {
   thin() {
     const whole = this.length - LAST, of_parts = [...this.parts.values()].reduce((sum, it) => sum + this.find(it.to - 1) - this.find(it.from) + 1, 0);
     this.whole_from = Math.max(this.whole_from, this.at[whole]);
-    this.cell = Math.max(this.cell, this.end / CELLS);
+    this.grain = 2 ** Math.max(0, Math.ceil(Math.log2(this.end / GRAINS)));
+    this.cell = Math.max(this.cell, this.grain);
     let left = this.left(new Int32Array(whole).map((_, k) => k));
     for (; left.length > MOST_THIN + of_parts && this.cell < this.end; left = this.left(left)) this.cell *= 2;
     for (const name in COLUMNS) {
@@ -101,24 +102,31 @@ export class Listed extends Timeline {
     this.list_from(0);
   }
 
-  /** Which of some stretches are left: those of the parts; and of a cell the first of each kind of each process, and the last of each process. */
+  /**
+   * Which of some stretches are left: those of the parts, and those that are as long as a grain; of a grain the first call, else the first
+   * instructions, else the first; and of a cell the first of each kind and of each process, and the last of a process, if it falls asleep there
+   * and the one before that is left does not, or the other way round.
+   */
   left(some) {
-    const { at, pid, kind, cell } = this, count = this.lives.most + 1, cells = new Int32Array(count).fill(-1), kinds = new Uint16Array(count), last = new Int32Array(count).fill(-1);
-    const is_left = new Uint8Array(this.length);
-    for (const k of some) {
-      const own = pid[k], bit = 1 << kind[k], now = Math.floor(at[k] / cell);
-      if (cells[own] !== now) {
-        // The last of the cell before is left too.
-        if (last[own] >= 0) is_left[last[own]] = 1;
-        cells[own] = now;
-        kinds[own] = 0;
-      }
-      last[own] = k;
-      if (!(kinds[own] & bit)) is_left[k] = 1;
-      kinds[own] |= bit;
-    }
-    for (const k of last) if (k >= 0) is_left[k] = 1;
+    const { at, pid, kind, cell, grain } = this, count = this.lives.most + 1, cells = new Int32Array(count).fill(-1), last = new Int32Array(count).fill(-1), held = new Int32Array(count);
+    const is_left = new Uint8Array(this.length), sleeps = (k) => kind[k] === KIND.WAIT, is_work = (k) => kind[k] <= KIND.FAULT;
+    const rank = (k) => (is_work(k) ? (kind[k] === KIND.STEP ? 1 : 2) : 0);
+    const leave = (k) => { is_left[k] = 1; if (is_work(k)) held[pid[k]] = Math.max(held[pid[k]], k); };
+    const end_cell = (own) => { if (last[own] >= 0 && sleeps(last[own]) !== sleeps(held[own])) leave(last[own]); };
     for (const it of this.parts.values()) is_left.fill(1, this.find(it.from), this.find(it.to - 1) + 1);
+    let grains = -1, best = -1, all = -1, kinds = 0;
+    for (const k of some) {
+      const now = Math.floor(at[k] / cell), now_grain = Math.floor(at[k] / grain), bit = 1 << kind[k], own = pid[k];
+      if (now_grain !== grains) { if (best >= 0) leave(best); grains = now_grain; best = k; } else if (rank(k) > rank(best)) best = k;
+      if (now !== all) { all = now; kinds = 0; }
+      const is_new = is_work(k) && cells[own] !== now;
+      if (is_new) { end_cell(own); cells[own] = now; }
+      if (is_left[k] || is_new || !(kinds & bit) || this.end_of(k) - at[k] >= grain) leave(k);
+      kinds |= bit;
+      if (is_work(k)) last[own] = k;
+    }
+    if (best >= 0) leave(best);
+    last.forEach((_, own) => end_cell(own));
     return some.filter((k) => is_left[k]);
   }
 

@@ -2,6 +2,8 @@
 import { $, app, ask, hush, on, set_theme, tell } from "./app.mjs";
 import { learn_calls } from "./calls.mjs";
 import { Listed } from "./listed.mjs";
+import { LastNames } from "./names.mjs";
+import { EventsText, with_room } from "./spans.mjs";
 import * as terminal from "./terminal.mjs";
 import * as editor from "./editor.mjs";
 import * as works from "./works.mjs";
@@ -31,14 +33,9 @@ const DATA = globalThis.PAGE_DATA;
 let text_room = new Uint8Array(65536), drawn = 0, waits = false, is_whole = false;
 
 function take_text({ from, bytes }) {
-  const length = from + bytes.length;
-  if (length > text_room.length) {
-    const room = new Uint8Array(2 * length);
-    room.set(text_room.subarray(0, from));
-    text_room = room;
-  }
+  text_room = with_room(text_room, from, bytes.length);
   text_room.set(bytes, from);
-  app.text = text_room.subarray(0, length);
+  app.text = text_room.subarray(0, from + bytes.length);
 }
 
 /** Draws all anew. */
@@ -48,18 +45,14 @@ function redraw() {
   tell("panels");
 }
 
-function take_events({ from, text, open }) {
-  app.events = { text: app.events.text.slice(0, from) + text, open };
-}
-
 function take_names({ from, list }) {
-  if (from === 0) app.names = new Map();
+  if (from === 0) app.names = new LastNames();
   for (const { pid, place } of list) app.names.set(pid, place);
 }
 
 function take_view(view) {
   app.line.take(view.line);
-  take_events(view.events);
+  app.events.take(view.events);
   take_names(view.names);
   take_text(view.text);
   if (view.faults) app.faults = view.faults;
@@ -86,7 +79,7 @@ function take_view(view) {
 /** Another machine: nothing of the one before is drawn any more. */
 function take_boot({ id, took }) {
   app.booted = { ...programs.booting(id), id, took };
-  Object.assign(app, { view: null, line: new Listed(), events: { text: "", open: "" }, names: new Map(), text: text_room.subarray(0, 0), faults: [], chosen: 0 });
+  Object.assign(app, { view: null, line: new Listed(), events: new EventsText(), names: new LastNames(), text: text_room.subarray(0, 0), faults: [], chosen: 0 });
   tell("booted");
   look();
 }

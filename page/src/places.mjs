@@ -117,7 +117,7 @@ export function short_place() {
   if (!name || !booted?.how.rounds || booted.work !== work.name || !view) return null;
   const shipped = shipped_files(name), is_same = (it, own) => it.name === own.name && (it.text === undefined ? own.built_in : it.text === own.text);
   const is_shipped = work.files.length === shipped.length && shipped.every((it, k) => is_same(it, work.files[k])) && booted.files.every((it) => it.text === undefined || it.text === it.from.text);
-  const keys = programs.keys_of(machine.keys), is_typed = keys_in(app.events).some((it, k) => it !== keys[k]);
+  const keys = programs.keys_of(machine.keys), is_typed = keys_in(app.events.all()).some((it, k) => it !== keys[k]);
   if (!is_shipped || is_typed || booted.config.frames !== Number(machine.frames) || booted.how.quantum !== Number(machine.quantum)) return null;
   const words = new URLSearchParams({ example: name }), usual = machine_of({ ...DATA.examples[name], rounds: true });
   if (Number(machine.frames) !== Number(usual.frames)) words.set("frames", machine.frames);

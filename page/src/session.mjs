@@ -71,7 +71,7 @@ let before = null; // the run that the last boot has ended, if keys were typed i
 
 /** Notes the run that is left: what was typed in it isn't lost. */
 function leave() {
-  if (!keys_in(app.events).length) return;
+  if (!keys_in(app.events.all()).length) return;
   const run = run_now(true);
   if (run) before = { work: app.booted.work, run: { ...run, plays: false } };
   offer();

@@ -25,7 +25,7 @@ export function run_now(is_whole = false) {
     const place = app.files.indexOf(from);
     return place >= 0 && from.text === text && !is_whole ? { name, place } : { name, file: packed_file(text !== undefined ? { name: from.name, text } : from) };
   });
-  return { built: DATA.built, files, frames: booted.config.frames, how: booted.how, events: events.text + events.open, end: view.end, stretches: view.stretches, at: view.at, keys: view.waiting_keys ?? [], plays: view.playing };
+  return { built: DATA.built, files, frames: booted.config.frames, how: booted.how, events: events.all(), end: view.end, stretches: view.stretches, at: view.at, keys: view.waiting_keys ?? [], plays: view.playing };
 }
 
 /** The files of the list that a kept run names: {name, from} of each. */

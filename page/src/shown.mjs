@@ -1,14 +1,9 @@
 // The bytes that the console has shown, each with the place of the run behind which it stands: a byte, and one or two for how far that is
 // behind the place of the byte before.
+import { with_room } from "./spans.mjs";
+
 const NOTED = 256; // bytes between two whose places are noted: counting begins at one of them
 const LONGEST = 8; // bytes of a distance
-
-function grown(list, length) {
-  if (length + LONGEST <= list.length) return list;
-  const room = new Uint8Array(list.length + (list.length >> 1));
-  room.set(list);
-  return room;
-}
 
 export class Shown {
   constructor() {
@@ -21,8 +16,8 @@ export class Shown {
   }
 
   add(byte, at) {
-    this.bytes = grown(this.bytes, this.length);
-    this.apart = grown(this.apart, this.used);
+    this.bytes = with_room(this.bytes, this.length, 1);
+    this.apart = with_room(this.apart, this.used, LONGEST);
     this.bytes[this.length++] = byte;
     let left = at - this.at;
     for (; left >= 128; left = Math.floor(left / 128)) this.apart[this.used++] = 128 + (left % 128);

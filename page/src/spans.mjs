@@ -19,8 +19,32 @@ export function spans_of(text) {
   return spans;
 }
 
-/** The keys among the events of a run. */
-export const keys_in = ({ text, open }) => [...(text + open).matchAll(/K([0-9a-z]+)/g)].map(([, digits]) => parseInt(digits, 36));
+/** The keys among the events of a run, by their text. */
+export const keys_in = (text) => [...text.matchAll(/K([0-9a-z]+)/g)].map(([, digits]) => parseInt(digits, 36));
+
+/** Bytes with room for so many more. */
+export function with_room(bytes, length, more) {
+  if (length + more <= bytes.length) return bytes;
+  const grown = new Uint8Array(length + more + (length >> 1));
+  grown.set(bytes.subarray(0, length));
+  return grown;
+}
+
+/** The text of the events of a run, as the page has it, part by part. */
+export class EventsText {
+  constructor() {
+    Object.assign(this, { bytes: new Uint8Array(4096), length: 0, open: "" });
+  }
+
+  /** Takes a part: its bytes, the place at which they begin, and the text of the span that may go on. */
+  take({ from, bytes, open }) {
+    this.bytes = with_room(this.bytes, from, bytes.length);
+    this.bytes.set(bytes, from);
+    Object.assign(this, { length: from + bytes.length, open });
+  }
+
+  all() { return decoder.decode(this.bytes.subarray(0, this.length)) + this.open; }
+}
 
 const NOTED = 256; // spans between two whose places are noted: reading begins at one of them
 const LONGEST = 16; // letters of a span
@@ -47,11 +71,7 @@ export class Events {
 
   close() {
     const text = text_of(this.last);
-    if (this.length + LONGEST > this.bytes.length) {
-      const bytes = new Uint8Array(this.bytes.length + (this.bytes.length >> 1));
-      bytes.set(this.bytes);
-      this.bytes = bytes;
-    }
+    this.bytes = with_room(this.bytes, this.length, LONGEST);
     for (let k = 0; k < text.length; k++) this.bytes[this.length++] = text.charCodeAt(k);
     this.last.count = 0;
     if (++this.count % NOTED === 0) this.noted.push({ at: this.end, from: this.length });
@@ -101,15 +121,15 @@ export class Events {
     this.noted.length = Math.floor(number / NOTED) + 1;
   }
 
-  /** The text of the spans that are over, from a letter on, and that of the one that may go on. */
-  text(from = 0) { return { from, text: decoder.decode(this.bytes.subarray(from, this.length)), open: text_of(this.last) }; }
+  /** The text of the spans that are over, from a letter on, as bytes, and that of the one that may go on. */
+  part(from) { return { from, bytes: this.bytes.slice(from, this.length), open: text_of(this.last) }; }
 
   /** The text of the events from a place on. */
   text_from(place) {
     const { value } = this.from(place).next();
     if (!value) return "";
-    const { event, byte, from, end } = value, { text, open } = this.text(from), first = text_of({ event, byte, count: end - place });
-    return from === this.length ? first : first + text.slice(this.read(from).next - from) + open;
+    const { event, byte, from, end } = value, first = text_of({ event, byte, count: end - place });
+    return from === this.length ? first : first + decoder.decode(this.bytes.subarray(this.read(from).next, this.length)) + text_of(this.last);
   }
 
   spans() { return [...this.from()].map(({ event, byte, at, end }) => [event, byte, end - at]); }

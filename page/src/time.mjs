@@ -99,7 +99,7 @@ function draw_slider() {
 }
 
 /** What came of the event at a place, in words; none if the page doesn't have it. */
-function event_words(place) {
+export function event_words(place) {
   const { line } = app, found = line.find(place);
   return found < 0 || !line.has(place, place) ? "" : words_of_event({ kind: line.kind[found], pid: line.pid[found], number: line.number[found], value: line.value[found] });
 }

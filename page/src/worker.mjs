@@ -127,7 +127,7 @@ function news() {
   if (anew) Object.assign(wanted, { named: 0, shown: 0, text: 0, faults: -1, edits: run.edits });
   const text_from = Math.min(wanted.shown, shown), list = [];
   for (let k = wanted.named; k < names.length; k++) list.push({ pid: names.pid[k], place: names.place[k] });
-  const told = { anew, shown, line: new_stretches(line.last), stretches: line.length, events: events.text(wanted.text), names: { from: wanted.named, list }, text: { from: text_from, bytes: run.shown.bytes.slice(text_from, shown) } };
+  const told = { anew, shown, line: new_stretches(line.last), stretches: line.length, events: events.part(wanted.text), names: { from: wanted.named, list }, text: { from: text_from, bytes: run.shown.bytes.slice(text_from, shown) } };
   Object.assign(wanted, { named: names.length, shown, text: events.length });
   return told;
 }

@@ -9,7 +9,7 @@ import { Made } from "../src/made.mjs";
 import { is_made } from "../src/record.mjs";
 import { MOST_LOOKED, last_of, round, WHAT } from "../src/rounds.mjs";
 import { Plan, Run } from "../src/run.mjs";
-import { spans_of } from "../src/spans.mjs";
+import { EventsText, spans_of } from "../src/spans.mjs";
 import { COLUMNS } from "../src/timeline.mjs";
 
 const [module, folder] = process.argv.slice(2), machine = new Machine(new WebAssembly.Module(readFileSync(module))), listed = new Listed();
@@ -76,7 +76,9 @@ function sums_are_right() {
 }
 
 function events_are_right() {
-  const { text, open } = run.events.text(), spans = run.events.spans(), told = spans_of(text + open);
+  const spans = run.events.spans(), text = new EventsText();
+  text.take(run.events.part(0));
+  const told = spans_of(text.all());
   holds(JSON.stringify(told) === JSON.stringify(spans) && spans.reduce((sum, [, , count]) => sum + count, 0) === run.end, "the text of the events tells them");
   const merged = [];
   for (const [k, { event, number }] of all.entries()) {
@@ -100,7 +102,7 @@ function shown_is_right() {
 let shown_at = [];
 
 function page_has_its_parts() {
-  holds(listed.length <= 61440 && listed.end === run.end, `the page has ${listed.length} stretches of ${all.length}`);
+  holds(listed.length <= 98304 && listed.end === run.end, `the page has ${listed.length} stretches of ${all.length}`);
   for (let k = 0; k < 6; k++) {
     const place = random(run.end), [name, from, to] = k % 2 ? ["place", Math.max(0, place - 1), place] : ["part", place, Math.min(run.end, place + random(100000))];
     const part = run.line.part(from, to, k % 2 ? 2000 : 0, 16384);
@@ -112,6 +114,15 @@ function page_has_its_parts() {
     holds(listed.has(from, to) && (first + n === all.length || all[first + n].at >= to) && listed.end === run.end, `the page has all stretches from ${from} to ${to}`);
     holds(listed.at.subarray(0, listed.length).every((at, k, list) => k === 0 || at > list[k - 1]), "its stretches stand in order");
     holds([listed.work, ...listed.work_of.values(), ...Object.values(listed.marks)].every((list) => list.every((it, k) => it < listed.length && (k === 0 || it > list[k - 1]))), "so do its lists");
+  }
+  // What is seen of the rest is so within two grains, and who sleeps within two cells.
+  for (let k = 0; k < 300; k++) {
+    const place = random(run.end), own = listed.find(place), near = (by) => { const from = all.findLastIndex((it) => it.at <= Math.max(0, place - by)), to = all.findLastIndex((it) => it.at <= place + by); return all.slice(from, to + 1); };
+    const work = (it) => (it.kind <= KIND.FAULT ? it.pid : 0), seen = { kind: listed.kind[own], pid: listed.pid[own] };
+    holds(near(2 * listed.grain).some((it) => work(it) === work(seen)), `at ${place} process ${work(seen)} is seen to run`);
+    const pid = 1 + random(5), list = listed.work_of.get(pid) ?? [], last = list[listed.next(list, place) - 1], sleeps = last !== undefined && listed.kind[last] === KIND.WAIT;
+    const about = near(2 * listed.cell).filter((it) => it.pid === pid && it.kind <= KIND.FAULT), before = all.findLast((it) => it.at <= place && it.pid === pid && it.kind <= KIND.FAULT);
+    holds(about.length > 0 || (before?.kind === KIND.WAIT) === sleeps, `at ${place} process ${pid} is seen to ${sleeps ? "sleep" : "be awake"}`);
   }
   const lives = new Map([[1, { from: 0, to: Infinity, reaped: Infinity }]]);
   for (const it of all) {
