@@ -82,6 +82,9 @@ export class Listed extends Timeline {
     return from >= this.whole_from || [...this.parts.values()].some((it) => it.from <= from && to <= it.to);
   }
 
+  /** How many events may lie between two stretches of a process at a place, of which one was left of each cell. */
+  apart(place) { return this.has(place, place) ? 0 : 2 * this.cell; }
+
   // ---- to thin out, and what is told of a part again
 
   /** Leaves the last stretches, those of the parts, and so many others. */

@@ -105,7 +105,7 @@ function draw_bars(draw, pid, { from, to, scale, x_of, bar }, top) {
   const { line } = app, own = line.work_of.get(pid) ?? [];
   // The stretch before the first one tells whether it sleeps at the beginning of the part that is shown.
   for (let k = Math.max(0, line.next(own, from) - 1); k < own.length && line.at[own[k]] < to; ) {
-    const last = end_of_bar(own, k, 1 / scale), x = x_of(line.at[own[k]]), end = x_of(line.end_of(own[last]));
+    const last = end_of_bar(own, k, Math.max(1 / scale, line.apart(line.at[own[k]]))), x = x_of(line.at[own[k]]), end = x_of(line.end_of(own[last]));
     draw.fillStyle = color_of(pid);
     if (line.end_of(own[last]) > from) draw.fillRect(x, top, Math.max(0.8, end - x), bar);
     k = last + 1;
