@@ -116,6 +116,9 @@ export function show_tab(tab) {
     it.tabIndex = chosen ? 0 : -1;
     $(it.getAttribute("aria-controls")).hidden = !chosen;
   }
+  // On a narrow screen the row of tabs is scrolled, so that the chosen one is seen.
+  const row = list.getBoundingClientRect(), own = tab.getBoundingClientRect();
+  list.scrollLeft += Math.min(0, own.left - row.left) + Math.max(0, own.right - row.right);
   look();
   tell("tab");
 }
