@@ -117,11 +117,11 @@ function page_has_its_parts() {
   }
   // What is seen of the rest is so within two grains, and who sleeps within two cells.
   for (let k = 0; k < 300; k++) {
-    const place = random(run.end), own = listed.find(place), near = (by) => { const from = all.findLastIndex((it) => it.at <= Math.max(0, place - by)), to = all.findLastIndex((it) => it.at <= place + by); return all.slice(from, to + 1); };
+    const place = random(run.end), own = listed.find(place), near = (by) => all.slice(run.line.find(Math.max(0, place - by)), run.line.find(Math.min(run.end - 1, place + by)) + 1);
     const work = (it) => (it.kind <= KIND.FAULT ? it.pid : 0), seen = { kind: listed.kind[own], pid: listed.pid[own] };
     holds(near(2 * listed.grain).some((it) => work(it) === work(seen)), `at ${place} process ${work(seen)} is seen to run`);
     const pid = 1 + random(5), list = listed.work_of.get(pid) ?? [], last = list[listed.next(list, place) - 1], sleeps = last !== undefined && listed.kind[last] === KIND.WAIT;
-    const about = near(2 * listed.cell).filter((it) => it.pid === pid && it.kind <= KIND.FAULT), before = all.findLast((it) => it.at <= place && it.pid === pid && it.kind <= KIND.FAULT);
+    const about = near(2 * listed.cell).filter((it) => it.pid === pid && it.kind <= KIND.FAULT), before = all.slice(0, run.line.find(place) + 1).findLast((it) => it.pid === pid && it.kind <= KIND.FAULT);
     holds(about.length > 0 || (before?.kind === KIND.WAIT) === sleeps, `at ${place} process ${pid} is seen to ${sleeps ? "sleep" : "be awake"}`);
   }
   const lives = new Map([[1, { from: 0, to: Infinity, reaped: Infinity }]]);
