@@ -1,12 +1,12 @@
-// look.mjs PAGE.html FOLDER: tries the page in Chromium as a student would, and takes pictures of each panel into FOLDER. It
-// ends with the status 1 where something isn't as it should be.
+// look.mjs PAGE.html FOLDER [NAME..]: tries the page in Chromium as a student would, and takes pictures of each panel into FOLDER. It
+// ends with the status 1 where something isn't as it should be. With names only these parts are tried.
 import { mkdirSync } from "node:fs";
 import { pathToFileURL } from "node:url";
 import { full, sieve } from "./exercises.mjs";
 import { crowd, instructions, steps_back } from "./measures.mjs";
 const { open } = await import(process.env.BROWSER === "firefox" ? "./firefox.mjs" : "./browser.mjs");
 
-const [page_file, folder] = process.argv.slice(2), url = pathToFileURL(page_file).href;
+const [page_file, folder, ...names] = process.argv.slice(2), url = pathToFileURL(page_file).href;
 mkdirSync(folder, { recursive: true });
 let bad = 0;
 const holds = (is, what) => { console.log(`${is ? "  " : "NOT"} ${what}`); if (!is) bad++; };
@@ -194,24 +194,21 @@ async function speed(page) {
   await page.picture(`${folder}/crowd.png`);
 }
 
-const page = await open(url, { width: 1400, height: 950 });
-try {
-  const took = await page.eval("window.took"), paint = await page.eval("performance.getEntriesByType('paint').map((it) => it.startTime)[0] ?? 0");
-  console.log(`   first paint after ${paint.toFixed(0)} ms, boot ${took.boot.toFixed(0)} ms, shown after ${took.shown.toFixed(0)} ms`);
-  await session(page);
-  await panels(page, "shell");
-  await time(page);
-  await programs(page);
-  await keys(page);
-  await signs(page, "light");
-  await lessons(page);
+async function exercises(page) {
   const other = await open(await full(page, holds, folder));
   await other.until("page.app.view?.facts.halted && page.app.view?.facts.status === -1").catch(() => {});
   holds(await other.eval("page.app.view?.facts.status === -1"), "exercise 13: who follows its link has the changed program");
   await other.close();
   await sieve(page, holds, folder);
-  await share(page);
-  await speed(page);
+}
+
+const PARTS = { session: async (page) => { await session(page); await panels(page, "shell"); await time(page); }, programs: async (page) => { await programs(page); await keys(page); }, signs: (page) => signs(page, "light"), lessons, exercises, share, speed };
+const is_wanted = (name) => !names.length || names.includes(name);
+const page = await open(url, { width: 1400, height: 950 });
+try {
+  const took = await page.eval("window.took"), paint = await page.eval("performance.getEntriesByType('paint').map((it) => it.startTime)[0] ?? 0");
+  console.log(`   first paint after ${paint.toFixed(0)} ms, boot ${took.boot.toFixed(0)} ms, shown after ${took.shown.toFixed(0)} ms`);
+  for (const [name, part] of Object.entries(PARTS)) if (is_wanted(name)) await part(page);
 } catch (error) {
   holds(false, error.stack);
   await page.picture(`${folder}/error.png`);
@@ -219,6 +216,7 @@ try {
 holds(page.logs.length === 0, `no errors of the page: ${page.logs.join("; ")}`);
 await page.close();
 for (const [name, how] of [["dark", { width: 1400, height: 950, dark: true }], ["phone", { width: 420, height: 860, mobile: true }], ["phone-dark", { width: 420, height: 860, mobile: true, dark: true }]]) {
+  if (!is_wanted(name)) continue;
   const other = await open(`${url}#run=abc`, how);
   await shows(other, "$ ");
   holds((await message(other)).startsWith("The link is damaged"), `${name}: a damaged link is told, and seen`);
