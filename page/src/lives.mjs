@@ -20,7 +20,7 @@ export class Lives {
   }
 
   born(pid, parent, at) {
-    while (pid >= this.from.length) this.room(2 * this.from.length);
+    while (pid >= this.from.length) this.room(this.from.length + (this.from.length >> 1));
     this.most = Math.max(this.most, pid);
     this.parent[pid] = parent;
     this.from[pid] = at;

@@ -110,14 +110,14 @@ export class Run {
   /** Sends Run, `most` times at most, and tells how many were sent and what came of the last. `stops`: it goes up to a stop at most. */
   run(most, stops = null) {
     this.cut();
-    const { sent, last } = this.runs(most, stops, (told, count) => this.heard(EVENT.RUN, told, count));
+    const { sent, last } = this.runs(most, stops, this.halted, (told, count) => this.heard(EVENT.RUN, told, count));
     this.keep();
     return { sent, kind: last === null ? KIND.STEP : last.kind, last };
   }
 
   /** Sends Run, and calls with each outcome and how many have come of it. */
-  runs(most, stops, hear) {
-    const { current } = this, some = current || this.machine.facts().halted ? most : 1, { sent, last } = this.sent(some, stops);
+  runs(most, stops, halted, hear) {
+    const { current } = this, some = current || halted ? most : 1, { sent, last } = this.sent(some, stops);
     const is_same = last !== null && (last.kind === KIND.IDLE || last.kind === KIND.HALTED), done = last === null ? sent : is_same ? 0 : sent - 1;
     if (done > 0) hear({ kind: KIND.STEP, pid: current, number: 0, value: 0 }, done);
     if (last !== null) hear(last, sent - done);
@@ -151,7 +151,7 @@ export class Run {
 
   run_again(stop, stops, hear) {
     const most = Math.min(stop - this.at, MOST_AT_ONCE);
-    return hear ? this.runs(most, null, (told, count) => hear(EVENT.RUN, told, count)) : this.sent(most, stops?.() ?? null);
+    return hear ? this.runs(most, null, this.halted && this.machine.facts().halted, (told, count) => hear(EVENT.RUN, told, count)) : this.sent(most, stops?.() ?? null);
   }
 
   send_again(event, byte, hear) {

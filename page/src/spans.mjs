@@ -65,7 +65,9 @@ export class Events {
   add(event, byte, count) {
     const { last } = this;
     if (last.count && (last.event !== event || event === EVENT.KEY)) this.close();
-    this.last = { event, byte, count: this.last.count + count };
+    last.event = event;
+    last.byte = byte;
+    last.count += count;
     this.end += count;
   }
 

@@ -6,7 +6,7 @@ import { pathToFileURL } from "node:url";
 import { open } from "./browser.mjs";
 
 const [page_file, commands = 1200] = process.argv.slice(2), TICKS = 30, MIB = 1 << 20;
-const MOST_GROWN = 4 * MIB; // from the second tenth on, of the page and of the worker
+const MOST_GROWN = 6 * MIB; // from the second tenth on, of the page and of the worker
 const COMMANDS = ["echo hello | wc", "primes 30", "forks", "cat poem.txt | sort | head -3", "pingpong 5", "storm 7 100", "ls", "grep writer poem.txt", "crash 13", "(echo x ; echo y) | wc", "sleep 2", "wc < poem.txt"];
 const mib = (bytes) => (bytes / MIB).toFixed(1);
 
