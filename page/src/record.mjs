@@ -1,6 +1,6 @@
 // The record of a run, in the worker: what came of its events, in blocks of so many stretches. The last blocks and those that were looked at
 // last are at hand. Of the others a summary is left; the run makes them again, when they are looked at: it goes there, and sends their
-// events once more. So the record takes the same memory however long the run is, but for some 0.1 bytes of a stretch.
+// events once more. So the record takes the same memory however long the run is, but for a fraction of a byte of a stretch.
 import { KIND } from "./machine.mjs";
 import { Timeline } from "./timeline.mjs";
 
