@@ -19,7 +19,11 @@ const follow = async (page, link, query = "") => {
 const at = (page) => page.eval("page.app.view?.at");
 const shown = (page) => page.eval("['instruction', 'pages', 'translate', 'opened', 'happened', 'why'].find((it) => !document.getElementById(it).hidden)");
 const events = (page) => page.eval("[...document.querySelectorAll('#event-list > *')].map((it) => it.textContent)");
-const show_events = (page, what) => page.eval(`(() => { const it = document.getElementById('event-what'); it.value = '${what}'; it.dispatchEvent(new Event('input')); })()`);
+/** Chooses what is shown of the events; the worker is asked for them. */
+const show_events = async (page, what) => {
+  await page.eval(`(() => { const it = document.getElementById('event-what'); it.value = '${what}'; it.dispatchEvent(new Event('input')); })()`);
+  await page.sleep(300);
+};
 const translated = (page) => text_of(page, "translate-told");
 const EXIT = "  li a0, 7\n  li a7, 2\n  ecall\n";
 
