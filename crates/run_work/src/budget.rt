@@ -94,7 +94,8 @@ impl Work {
     }
 }
 
-/// That a run has used up its budget: `budget: 1,234 Runs, and pages that they clear or copy, are more work than 5,000`.
+/// That a run has used up its budget: `budget: 1,234 Runs, events between them, and pages that they clear or copy, are
+/// more work than 5,000`.
 #[derive(Clone, Copy)]
 pub struct OverBudget {
     pub runs: u64,
@@ -106,7 +107,7 @@ impl fmt::Display for OverBudget {
         let (runs, budget) = (Grouped(self.runs), Grouped(self.budget));
         write!(
             f,
-            "budget: {runs} Runs, and pages that they clear or copy, are more work than {budget}"
+            "budget: {runs} Runs, events between them, and pages that they clear or copy, are more work than {budget}"
         )
     }
 }
