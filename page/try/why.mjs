@@ -1,6 +1,7 @@
 // why.mjs MODULE.wasm PROGRAMS REPORTS: whether the page's module tells the very words of xv_why: of each program of the folder REPORTS
-// (checks/why) the report of its fault and of who sleeps, as they are stored beside it. Those in C are left out if there is no compiler
-// of the version with which they were stored. The status is 1 if a report is another.
+// (checks/why) the report of its fault and of who sleeps, as they are stored beside it. Growths that were refused before, kills, and who
+// hasn't been waited for are left out: xv_why tells them of the whole run, and the module of one place. Those in C are left out if there is
+// no compiler of the version with which they were stored. The status is 1 if a report is another.
 import { spawnSync } from "node:child_process";
 import { copyFileSync, mkdtempSync, readFileSync, readdirSync, rmSync } from "node:fs";
 import { tmpdir } from "node:os";
@@ -11,6 +12,7 @@ import { elf_of, read_table, rows_of } from "../src/tables.mjs";
 
 const [module, folder, reports] = process.argv.slice(2), machine = new Machine(new WebAssembly.Module(readFileSync(module))), run = new Run(machine);
 const QUANTUM = 1000, ROUNDS = 2000;
+const OF_THE_RUN = /^(  its sbrk at .* was refused before: .*|process \d+ \(.*\) was killed by .*|process \d+ has ended with status .* has not waited for it)\n/gm;
 learn_calls([...machine.kernel_calls]);
 let bad = 0, count = 0;
 
@@ -24,7 +26,7 @@ function compare(name, bytes, known, stored_in) {
     if (it.kind === KIND.FAULT) told.push(run.look(run.at - 1, () => { machine.know(2, known); return machine.fault_text(it.number); }));
   }
   for (const pid of machine.pids()) if (machine.process(pid).lives) told.push(machine.wait_text(pid));
-  const stored = readFileSync(stored_in, "utf8").replace(/xv_why: .*\n$/, ""), is = `${told.join("\n")}\n` === stored;
+  const stored = readFileSync(stored_in, "utf8").replace(/xv_why: .*\n$/, "").replace(OF_THE_RUN, ""), is = `${told.join("\n")}\n` === stored;
   count++;
   if (!is) { console.log(`NOT ${name}: the module tells\n${told.join("\n")}\nand xv_why\n${stored}`); bad++; }
 }
