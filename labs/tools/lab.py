@@ -6,6 +6,7 @@ import pathlib
 import shutil
 import subprocess
 import sys
+import tempfile
 
 import bodies
 import laws
@@ -23,7 +24,7 @@ HELP = """usage: lab                     the labs, from the first on
        lab run FOLDER FILE..   runs programs on the kernel with your body in it, in a build without proofs
        lab grade [--jobs N] FOLDER..    CSV: each folder's lab, verdict and reason; N folders at once
        lab prepare [NAME..]    proves what lies below the labs of these names, once in a clone (no NAME: below all labs)
-       lab pack FILE           what `lab prepare` made, as an archive FILE (.tar.xz) for a class
+       lab pack FILE [NAME..]  what `lab prepare` made for these labs, as an archive FILE (.tar.xz) for a class (no NAME: for all)
        lab unpack FILE         puts what is in such an archive into a clone of the same version, with the same kit
 
 It needs the Rattle kit (`rt` on the PATH) and Python 3. `lab check` and `lab grade` end with the status 0 if each body is
@@ -101,44 +102,58 @@ def built_by(lab):
 
 
 def prepare(names):
-    """Proves what lies below labs, and their own crates."""
+    """Proves what lies below labs, and their own crates. A crate that a lab stands on has to be there as a library, too."""
     need_kit()
-    for crate in dict.fromkeys(built_by(Lab(it)) for it in names or all_labs()):
+    labs = [Lab(it) for it in names or all_labs()]
+    for crate, word in dict.fromkeys((built_by(it), "lib" if it.is_own else "check") for it in labs):
         say(f"proving {crate} and what lies below it, some {SECONDS.get(crate, 60)} seconds and what is missing below")
         how = {"cwd": TOP / "crates" / crate, "stdout": subprocess.PIPE, "stderr": subprocess.STDOUT}
-        done = subprocess.run(["rt", "check"], check=False, **how)
+        done = subprocess.run(["rt", word], check=False, **how)
         if done.returncode:
             tail = done.stdout.decode(errors="replace").strip().split("\n")[-3:]
             raise LabError(f"{crate} of this clone isn't proved, so it can't be prepared: {' '.join(tail)}")
     say("all is there")
 
 
-def kept_work():
-    """What labs need of what `rt` keeps: the libraries below, and the work of the labs' own crates."""
-    labs = [Lab(it) for it in all_labs()]
-    for name in dict.fromkeys(it for lab in labs for it in [*lab.below(), built_by(lab)]):
-        yield f"crates/{name}/out/rlib"
-    for name in dict.fromkeys(built_by(lab) for lab in labs):
-        yield f"crates/{name}/out/incremental"
+def kept_work(lab):
+    """What a lab needs of what `rt` keeps: the libraries below its crate, and the work of that crate, if it is the clone's."""
+    paths = [f"crates/{name}/out/rlib" for name in lab.below()]
+    return paths if lab.is_own else [*paths, f"crates/{lab.crate}/out/incremental"]
 
 
-def pack(file):
-    """Packs what `lab prepare` made."""
-    paths = list(kept_work())
+def kept_works(names):
+    """What the labs of these names need of what `rt` keeps."""
+    return list(dict.fromkeys(path for it in names for path in kept_work(Lab(it))))
+
+
+def pack(file, names):
+    """Packs what `lab prepare` made for the labs of these names."""
+    paths = kept_works(names)
     absent = [it for it in paths if not (TOP / it).is_dir()]
     if absent:
         raise LabError(f"{absent[0]} isn't there: `lab prepare` makes it")
     say("packing, some minutes")
-    words = ["tar", "-C", str(TOP), "--sort=name", "--owner=0", "--group=0", "-cJf", os.path.abspath(file), *paths]
+    how = ["--sort=name", "--owner=0", "--group=0", "--hard-dereference"]
+    words = ["tar", "-C", str(TOP), *how, "-cJf", os.path.abspath(file), *paths]
     if subprocess.run(words, env={**os.environ, "XZ_OPT": "-T0"}, check=False).returncode:
         raise LabError(f"{file} couldn't be written")
 
 
 def unpack(file):
-    """Takes out of an archive what labs need, and nothing else."""
-    if subprocess.run(["tar", "-C", str(TOP), "-xJf", os.path.abspath(file), *kept_work()], check=False).returncode:
-        raise LabError(f"{file} isn't such an archive, or not of this version")
-    say("all is there; if the kit is another, or a crate was changed, rt proves it anew")
+    """Takes out of an archive what labs need, and nothing else. What is kept may be linked to what another clone keeps, so
+    a folder takes the place of the old one, whose files stay as they are."""
+    with tempfile.TemporaryDirectory(dir=TOP, prefix=".unpacked-") as home:
+        words = ["tar", "-C", home, "-xJf", os.path.abspath(file)]
+        is_read = subprocess.run(words, check=False).returncode == 0
+        found = [it for it in kept_works(all_labs()) if is_read and os.path.isdir(os.path.join(home, it))]
+        if not found:
+            raise LabError(f"{file} isn't such an archive")
+        for path in found:
+            shutil.rmtree(TOP / path, ignore_errors=True)
+            (TOP / path).parent.mkdir(parents=True, exist_ok=True)
+            os.rename(os.path.join(home, path), TOP / path)
+    ready = [it for it in all_labs() if all((TOP / path).is_dir() for path in kept_work(Lab(it)))]
+    say(f"prepared now: {', '.join(ready)}; if the kit is another, or a crate was changed, rt proves it anew")
 
 
 def name_of(folder):
@@ -264,8 +279,8 @@ def main(words):
                 return grade(words[1:])
             case ["run", folder, _, *_]:
                 run(folder, words[2:])
-            case ["pack", file]:
-                pack(file)
+            case ["pack", file, *names] if not file.startswith("-"):
+                pack(file, names or all_labs())
             case ["unpack", file]:
                 unpack(file)
             case ["prepare", *names]:
