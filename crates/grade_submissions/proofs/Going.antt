@@ -1,5 +1,5 @@
 -- Runs of a machine that go on, with what is kept of them.
-use Rattle.std.proofs.Common.{◌≡◌, ◌⊎◌, ℕ, ◌+◌, ◌<◌, ◌≤◌, Bool, true, false, List, [], ◌∷◌, ◌++◌, replicate, Option, inl, inr, refl, sym, ap, ◌∙◌, subst, append-nil, append_assoc}
+use Rattle.std.proofs.Common.{◌≡◌, ℕ, ◌<◌, ◌≤◌, true, false, List, [], ◌∷◌, ◌++◌, replicate, Option, inl, inr, refl, sym, ap, ◌∙◌, subst, append-nil, append_assoc}
 use Rattle.std.proofs.lemmas.Bool.{true≢false}
 use Rattle.kernel_spec.specs.runs.Run.{Event, Run, Outcome}
 use Rattle.kernel_spec.specs.runs.Rounds.{events}
@@ -9,7 +9,7 @@ use Rattle.xv_machine.proofs.Joins.{goes-one, events-join}
 use Rattle.xv_machine.proofs.Reached.{reaches_on}
 use Rattle.xv_session.specs.Answers.{IsNew, Sent, RunsSent}
 use Rattle.xv_session.specs.Recorded.{Recorded, IsRecorded}
-use Rattle.grade_submissions.specs.Plays.{Told, nothing, runs_in, told_of, told_with, told_by, told_runs, is_full, PlaysOn, PlaysFirst}
+use Rattle.grade_submissions.specs.Plays.{Told, runs_in, told_of, told_with, told_by, told_runs, is_full, PlaysOn, PlaysFirst}
 use Rattle.grade_submissions.specs.declared.playing.Played.{Played}
 use Rattle.grade_submissions.proofs.Telling.{told-join, runs-told}
 

@@ -1,5 +1,5 @@
 -- Rounds of a plan, one behind another, and how they end.
-use Rattle.std.proofs.Common.{◌≡◌, ◌⊎◌, ◌∙◌, ℕ, zero, suc, ◌+◌, ◌*◌, ◌<◌, ◌≤◌, arith, Bool, true, false, ◌||◌, cond, List, [], ◌∷◌}
+use Rattle.std.proofs.Common.{◌≡◌, ◌⊎◌, ◌∙◌, ℕ, zero, suc, ◌+◌, ◌<◌, ◌≤◌, arith, Bool, true, false, ◌||◌, cond, List, [], ◌∷◌}
 use Rattle.std.proofs.Common.{◌++◌, length, replicate, drop, slice_get, Option, None, Some, Result, Ok, Err, inl, inr, refl, sym, ap, subst, append-nil, append_assoc}
 use Rattle.std.specs.Prelude.{ℤ, is_some, nat_lt}
 use Rattle.std.proofs.lemmas.Bool.{true≢false, or_parts}
@@ -13,7 +13,7 @@ use Rattle.kernel_spec.specs.views.NewKernel.{refusal}
 use Rattle.kernel_spec.specs.views.Programs.{init_name, init_of}
 use Rattle.kernel_spec.specs.runs.First.{first, first_init, first_loaded, unless_refused, within_frames}
 use Rattle.kernel_spec.specs.runs.Run.{Event, Run, Tick, Send, Outcome, World}
-use Rattle.kernel_spec.specs.runs.Rounds.{events, halts, key_events, round, AreRounds, Planned}
+use Rattle.kernel_spec.specs.runs.Rounds.{halts, key_events, round, AreRounds}
 use Rattle.kernel_spec.specs.views.State.{ProgramFile}
 use Rattle.kernel_spec.proofs.runs.Plans.{rounds_follow_rounds}
 use Rattle.xv_machine.specs.Drives.{StopsInRound}

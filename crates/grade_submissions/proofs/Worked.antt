@@ -1,13 +1,48 @@
 -- Worked cases of the definitions.
-use Rattle.std.specs.Prelude.{◌≡◌, true, false, [], ◌∷◌, None, Some, codes, refl}
+use Rattle.std.specs.Prelude.{◌≡◌, true, false, [], ◌∷◌, None, Some, String, string_bytes, codes, refl}
+use Rattle.std.specs.declared.alloc.Global.{Global}
 use Rattle.grade_rules.specs.declared.ending.End.TheVariants as ends
 use Rattle.kernel_spec.specs.runs.Run.{Run, Tick, Sent, Idle}
-use Rattle.grade_submissions.specs.Files.{path_in}
+use Rattle.grade_submissions.specs.declared.disk.Found.TheVariants.{Nothing, NoFile}
+use Rattle.grade_submissions.specs.declared.submission.HandedIn.TheVariants.{Refused}
+use Rattle.grade_submissions.specs.Files.{path_in, without_mark, without_returns, speaks_of, no_file_text, IsFoundAs}
 use Rattle.grade_submissions.specs.Plays.{sending_after, runs_among, waiting}
 
 -- a file `b` in the folder `a`
 in_a_folder : path_in (codes "a") (codes "b") ≡ codes "a/b"
 in_a_folder = refl
+
+-- a byte order mark goes, if it stands first
+a_mark : without_mark (0xef ∷ 0xbb ∷ 0xbf ∷ 65 ∷ []) ≡ (65 ∷ [])
+a_mark = refl
+
+no_mark : without_mark (65 ∷ 0xef ∷ 0xbb ∷ 0xbf ∷ []) ≡ (65 ∷ 0xef ∷ 0xbb ∷ 0xbf ∷ [])
+no_mark = refl
+
+-- a carriage return goes, and the end of the line stays
+a_return : without_returns (65 ∷ 13 ∷ 10 ∷ []) ≡ (65 ∷ 10 ∷ [])
+a_return = refl
+
+-- a line speaks of the file whose whole name stands before its colon
+of_this : speaks_of (codes "init.s") (codes "init.s: a link") ≡ true
+of_this = refl
+
+of_another : speaks_of (codes "init") (codes "init.s: a link") ≡ false
+of_another = refl
+
+none_there : (one other : String Global) → string_bytes one ≡ codes "init" → string_bytes other ≡ codes "init.s"
+    → no_file_text (one ∷ other ∷ []) ≡ codes "no file init or init.s"
+none_there one other is that = rw (is, that) refl
+
+-- what isn't there is no refusal, and a link is one
+nothing_there : IsFoundAs (codes "init") Nothing None
+nothing_there = refl
+
+a_link : (why : String Global) → string_bytes why ≡ codes "init: not a plain file" → IsFoundAs (codes "init") NoFile (Some (Refused why))
+a_link why is = is
+
+a_link_is_there : IsFoundAs (codes "init") NoFile None → ⊥
+a_link_is_there is = is
 
 -- two Runs and a Tick have two Runs
 two_runs : runs_among (Run ∷ Tick ∷ Run ∷ []) ≡ 2

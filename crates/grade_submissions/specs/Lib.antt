@@ -1,3 +1,4 @@
+pub mod Disks
 pub mod Files
 pub mod Plays
 pub mod Results

@@ -1,19 +1,20 @@
 //! The file of an exercise: what it asks for, and what it says of files.
 ghost use Rattle.std.specs.Prelude.{◌≡◌, string_bytes, IfOk};
+ghost use Rattle.grade_submissions.specs.Results.{IsExerciseOf};
 
 use crate::command_line::Settings;
+use crate::disk::Disk;
 use crate::host_files::{folder_of, refused, text_of};
 use grade_sheets::{Exercise, Text};
 use program_files::Failure;
 use std::alloc::Global;
 use std::io::Write;
-use std::rt::Files;
 
-/// An exercise that was read: under which path, and for the student of which name.
+/// An exercise that was read: of which text, and for the student of which name.
 #[derive(Drop)]
 pub struct ReadExercise {
     pub exercise: Exercise,
-    pub path: String,
+    pub text: String,
     pub student: Vec<u8>,
 }
 
@@ -23,28 +24,23 @@ pub struct ReadExercise {
 ///
 /// [`Failure::Refused`] if it can't be read, is longer than 1,048,576 bytes or is no exercise, and
 /// [`Failure::OutOfMemory`].
-pub(crate) fn read_exercise<R: Files + AllocGlobal>(
-    rt: &R,
+pub(crate) fn read_exercise<D: Disk>(
+    alloc: Global,
+    disk: &D,
     path: &str,
     name: &[u8],
 ) -> Result<ReadExercise, Failure<'static>>
-    ensures path { IfOk result (λ read. string_bytes read.path ≡ path.now) }
-    ensures student { IfOk result (λ read. read.student.items ≡ name.now) }
+    ensures { IfOk result (IsExerciseOf (D.reads disk.now) path.now name.now) }
 {
-    let alloc = rt.alloc();
-    let text = text_of(rt, path)?;
-    let exercise = match Exercise::read(alloc, text.as_str(), name) {
-        Ok(exercise) => exercise,
-        Err(error) => {
-            let why = format!(in alloc; "{error}")?;
-            return Err(refused(alloc, path, why.as_str()));
-        }
-    };
-    Ok(ReadExercise {
-        exercise,
-        path: String::from_str(alloc, path)?,
-        student: Vec::from_slice(alloc, name)?,
-    })
+    let text = text_of(alloc, disk, path)?;
+    match Exercise::read(alloc, text.as_str(), name) {
+        Ok(exercise) => Ok(ReadExercise {
+            exercise,
+            text,
+            student: Vec::from_slice(alloc, name)?,
+        }),
+        Err(error) => Err(Failure::in_words(format!(in alloc; "{path}: {error}"))),
+    }
 }
 
 // Shows a line.
@@ -98,14 +94,15 @@ fn show_inputs<W: Write>(
 /// # Errors
 ///
 /// [`Failure::Refused`] for the exercise's file, [`Failure::OutOfMemory`], and [`Failure::Write`].
-pub(crate) fn show_files<R: Files + AllocGlobal, W: Write>(
-    rt: &R,
+pub(crate) fn show_files<D: Disk, W: Write>(
+    alloc: Global,
+    disk: &D,
     settings: &Settings,
     output: &mut W,
 ) -> Result<(), Failure<'static>> {
-    let read = read_exercise(rt, settings.exercise.as_str(), &[])?;
+    let read = read_exercise(alloc, disk, settings.exercise.as_str(), &[])?;
     if settings.inputs {
-        return show_inputs(rt.alloc(), settings, &read.exercise, output);
+        return show_inputs(alloc, settings, &read.exercise, output);
     }
     for run in &read.exercise.runs {
         show_lines(output, run.files.as_slice())?;
@@ -127,13 +124,14 @@ fn show_fact<W: Write>(output: &mut W, fact: &Text) -> Result<(), Failure<'stati
 /// # Errors
 ///
 /// [`Failure::Refused`] for the exercise's file, [`Failure::OutOfMemory`], and [`Failure::Write`].
-pub(crate) fn show_variant<R: Files + AllocGlobal, W: Write>(
-    rt: &R,
+pub(crate) fn show_variant<D: Disk, W: Write>(
+    alloc: Global,
+    disk: &D,
     settings: &Settings,
     name: &[u8],
     output: &mut W,
 ) -> Result<(), Failure<'static>> {
-    let read = read_exercise(rt, settings.exercise.as_str(), name)?;
+    let read = read_exercise(alloc, disk, settings.exercise.as_str(), name)?;
     for fact in &read.exercise.variant {
         show_fact(output, fact)?;
     }

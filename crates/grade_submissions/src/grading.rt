@@ -1,22 +1,25 @@
 //! A submission, from its folder to its results.
-ghost use Rattle.std.specs.Prelude.{◌≡◌, IfOk, OnOk, string_bytes};
+ghost use Rattle.std.specs.Prelude.{◌≡◌, IfOk, OnOk, map, string_bytes};
 ghost use Rattle.grade_sheets.specs.Standings.{IsUngraded};
-ghost use Rattle.grade_submissions.specs.Files.{IsNameOf, IsShownAs};
-ghost use Rattle.grade_submissions.specs.Results.{plan_of, IsSeenOf, IsGradeOf, IsResultWith, IsResultIn, AreResultsOf, IsWholeGrade, IsLineShown};
+ghost use Rattle.grade_submissions.specs.Files.{IsNameOf, IsShownAs, AreRefusedBy};
+ghost use Rattle.grade_submissions.specs.Results.{plan_of, places_in, IsSeenOf, IsGradeOf, IsResultWith, IsRun, IsResultFor, AreResultsOf, IsWholeGrade, IsLineShown};
 
 use crate::command_line::Settings;
+use crate::disk::Disk;
 use crate::exercise_file::read_exercise;
-use crate::host_files::{bytes_of, folder_of, last_part, text_of};
+use crate::host_files::{folder_of, last_part, text_of};
 use crate::playing::{Plan, Played, play};
 use crate::reasons::cause;
 use crate::results::{write_result, write_run};
-use crate::submission::{FoundPrograms, HandedIn, Submission, handed_in, programs_of_files};
-use grade_sheets::{Exercise, Grade, Run, RunGrade, Seen, csv_line, graded, ungraded, xml_suite};
+use crate::submission::{HandedIn, Submission, handed_in, programs_of_files};
+use grade_sheets::{
+    Exercise, Grade, Run, RunGrade, Seen, csv_line, graded, lines_in, ungraded, xml_suite,
+};
 use program_files::{Failure, put};
 use std::alloc::{AllocError, Global};
 use std::io::Write;
 use std::rt::Files;
-use xk_base::BootError;
+use xk_base::{BootError, Program};
 use xv_machine::{Config, Note as Event};
 
 /// The most events that a trace keeps.
@@ -27,16 +30,17 @@ const TRACE: u32 = 4_096;
 /// # Errors
 ///
 /// [`Failure::Refused`] if that file can't be read, and [`Failure::OutOfMemory`].
-pub(crate) fn name_of<R: Files + AllocGlobal>(
-    rt: &R,
+pub(crate) fn name_of<D: Disk>(
+    alloc: Global,
+    disk: &D,
     settings: &Settings,
     folder: &str,
 ) -> Result<Vec<u8>, Failure<'static>>
-    ensures { IfOk result (λ name. IsNameOf settings.now.name folder.now name.items) }
+    ensures { IfOk result (λ name. IsNameOf (D.reads disk.now) settings.now.name folder.now name.items) }
 {
     match &settings.name {
-        Some(path) => bytes_of(rt, path.as_str()),
-        None => Ok(Vec::from_slice(rt.alloc(), last_part(folder).as_bytes())?),
+        Some(path) => disk.bytes(path.as_str()),
+        None => Ok(Vec::from_slice(alloc, last_part(folder).as_bytes())?),
     }
 }
 
@@ -64,13 +68,16 @@ fn shown_name(alloc: Global, name: &[u8]) -> Result<String, AllocError>
 }
 
 // The lines that say why files aren't to be run.
-fn refused_before<R: Files + AllocGlobal>(
-    rt: &R,
+fn refused_before<D: Disk>(
+    alloc: Global,
+    disk: &D,
     settings: &Settings,
-) -> Result<String, Failure<'static>> {
+) -> Result<String, Failure<'static>>
+    ensures { IfOk result (λ text. AreRefusedBy (D.reads disk.now) settings.now.refused (string_bytes text)) }
+{
     match &settings.refused {
-        Some(path) => text_of(rt, path.as_str()),
-        None => Ok(String::new(rt.alloc())),
+        Some(path) => text_of(alloc, disk, path.as_str()),
+        None => Ok(String::new(alloc)),
     }
 }
 
@@ -166,10 +173,10 @@ fn played_run<R: Files + AllocGlobal>(
     settings: &Settings,
     submission: &Submission,
     run: &Run,
-    files: FoundPrograms,
+    files: Vec<Program>,
     number: usize,
 ) -> Result<RunGrade, Failure<'static>>
-    ensures { IfOk result (IsResultWith run.now files submission.now) }
+    ensures { IfOk result (IsResultWith run.now files.items submission.now) }
 {
     let alloc = rt.alloc();
     let programs = submission.programs(alloc, files, run.texts.as_slice())?;
@@ -185,75 +192,92 @@ fn played_run<R: Files + AllocGlobal>(
 }
 
 // Runs a submission once, and grades the run, which has this number.
-fn one_run<R: Files + AllocGlobal>(
+fn one_run<R: Files + AllocGlobal, D: Disk>(
     rt: &R,
+    disk: &D,
     settings: &Settings,
     submission: &Submission,
     run: &Run,
     exercise_folder: &str,
     number: usize,
 ) -> Result<RunGrade, Failure<'static>>
-    ensures { IfOk result (IsResultIn run.now exercise_folder.now (HandedIn.File submission.now)) }
+    ensures { IfOk result (IsRun (D.reads disk.now) exercise_folder.now run.now submission.now) }
 {
-    let files = programs_of_files(rt, exercise_folder, run.with.as_slice())?;
+    let files = programs_of_files(rt.alloc(), disk, exercise_folder, run.with.as_slice())?;
     played_run(rt, settings, submission, run, files, number)
 }
 
 // What the run of this number gives, for what was handed in.
-fn run_result<R: Files + AllocGlobal>(
+fn run_result<R: Files + AllocGlobal, D: Disk>(
     rt: &R,
+    disk: &D,
     settings: &Settings,
     handed_in: HandedIn,
     run: &Run,
     exercise_folder: &str,
     number: usize,
 ) -> Result<RunGrade, Failure<'static>>
-    ensures { IfOk result (IsResultIn run.now exercise_folder.now handed_in) }
+    ensures { IfOk result (IsResultFor (D.reads disk.now) exercise_folder.now run.now handed_in) }
 {
     match handed_in {
         HandedIn::File(submission) => {
-            one_run(rt, settings, &submission, run, exercise_folder, number)
+            one_run(
+                rt,
+                disk,
+                settings,
+                &submission,
+                run,
+                exercise_folder,
+                number,
+            )
         }
         HandedIn::Refused(why) => Ok(ungraded(rt.alloc(), run.asked.as_slice(), why)?),
     }
 }
 
-// What each run gives.
-fn run_results<R: Files + AllocGlobal>(
+// What each run gives, if these lines say which files aren't run.
+fn run_results<R: Files + AllocGlobal, D: Disk>(
     rt: &R,
+    disk: &D,
     settings: &Settings,
     runs: &[Run],
     exercise_folder: &str,
     folder: &str,
+    refused: &[&str],
 ) -> Result<Vec<RunGrade>, Failure<'static>>
-    ensures { IfOk result (λ grades. AreResultsOf (record { exercise = exercise_folder.now; submission = folder.now }) runs.now grades.items) }
+    ensures { IfOk result (λ grades. AreResultsOf (D.reads disk.now)
+        (record { exercise = exercise_folder.now; handing = record { folder = folder.now; refused = map (λ line. line.now) refused.now } }) runs.now grades.items) }
 {
-    let refused = refused_before(rt, settings)?;
     let mut grades = Vec::new(rt.alloc());
     for run in runs {
         let number = grades.len().saturating_add(1);
-        let handed_in = handed_in(rt, run.files.as_slice(), folder, refused.as_str())?;
-        grades.push(run_result(rt, settings, handed_in, run, exercise_folder, number)?)?;
+        let handed_in = handed_in(rt.alloc(), disk, run.files.as_slice(), folder, refused)?;
+        grades.push(run_result(rt, disk, settings, handed_in, run, exercise_folder, number)?)?;
     }
     Ok(grades)
 }
 
-// The grade of a submission's runs.
-fn whole_grade<R: Files + AllocGlobal>(
+// The grade of a submission's runs, if this text says which files aren't run.
+fn whole_grade<R: Files + AllocGlobal, D: Disk>(
     rt: &R,
+    disk: &D,
     settings: &Settings,
     exercise: &Exercise,
     exercise_folder: &str,
     folder: &str,
+    refused: &str,
 ) -> Result<Grade, Failure<'static>>
-    ensures { IfOk result (IsWholeGrade (record { exercise = exercise_folder.now; submission = folder.now }) exercise.now) }
+    ensures { IfOk result (IsWholeGrade (D.reads disk.now) (places_in exercise_folder.now folder.now refused.now) exercise.now) }
 {
+    let lines = lines_in(rt.alloc(), refused)?;
     let runs = run_results(
         rt,
+        disk,
         settings,
         exercise.runs.as_slice(),
         exercise_folder,
         folder,
+        lines.as_slice(),
     )?;
     Ok(Grade::of(rt.alloc(), exercise, runs)?)
 }
@@ -278,21 +302,32 @@ fn write_suite<R: Files + AllocGlobal>(
 ///
 /// [`Failure::Refused`] for the exercise's files and those of the settings, [`Failure::OutOfMemory`], and
 /// [`Failure::Write`] for results that can't be written.
-pub fn grade_submission<R: Files + AllocGlobal, W: Write>(
+pub fn grade_submission<R: Files + AllocGlobal, D: Disk, W: Write>(
     rt: &R,
+    disk: &D,
     settings: &Settings,
     folder: &str,
     output: &mut W,
 ) -> Result<(), Failure<'static>>
-    ensures { OnOk result (IsLineShown settings.now folder.now (W.contents output.old) (W.contents output.new)) }
+    ensures { OnOk result (IsLineShown (D.reads disk.now) settings.now folder.now (W.contents output.old) (W.contents output.new)) }
 {
-    let own_name = name_of(rt, settings, folder)?;
-    let read = read_exercise(rt, settings.exercise.as_str(), own_name.as_slice())?;
-    let shown = shown_name(rt.alloc(), own_name.as_slice())?;
+    let alloc = rt.alloc();
+    let exercise = settings.exercise.as_str();
+    let own_name = name_of(alloc, disk, settings, folder)?;
+    let read = read_exercise(alloc, disk, exercise, own_name.as_slice())?;
+    let refused = refused_before(alloc, disk, settings)?;
+    let grade = whole_grade(
+        rt,
+        disk,
+        settings,
+        &read.exercise,
+        folder_of(exercise),
+        folder,
+        refused.as_str(),
+    )?;
+    let shown = shown_name(alloc, own_name.as_slice())?;
     let name = shown.as_str().as_bytes();
-    let exercise_folder = folder_of(settings.exercise.as_str());
-    let grade = whole_grade(rt, settings, &read.exercise, exercise_folder, folder)?;
-    let Ok(line) = csv_line(rt.alloc(), name, &grade) else {
+    let Ok(line) = csv_line(alloc, name, &grade) else {
         return Err(Failure::OutOfMemory);
     };
     write_suite(rt, settings, &read.exercise, name, &grade)?;

@@ -1,14 +1,10 @@
-//! Small files of the host, and their paths.
+//! Small files, and their paths.
+ghost use Rattle.std.specs.Prelude.{IfOk, string_bytes};
 ghost use Rattle.grade_submissions.specs.Files.{IsEnd, IsFolderOf, IsLastPart};
 
+use crate::disk::Disk;
 use program_files::Failure;
 use std::alloc::Global;
-use std::fs;
-use std::io::{self, ErrorKind};
-use std::rt::Files;
-
-/// The most bytes of a file that is read here.
-const FILE_BYTES: u64 = 1_048_576;
 
 /// The part of a path before its last slash.
 pub(crate) fn folder_of(path: &str) -> &str
@@ -45,53 +41,20 @@ pub(crate) fn refused(alloc: Global, path: &str, why: &str) -> Failure<'static> 
     Failure::in_words(format!(in alloc; "{path}: {why}"))
 }
 
-// What a call on the file of a path comes to that failed.
-fn failed(alloc: Global, path: &str, error: &io::Error) -> Failure<'static> {
-    match error.kind() {
-        ErrorKind::OutOfMemory => Failure::OutOfMemory,
-        ErrorKind::InvalidData => refused(alloc, path, "not text"),
-        _ => refused(alloc, path, "cannot be read"),
-    }
-}
-
-// That a file isn't too long.
-fn check_length<R: Files + AllocGlobal>(rt: &R, path: &str) -> Result<(), Failure<'static>> {
-    match fs::metadata(rt, path) {
-        Ok(found) if found.len() <= FILE_BYTES => Ok(()),
-        Ok(_) => Err(refused(rt.alloc(), path, "too long")),
-        Err(error) => Err(failed(rt.alloc(), path, &error)),
-    }
-}
-
 /// The text of a file.
 ///
 /// # Errors
 ///
-/// [`Failure::Refused`] if it can't be read, has more than 1,048,576 bytes or isn't UTF-8, and
-/// [`Failure::OutOfMemory`].
-pub(crate) fn text_of<R: Files + AllocGlobal>(
-    rt: &R,
+/// Those of [`Disk::bytes`], and [`Failure::Refused`] if it isn't UTF-8.
+pub(crate) fn text_of<D: Disk>(
+    alloc: Global,
+    disk: &D,
     path: &str,
-) -> Result<String, Failure<'static>> {
-    check_length(rt, path)?;
-    match fs::read_to_string(rt, path) {
+) -> Result<String, Failure<'static>>
+    ensures { IfOk result (λ text. (D.reads disk.now).bytes path.now (string_bytes text)) }
+{
+    match String::from_utf8(disk.bytes(path)?) {
         Ok(text) => Ok(text),
-        Err(error) => Err(failed(rt.alloc(), path, &error)),
-    }
-}
-
-/// The bytes of a file.
-///
-/// # Errors
-///
-/// [`Failure::Refused`] if it can't be read or has more than 1,048,576 bytes, and [`Failure::OutOfMemory`].
-pub(crate) fn bytes_of<R: Files + AllocGlobal>(
-    rt: &R,
-    path: &str,
-) -> Result<Vec<u8>, Failure<'static>> {
-    check_length(rt, path)?;
-    match fs::read(rt, path) {
-        Ok(bytes) => Ok(bytes),
-        Err(error) => Err(failed(rt.alloc(), path, &error)),
+        Err(_) => Err(refused(alloc, path, "not text")),
     }
 }

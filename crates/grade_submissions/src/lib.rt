@@ -4,13 +4,14 @@
 //! `play` of `playing.rt` boots a machine and plays the rounds of a plan, each with the next key. It keeps a note of each
 //! turn, call, sleep, exit and fault, and the bytes that the console showed. That these are the notes and the bytes of
 //! just the events that the machine got, and that these events are those of the plan, is `IsRunOf` in
-//! `specs/Plays.antt`. That a line is that of the submission, the exercise and the runs, is `IsLineShown` in
-//! `specs/Results.antt`.
+//! `specs/Plays.antt`. What is handed in, and when it isn't run, is `IsHandedIn` in `specs/Files.antt`. That a line is
+//! that of the submission, the exercise and the runs, is `IsLineShown` in `specs/Results.antt`.
 #![tactic(auto)]
 
 ghost use Rattle.program_files.specs.Statuses.{IsPlainStatus};
 
 mod command_line;
+mod disk;
 mod exercise_file;
 mod grading;
 mod host_files;
@@ -21,6 +22,7 @@ mod submission;
 
 pub use command_line::Settings;
 use command_line::read_settings;
+pub use disk::{Disk, Found};
 use exercise_file::{show_files, show_variant};
 pub use grading::grade_submission;
 use grading::name_of;
@@ -36,11 +38,11 @@ pub const NAME: &str = "xv_grade";
 fn grade(rt: &HostRuntime, settings: &Settings) -> Result<(), Failure<'static>> {
     match &settings.submission {
         Some(folder) if settings.variant => {
-            let name = name_of(rt, settings, folder.as_str())?;
-            show_variant(rt, settings, name.as_slice(), &mut rt.stdout())
+            let name = name_of(rt.alloc(), rt, settings, folder.as_str())?;
+            show_variant(rt.alloc(), rt, settings, name.as_slice(), &mut rt.stdout())
         }
-        Some(folder) => grade_submission(rt, settings, folder.as_str(), &mut rt.stdout()),
-        None => show_files(rt, settings, &mut rt.stdout()),
+        Some(folder) => grade_submission(rt, rt, settings, folder.as_str(), &mut rt.stdout()),
+        None => show_files(rt.alloc(), rt, settings, &mut rt.stdout()),
     }
 }
 

@@ -1,29 +1,27 @@
 //! What was handed in, and the programs of a run.
-ghost use Rattle.std.specs.Prelude.{◌≡◌, ◌∷◌, [], ◌++◌, map, string_bytes, IfOk, IfSome};
+ghost use Rattle.std.specs.Prelude.{◌≡◌, ◌≢◌, ◌==◌, ◌++◌, map, option_map, length, eqb, if◌then◌else◌, codes, string_bytes, IfOk};
+ghost use Rattle.std.specs.List.{concat, find, starts_with, slice_split};
 ghost use Rattle.kernel_spec.specs.views.State.{named_file};
-ghost use Rattle.grade_submissions.specs.Files.{path_in, text_file, programs_of, AreFoundIn, IsReadAs, IsHandedIn};
+ghost use Rattle.grade_sheets.specs.Blanks.{without_blanks};
+ghost use Rattle.program_files.specs.declared.refusal.FileRefusal.TheVariants.{OutOfMemory};
+ghost use Rattle.grade_submissions.specs.Files.{path_in, text_file, programs_of, without_mark, is_return, without_returns, unfit_text, no_file_text};
+ghost use Rattle.grade_submissions.specs.Files.{IsFoundIn, AreFoundIn, IsTextOf, IsTakenAs, IsRefusedAs, IsFoundAs, IsLookedAt, IsUnder, IsHandedIn};
 
-use crate::host_files::refused;
+use crate::disk::{Disk, Found};
 use grade_sheets::Text;
-use program_files::{Failure, FileRefusal, SourcedProgram, program};
+use program_files::{Failure, FileRefusal, SourcedProgram, program_of_bytes};
 use std::alloc::{AllocError, Global};
-use std::fs;
-use std::io::ErrorKind;
-use std::rt::Files;
 use uasm_core::SourceLines;
 use xk_base::Program;
-use xk_base::limits::PROGRAM_BYTES;
 
 /// What was handed in, if it can be run.
 #[derive(Drop)]
 pub struct Submission {
     /// The file's name.
     pub file: String,
-    /// The path under which it was read.
-    pub path: String,
-    /// Its bytes.
+    /// Its bytes, without a byte order mark before them.
     pub bytes: Vec<u8>,
-    /// Its text, without a byte order mark at its beginning and without carriage returns; empty if it isn't UTF-8.
+    /// Its text, without carriage returns; empty if it isn't UTF-8.
     pub text: String,
     /// Its program.
     pub program: Program,
@@ -38,22 +36,10 @@ pub enum HandedIn {
     Refused(String),
 }
 
-/// Programs of the exercise, and the paths under which their files were read, in the same order.
-#[derive(Drop)]
-pub struct FoundPrograms {
-    pub paths: Vec<String>,
-    pub programs: Vec<Program>,
-}
-
-// A program of the exercise, and the path under which its file was read.
-#[derive(Drop)]
-struct FoundProgram {
-    path: String,
-    program: Program,
-}
-
 // What a refused file is told as.
-fn told(alloc: Global, refusal: &FileRefusal<'_>) -> Result<String, Failure<'static>> {
+fn told(alloc: Global, refusal: &FileRefusal<'_>) -> Result<String, Failure<'static>>
+    ensures { IfOk result (λ _. refusal.now ≢ OutOfMemory) }
+{
     match refusal {
         FileRefusal::OutOfMemory => Err(Failure::OutOfMemory),
         refusal => Ok(format!(in alloc; "{refusal}")?),
@@ -76,38 +62,79 @@ fn path_in(alloc: Global, folder: &str, file: &str) -> Result<String, AllocError
 }
 
 // A file of this name that isn't run, and why.
-fn unfit(alloc: Global, file: &str, why: &str) -> Result<String, AllocError> {
+fn unfit(alloc: Global, file: &str, why: &str) -> Result<String, AllocError>
+    ensures { IfOk result (λ text. string_bytes text ≡ unfit_text file.now why.now) }
+{
     format!(in alloc; "{file}: {why}")
 }
 
 // Bytes without the byte order mark that an editor may have put before them.
-fn without_mark(bytes: &[u8]) -> &[u8] {
-    bytes.strip_prefix(&[0xef, 0xbb, 0xbf]).unwrap_or(bytes)
+fn without_mark(bytes: &[u8]) -> &[u8]
+    ensures { result.now ≡ without_mark bytes.now }
+{
+    if bytes.starts_with(&[0xef, 0xbb, 0xbf]) {
+        return &bytes[3..];
+    }
+    bytes
 }
 
-// The text of bytes, without carriage returns; empty if they aren't UTF-8.
-fn plain_text(alloc: Global, bytes: &[u8]) -> Result<String, AllocError> {
+// Whether bytes are nothing but blanks.
+fn is_blank(bytes: &[u8]) -> bool
+    ensures { result ≡ (length (without_blanks bytes.now) == 0) }
+{
+    bytes.trim_ascii().is_empty()
+}
+
+// The parts of a text between carriage returns.
+fn parts_of(alloc: Global, text: &str) -> Result<Vec<&str>, AllocError>
+    ensures { IfOk result (λ parts. map (λ part. part.now) parts.items ≡ slice_split is_return text.now) }
+{
+    text.split('\r').collect(alloc)
+}
+
+// Parts of a text, one after another.
+fn joined(alloc: Global, parts: &[&str]) -> Result<String, AllocError>
+    ensures { IfOk result (λ text. string_bytes text ≡ concat (map (λ part. part.now) parts.now)) }
+{
     let mut text = String::new(alloc);
-    for part in std::str::from_utf8(bytes).unwrap_or("").split('\r') {
+    for part in parts {
         text.push_str(part)?;
     }
     Ok(text)
 }
 
+// A text without carriage returns.
+fn without_returns(alloc: Global, text: &str) -> Result<String, AllocError>
+    ensures { IfOk result (λ plain. string_bytes plain ≡ without_returns text.now) }
+{
+    let parts = parts_of(alloc, text)?;
+    joined(alloc, parts.as_slice())
+}
+
+// The text of bytes, without carriage returns; empty if they aren't UTF-8.
+fn plain_text(alloc: Global, bytes: &[u8]) -> Result<String, AllocError>
+    ensures { IfOk result (λ text. IsTextOf bytes.now (string_bytes text)) }
+{
+    match std::str::from_utf8(bytes) {
+        Ok(text) => without_returns(alloc, text),
+        Err(_) => Ok(String::new(alloc)),
+    }
+}
+
 // What was handed in under this name, whose program is made of it.
 fn submission_made(
     alloc: Global,
-    path: &str,
     file: &str,
     bytes: &[u8],
     made: SourcedProgram,
 ) -> Result<Submission, AllocError>
     ensures file { IfOk result (λ s. string_bytes s.file ≡ file.now) }
-    ensures path { IfOk result (λ s. string_bytes s.path ≡ path.now) }
+    ensures bytes { IfOk result (λ s. s.bytes.items ≡ bytes.now) }
+    ensures text { IfOk result (λ s. IsTextOf bytes.now (string_bytes s.text)) }
+    ensures program { IfOk result (λ s. s.program ≡ made.program) }
 {
     Ok(Submission {
         file: String::from_str(alloc, file)?,
-        path: String::from_str(alloc, path)?,
         bytes: Vec::from_slice(alloc, bytes)?,
         text: plain_text(alloc, bytes)?,
         program: made.program,
@@ -115,163 +142,159 @@ fn submission_made(
     })
 }
 
-// The file of this name, of these bytes.
-fn submission_of(
-    alloc: Global,
-    path: &str,
-    file: &str,
-    bytes: &[u8],
-) -> Result<HandedIn, Failure<'static>>
-    ensures { IfOk result (IsReadAs path.now file.now) }
+// What a file of this name and these bytes is taken as. No mark stands before the bytes.
+fn taken(alloc: Global, file: &str, bytes: &[u8]) -> Result<HandedIn, Failure<'static>>
+    ensures { IfOk result (IsTakenAs file.now bytes.now) }
 {
-    let bytes = without_mark(bytes);
-    if bytes.trim_ascii().is_empty() {
+    if is_blank(bytes) {
         return Ok(HandedIn::Refused(unfit(alloc, file, "empty")?));
     }
-    match program(alloc, Ok(bytes), file) {
-        Ok(made) => Ok(HandedIn::File(submission_made(alloc, path, file, bytes, made)?)),
+    match program_of_bytes(alloc, Vec::from_slice(alloc, bytes)?, file) {
+        Ok(made) => Ok(HandedIn::File(submission_made(alloc, file, bytes, made)?)),
         Err(refusal) => Ok(HandedIn::Refused(told(alloc, &refusal)?)),
     }
 }
 
-// The file of this name and path. If the host can't read it, that is no fault of who handed it in, and there is no result.
-fn file_at<R: Files + AllocGlobal>(
-    rt: &R,
-    path: &str,
-    file: &str,
-) -> Result<HandedIn, Failure<'static>>
-    ensures { IfOk result (IsReadAs path.now file.now) }
+// That a file of this name isn't run, for this.
+fn refused_for(alloc: Global, file: &str, why: &str) -> Result<Option<HandedIn>, Failure<'static>>
+    ensures { IfOk result (IsRefusedAs (unfit_text file.now why.now)) }
 {
-    match fs::read(rt, path) {
-        Ok(bytes) => submission_of(rt.alloc(), path, file, bytes.as_slice()),
-        Err(_) => Err(refused(rt.alloc(), path, "cannot be read")),
+    Ok(Some(HandedIn::Refused(unfit(alloc, file, why)?)))
+}
+
+// What is handed in under this name, if this lies there: `None` if nothing does.
+fn given(alloc: Global, file: &str, found: Found) -> Result<Option<HandedIn>, Failure<'static>>
+    ensures { IfOk result (IsFoundAs file.now found) }
+{
+    match found {
+        Found::Nothing => Ok(None),
+        Found::NoFile => refused_for(alloc, file, "not a plain file"),
+        Found::TooLong => refused_for(alloc, file, "too long"),
+        Found::File(bytes) => Ok(Some(taken(alloc, file, without_mark(bytes.as_slice()))?)),
     }
 }
 
-// The file of this name in a folder: `None` if it isn't there. A link isn't followed, and a file is opened only if it
-// is a plain one and no longer than a program may be.
-fn file_in<R: Files + AllocGlobal>(
-    rt: &R,
+// What a look at a folder finds under this name.
+fn looked_at<D: Disk>(
+    alloc: Global,
+    disk: &D,
     folder: &str,
     file: &str,
 ) -> Result<Option<HandedIn>, Failure<'static>>
-    ensures { IfOk result (λ found. IfSome found (IsReadAs (path_in folder.now file.now) file.now)) }
+    ensures { IfOk result (IsLookedAt (D.reads disk.now) folder.now file.now) }
 {
-    let path = path_in(rt.alloc(), folder, file)?;
-    let found = match fs::symlink_metadata(rt, path.as_str()) {
-        Ok(found) => found,
-        Err(error) if error.kind() == ErrorKind::NotFound => return Ok(None),
-        Err(_) => return Err(refused(rt.alloc(), path.as_str(), "cannot be read")),
-    };
-    if !found.is_file() {
-        let why = unfit(rt.alloc(), file, "not a plain file")?;
-        return Ok(Some(HandedIn::Refused(why)));
-    }
-    if found.len() > PROGRAM_BYTES as u64 {
-        let why = unfit(rt.alloc(), file, "too long")?;
-        return Ok(Some(HandedIn::Refused(why)));
-    }
-    Ok(Some(file_at(rt, path.as_str(), file)?))
+    let path = path_in(alloc, folder, file)?;
+    let found = disk.find(path.as_str())?;
+    given(alloc, file, found)
 }
 
-// The line that says why a file of this name isn't run, if there is one.
-fn refused_line<'a>(refused: &'a str, file: &str) -> Option<&'a str> {
-    for line in refused.lines() {
-        if let Some((name, _)) = line.split_once(": ") {
-            if name == file {
-                return Some(line);
-            }
+// The first line that begins so.
+fn first_line<'a>(lines: &[&'a str], begin: &str) -> Option<&'a str>
+    ensures { option_map (λ line. line.now) result ≡ find (λ line. starts_with eqb line begin.now) (map (λ line. line.now) lines.now) }
+{
+    for line in lines {
+        if line.starts_with(begin) {
+            return Some(line);
         }
     }
     None
 }
 
-// What was handed in under this name: `None` if nothing was.
-fn under_name<R: Files + AllocGlobal>(
-    rt: &R,
-    file: &str,
+// What was handed in under this name, if these lines say which files aren't run.
+fn under_name<D: Disk>(
+    alloc: Global,
+    disk: &D,
     folder: &str,
-    refused: &str,
+    refused: &[&str],
+    file: &str,
 ) -> Result<Option<HandedIn>, Failure<'static>>
-    ensures { IfOk result (λ found. IfSome found (IsReadAs (path_in folder.now file.now) file.now)) }
+    ensures { IfOk result (IsUnder (D.reads disk.now) (record { folder = folder.now; refused = map (λ line. line.now) refused.now }) file.now) }
 {
-    match refused_line(refused, file) {
-        Some(why) => Ok(Some(HandedIn::Refused(String::from_str(rt.alloc(), why)?))),
-        None => file_in(rt, folder, file),
+    let begin = unfit(alloc, file, "")?;
+    match first_line(refused, begin.as_str()) {
+        Some(why) => Ok(Some(HandedIn::Refused(String::from_str(alloc, why)?))),
+        None => looked_at(alloc, disk, folder, file),
     }
 }
 
+// What stands before the name of the file at this place.
+fn joint(place: usize) -> &'static str
+    ensures { result.now ≡ (if place == 0 then codes " " else codes " or ") }
+{
+    if place == 0 { " " } else { " or " }
+}
+
 // That none of these files is there.
-fn no_file(alloc: Global, files: &[String]) -> Result<String, AllocError> {
+fn no_file(alloc: Global, files: &[String]) -> Result<String, AllocError>
+    ensures { IfOk result (λ text. string_bytes text ≡ no_file_text files.now) }
+{
     let mut why = String::from_str(alloc, "no file")?;
     for (place, file) in files.iter().enumerate() {
-        why.push_str(if place == 0 { " " } else { " or " })?;
+        why.push_str(joint(place))?;
         why.push_str(file.as_str())?;
     }
     Ok(why)
 }
 
 /// What was handed in, in a folder: the first of these files that is there. It is refused if none is, and if that
-/// file is no plain one, longer than 1,048,576 bytes, or can't be assembled. A line `NAME: WHY` among those of
-/// `refused` stands for a file of that name that is there and isn't run.
+/// file is no plain one, too long, empty, or can't be assembled. A line `NAME: WHY` of `refused` stands for a file of
+/// that name that is there and isn't run.
 ///
 /// # Errors
 ///
-/// [`Failure::Refused`] if the host can't read it, and [`Failure::OutOfMemory`].
-pub(crate) fn handed_in<R: Files + AllocGlobal>(
-    rt: &R,
+/// Those of [`Disk::find`], and [`Failure::OutOfMemory`].
+pub(crate) fn handed_in<D: Disk>(
+    alloc: Global,
+    disk: &D,
     files: &[String],
     folder: &str,
-    refused: &str,
+    refused: &[&str],
 ) -> Result<HandedIn, Failure<'static>>
-    ensures { IfOk result (IsHandedIn folder.now files.now) }
+    ensures { IfOk result (IsHandedIn (D.reads disk.now) (record { folder = folder.now; refused = map (λ line. line.now) refused.now }) files.now) }
 {
     for file in files {
-        if let Some(found) = under_name(rt, file.as_str(), folder, refused)? {
-            return Ok(found);
+        if let Some(given) = under_name(alloc, disk, folder, refused, file.as_str())? {
+            return Ok(given);
         }
     }
-    Ok(HandedIn::Refused(no_file(rt.alloc(), files)?))
+    Ok(HandedIn::Refused(no_file(alloc, files)?))
 }
 
 // The program of a file of the exercise, whose path goes from this folder.
-fn program_of_file<R: Files + AllocGlobal>(
-    rt: &R,
+fn program_of_file<D: Disk>(
+    alloc: Global,
+    disk: &D,
     folder: &str,
     file: &str,
-) -> Result<FoundProgram, Failure<'static>>
-    ensures { IfOk result (λ found. string_bytes found.path ≡ path_in folder.now file.now) }
+) -> Result<Program, Failure<'static>>
+    ensures { IfOk result (IsFoundIn (D.reads disk.now) folder.now file.now) }
 {
-    let alloc = rt.alloc();
     let path = path_in(alloc, folder, file)?;
-    let opened = fs::open(rt, path.as_str());
-    let program = match program(alloc, opened, path.as_str()) {
-        Ok(SourcedProgram { program, .. }) => program,
-        Err(refusal) => return Err(refusal_of(alloc, &refusal)),
-    };
-    Ok(FoundProgram { path, program })
+    let bytes = disk.bytes(path.as_str())?;
+    match program_of_bytes(alloc, bytes, path.as_str()) {
+        Ok(made) => Ok(made.program),
+        Err(refusal) => Err(refusal_of(alloc, &refusal)),
+    }
 }
 
 /// The programs of these files of the exercise, whose paths go from this folder.
 ///
 /// # Errors
 ///
-/// [`Failure::Refused`] if one can't be read, and [`Failure::OutOfMemory`].
-pub(crate) fn programs_of_files<R: Files + AllocGlobal>(
-    rt: &R,
+/// [`Failure::Refused`] if one can't be read or assembled, and [`Failure::OutOfMemory`].
+pub(crate) fn programs_of_files<D: Disk>(
+    alloc: Global,
+    disk: &D,
     folder: &str,
     files: &[String],
-) -> Result<FoundPrograms, Failure<'static>>
-    ensures { IfOk result (AreFoundIn folder.now files.now) }
+) -> Result<Vec<Program>, Failure<'static>>
+    ensures { IfOk result (λ programs. AreFoundIn (D.reads disk.now) folder.now files.now programs.items) }
 {
-    let mut paths = Vec::new(rt.alloc());
-    let mut programs = Vec::new(rt.alloc());
+    let mut programs = Vec::new(alloc);
     for file in files {
-        let FoundProgram { path, program } = program_of_file(rt, folder, file.as_str())?;
-        paths.push(path)?;
-        programs.push(program)?;
+        programs.push(program_of_file(alloc, disk, folder, file.as_str())?)?;
     }
-    Ok(FoundPrograms { paths, programs })
+    Ok(programs)
 }
 
 // A text of the exercise, as a program.
@@ -305,7 +328,7 @@ impl Submission {
         })
     }
 
-    /// The programs of a run: these of the exercise, its texts, and what was handed in.
+    /// The programs of a run: these of the exercise's files, its texts, and what was handed in.
     ///
     /// # Errors
     ///
@@ -313,15 +336,12 @@ impl Submission {
     pub fn programs(
         &self,
         alloc: Global,
-        files: FoundPrograms,
+        files: Vec<Program>,
         texts: &[Text],
     ) -> Result<Vec<Program>, AllocError>
-        ensures { IfOk result (λ programs. map named_file programs.items ≡ programs_of files texts.now self.now) }
+        ensures { IfOk result (λ programs. map named_file programs.items ≡ programs_of files.items texts.now self.now) }
     {
-        let FoundPrograms {
-            mut programs,
-            paths: _,
-        } = files;
+        let mut programs = files;
         add_texts(alloc, &mut programs, texts)?;
         programs.push(self.own_program(alloc)?)?;
         Ok(programs)

@@ -1,4 +1,4 @@
-use Rattle.std.proofs.Common.{◌≡◌, ◌∙◌, ◌++◌, ℕ, List, take, sym, ap}
+use Rattle.std.proofs.Common.{◌∙◌, ◌++◌, ℕ, List, take, sym, ap}
 use Rattle.std.proofs.lemmas.List.{take-append-drop}
 use Rattle.grade_submissions.proofs.host_files.behind_slash.Goals as goal
 

@@ -1,10 +1,8 @@
-use Rattle.std.proofs.Common.{◌≡◌, ◌∙◌, ◌*◌, ◌||◌, [], map, inl, rules, sym, ap, subst, arith}
-use Rattle.std.specs.Prelude.{is_some}
+use Rattle.std.proofs.Common.{◌≡◌, ◌∙◌, [], map, inl, sym, ap, subst, arith}
 use Rattle.kernel_spec.specs.views.State.{named_file}
 use Rattle.xv_machine.specs.Reached.{IsReached}
 use Rattle.xv_session.specs.Recorded.{Recorded}
-use Rattle.grade_submissions.specs.Plays.{Told, is_full, is_over}
-use Rattle.grade_submissions.specs.declared.playing.Played.{Played}
+use Rattle.grade_submissions.specs.Plays.{Told}
 use Rattle.grade_submissions.proofs.Going.{booted-reached}
 use Rattle.grade_submissions.proofs.Planning.{none-played, round-more, plan-ended, plan-done, run-of, neither}
 use Rattle.grade_submissions.proofs.playing.play.Goals as goal

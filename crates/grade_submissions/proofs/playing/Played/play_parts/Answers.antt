@@ -1,4 +1,4 @@
-use Rattle.std.proofs.Common.{◌≡◌, ◌∙◌, ◌+◌, ◌++◌, arith, [], take, drop, get_or, sym}
+use Rattle.std.proofs.Common.{◌∙◌, ◌+◌, ◌++◌, arith, [], take, drop, get_or, sym}
 use Rattle.xv_machine.specs.RoundParts.{events_of_part, events_of_parts}
 use Rattle.xv_machine.specs.declared.event.Event.TheVariants.{Run}
 use Rattle.xv_machine.specs.declared.parts.RoundPart.{RoundPart}

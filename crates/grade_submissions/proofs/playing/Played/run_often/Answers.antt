@@ -1,6 +1,6 @@
-use Rattle.std.proofs.Common.{◌≡◌, ◌∙◌, ◌+◌, ◌-◌, ◌++◌, ℕ, List, [], replicate, arith, refl, sym, ap}
+use Rattle.std.proofs.Common.{◌≡◌, ◌∙◌, ◌+◌, ◌-◌, ◌++◌, ℕ, [], replicate, arith, sym, ap}
 use Rattle.std.proofs.lemmas.List.{replicate-append-replicate}
-use Rattle.kernel_spec.specs.runs.Run.{Event, Run}
+use Rattle.kernel_spec.specs.runs.Run.{Run}
 use Rattle.grade_submissions.proofs.Going.{plays-none, plays-join, plays-those, first-all, first-full, first-those}
 use Rattle.grade_submissions.proofs.playing.Played.run_often.Goals as goal
 
