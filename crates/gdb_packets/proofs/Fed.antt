@@ -1,4 +1,4 @@
--- Bytes that are read one behind another.
+-- Bytes that are read one after another.
 use Rattle.std.proofs.Common.{◌≡◌, ◌∙◌, ℕ, List, [], ◌∷◌, ◌++◌, refl, ap, Option, Some, None}
 use Rattle.gdb_packets.specs.Packets.{Reading, fed, fed_all, piece, pieces, added}
 use Rattle.gdb_packets.specs.declared.reader.Piece.{Piece}

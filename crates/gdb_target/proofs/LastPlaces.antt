@@ -1,5 +1,5 @@
 -- What stood last, told of another place of the same run that is as far.
-use Rattle.std.proofs.Common.{◌≡◌, ◌∙◌, ℕ, Option, None, Some, is_some, true, ap, length, sym}
+use Rattle.std.proofs.Common.{◌≡◌, ◌∙◌, ℕ, Option, None, is_some, true, ap, length, sym}
 use Rattle.std.proofs.lemmas.Bool.{false≢true}
 use Rattle.gdb_target.specs.LastHit.{LooksFrom}
 use Rattle.gdb_target.specs.SameRun.{beginning}

@@ -3,7 +3,11 @@ pub mod Coming
 pub mod LastPlaces
 pub mod Telling
 pub mod Turning
+pub mod Ways
 pub mod PlayedOn
+pub mod Rows
 pub mod Sending
 pub mod Shows
 pub mod Stood
+pub mod Watching
+mod WorkedRows

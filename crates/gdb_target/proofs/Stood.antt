@@ -1,6 +1,5 @@
 -- A process that stands at a breakpoint.
-use Rattle.std.proofs.Common.{◌≡◌, ◌∙◌, ℕ, Bool, List, Option, None, Some, true, false, ap, refl}
-use Rattle.std.specs.Prelude.{◌&&◌}
+use Rattle.std.proofs.Common.{◌≡◌, ℕ, List, Option, None, Some, true, ap}
 use Rattle.std.proofs.lemmas.Bool.{false≢true, eqb-true, and_parts}
 use Rattle.kcall_core.specs.Observers.{registers_of}
 use Rattle.xv_session.specs.Names.{place_in}

@@ -77,19 +77,19 @@ module _ (parts : List RoundPart) (i : ℕ) (d : RoundPart) (below : i < length 
       omega (arith, all, front)
 
   -- the event at a place of a part
-  pub among-part : (behind within k : ℕ) → behind + length (events_of_parts (take i parts)) ≡ within → behind + k < (get_or parts i d).count
+  pub among-part : (left within k : ℕ) → left + length (events_of_parts (take i parts)) ≡ within → left + k < (get_or parts i d).count
       → event_among (events_of_parts parts) (within + k) ≡ event_of (get_or parts i d).event
-  among-part behind within k place inside =
+  among-part left within k place inside =
       let e = event_of (get_or parts i d).event in
       let n = (get_or parts i d).count in
-      let here : within + k ≡ length before + (behind + k) = omega (arith, place) in
+      let here : within + k ≡ length before + (left + k) = omega (arith, place) in
       let long : length (before ++ now) ≡ length before + n = length-append before now ∙ ap (λ (m : ℕ). length before + m) (length-replicate n e) in
-      let early : length before + (behind + k) < length (before ++ now) = omega (arith, long, inside) in
+      let early : length before + (left + k) < length (before ++ now) = omega (arith, long, inside) in
       unwrap_or-slice_get (events_of_parts parts) (within + k) Send
       ∙ (ap (λ (es : List Event). get_or es (within + k) Send) (sym (parts-around parts i d below))
       ∙ (ap (λ (m : ℕ). get_or ((before ++ now) ++ later) m Send) here
-      ∙ (get_or-append (before ++ now) later Send (length before + (behind + k)) early
-      ∙ (get_or-append-add before now (behind + k) Send ∙ get_or-replicate n (behind + k) e Send inside))))
+      ∙ (get_or-append (before ++ now) later Send (length before + (left + k)) early
+      ∙ (get_or-append-add before now (left + k) Send ∙ get_or-replicate n (left + k) e Send inside))))
 
 pub parts-whole : (parts : List RoundPart) (i : ℕ) → length parts ≤ i → length (events_of_parts (take i parts)) ≡ length (events_of_parts parts)
 parts-whole parts i all = ap length (parts-all parts i all)
@@ -105,7 +105,7 @@ module _ (keys : List ℕ) (quantum place k : ℕ) (e : Event) where
       (ap (λ (ks : List ℕ). event_among (round quantum ks) (place % long + k)) (drop-cons keys (place / long) 0 early)
       ∙ (ap (λ (b : ℕ). event_among (round quantum (b ∷ [])) (place % long + k)) (sym is) ∙ goes))
 
-  -- behind all keys
+  -- after all keys
   keys-over : (long : ℕ) → length keys ≤ place / long → length keys * long ≤ place
   keys-over long late =
       let sum = div-add-mod' place long in

@@ -86,7 +86,7 @@ pub record IsPassed (until : Until) (from to : Target) : Type 0 where
   pub no_step : is_reached (is_step until outcome) to ≡ false
   pub nobody : standing to ≡ None
 
--- so many such stretches, one behind another
+-- so many such stretches, one after another
 abbrev pub Passed : Until → (stretches : ℕ) → (from to : Target) → Type 0
 Passed until zero from to = to ≡ from
 Passed until (suc n) from to = (mid : Target) × Passed until n from mid × IsPassed until mid to

@@ -24,10 +24,10 @@ abbrev pub IsHitAt : Back → (place : ℕ) → Target → Option Hit → Type 0
 IsHitAt (StepOf p) place t hit = hit ≡ step_hit (is_this p (starter t.run)) place p
 IsHitAt Point place t hit = IsPointHit place (standing t) hit
 
--- the later of two: the one behind, if there is one
-abbrev pub later : (before behind : Option Hit) → Option Hit
-later before None = before
-later before (Some h) = Some h
+-- the later of two: the second, if there is one
+abbrev pub later : (first second : Option Hit) → Option Hit
+later first None = first
+later first (Some h) = Some h
 
 -- The run went on: by one event, or by more if nobody ran
 pub record GoesForth (from to : Target) : Type 0 where
@@ -39,7 +39,7 @@ pub record Looks (back : Back) (here on : Target) (hit : Option Hit) : Type 0 wh
   pub told : IsHitAt back (length here.run.session.events) here hit
   pub forth : GoesForth here on
 
--- So many looks, one behind another, and the last of what they told
+-- So many looks, one after another, and the last of what they told
 abbrev pub Looked : Back → (looks : ℕ) → (from to : Target) → Option Hit → Type 0
 Looked back zero from to hit = (to ≡ from) × (hit ≡ None)
 Looked back (suc n) from to hit = (here : Target) × (before : Option Hit) × (told : Option Hit) × Looked back n from here before × Looks back here to told × (hit ≡ later before told)

@@ -6,6 +6,7 @@ pub mod Found
 pub mod LastHit
 pub mod PlayedBy
 pub mod Rounds
+pub mod Rows
 pub mod SameRun
 pub mod Seen
 pub mod Sent

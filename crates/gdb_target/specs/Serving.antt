@@ -5,6 +5,6 @@ use Rattle.gdb_target.specs.declared.service.serving.After.{After}
 use Rattle.gdb_target.specs.declared.service.serving.After.TheVariants.{GoesOn, Ends}
 
 -- of the commands after which the machine is where it was, one ends it
-abbrev pub behind : Command → After
-behind Detach = Ends
-behind _ = GoesOn
+abbrev pub more_after : Command → After
+more_after Detach = Ends
+more_after _ = GoesOn

@@ -13,6 +13,7 @@
 
 mod answers;
 mod documents;
+mod fast;
 pub mod laws;
 mod memory;
 mod outcomes;

@@ -105,6 +105,13 @@ pub(crate) struct Glimpse {
     bytes: Vec<Option<u8>>,
 }
 
+impl Glimpse {
+    /// Whether each of the bytes is there.
+    pub fn is_whole(&self) -> bool {
+        self.bytes.iter().all(|byte| byte.is_some())
+    }
+}
+
 /// Adds what stands in the bytes that are watched.
 fn push_bytes(
     machine: &Machine,

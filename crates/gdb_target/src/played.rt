@@ -35,6 +35,8 @@ impl Played {
     ghost use Rattle.kernel_spec.specs.views.State.{named_file};
     ghost use Rattle.xv_session.specs.Answers.{IsNew};
     ghost use Rattle.gdb_target.specs.Came.{Comes};
+    ghost use Rattle.xv_session.specs.Stops.{is_before_stop};
+    ghost use Rattle.gdb_target.specs.Rows.{RunsToStop};
     ghost use Rattle.gdb_target.specs.SameRun.{beginning};
     ghost use Rattle.gdb_target.specs.Standing.{NextIsRun};
 
@@ -123,6 +125,43 @@ impl Played {
             unreachable!();
         };
         Ok(Some(outcome))
+    }
+
+    /// Whether the process that runs stands before a stop, as [`Session::run_to_stop`] means it.
+    pub fn is_before_stop(&self, addresses: &[u64], bytes: &[u64]) -> bool
+        ensures { result ≡ is_before_stop addresses.now bytes.now self.now.session.machine.world }
+    {
+        self.session.is_before_stop(addresses, bytes)
+    }
+
+    /// Sends Runs as long as the next event is one, `most` at most, up to a stop, as [`Session::run_to_stop`] does, and
+    /// tells what came of the last.
+    ///
+    /// # Errors
+    ///
+    /// Those of [`Session::run_to_stop`]: nothing is sent.
+    pub fn run_to_stop(
+        &mut self,
+        most: u32,
+        addresses: &[u64],
+        bytes: &[u64],
+    ) -> Result<Outcome, SessionError>
+        requires some { 0 < most }
+        requires runs { NextIsRun self.old }
+        ensures row { IfOk result (λ o. RunsToStop addresses.now bytes.now self.old (outcome_of o) self.new) }
+        ensures more { IfOk result (λ _. length self.old.session.events < length self.new.session.events) }
+        ensures within { length self.new.session.events ≤ length self.old.session.events + most }
+        ensures refused { IfErr result (λ _. self.new.session ≡ self.old.session) }
+        ensures same { beginning self.new ≡ beginning self.old }
+    {
+        let next = self.next();
+        let found = self
+            .session
+            .run_to_stop(most.min(next.count), addresses, bytes)?;
+        let Some(outcome) = came(found.last, None) else {
+            unreachable!();
+        };
+        Ok(outcome)
     }
 
     /// Goes back to a place of the run: its machine is then what it was there. If it has got fewer events, it stays

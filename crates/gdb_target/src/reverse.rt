@@ -4,9 +4,11 @@ ghost use Rattle.gdb_target.specs.Found.{IsBefore, StandsFor, trapped};
 ghost use Rattle.gdb_target.specs.Choices.{choices};
 ghost use Rattle.gdb_target.specs.LastHit.{GoesBackToLast, GoesForth, IsHitAt, IsLastOf, IsPointHit};
 ghost use Rattle.gdb_target.specs.LastHit.{Looked, LooksFrom, later, step_hit};
-ghost use Rattle.gdb_target.specs.Standing.{Starts};
+ghost use Rattle.gdb_target.specs.Rows.{watched_addresses};
 ghost use Rattle.gdb_target.specs.SameRun.{beginning};
+ghost use Rattle.gdb_target.specs.Standing.{Starts};
 
+use crate::fast::rows::watched_bytes;
 use crate::places::{Change, at_breakpoint, changed, is_starter, starts, watched_now};
 use crate::played::is_run;
 use crate::target::{Stopped, Target};
@@ -36,7 +38,7 @@ pub enum Back {
 
 /// A place of the run, and the process that stops there.
 #[derive(Clone, Copy)]
-struct Hit {
+pub(crate) struct Hit {
     place: u64,
     pid: Pid,
     /// The address of watched bytes that it changes by the next event, if that is why it stops.
@@ -59,7 +61,7 @@ fn step_hit(stood: bool, place: u64, pid: Pid) -> Option<Hit>
 }
 
 /// What is told of a place: a change of watched bytes by the next event, or else the process that stood at a breakpoint.
-fn point_hit(place: u64, stood: Option<Pid>, change: Option<Change>) -> Option<Hit>
+pub(crate) fn point_hit(place: u64, stood: Option<Pid>, change: Option<Change>) -> Option<Hit>
     ensures { IsPointHit place stood result }
 {
     if let Some(change) = change {
@@ -75,13 +77,13 @@ fn point_hit(place: u64, stood: Option<Pid>, change: Option<Change>) -> Option<H
     step_hit(true, place, pid)
 }
 
-/// The later of two: the one behind, if there is one.
-fn later(before: Option<Hit>, behind: Option<Hit>) -> Option<Hit>
-    ensures { result ≡ later before behind }
+/// The later of two: the second, if there is one.
+fn later(first: Option<Hit>, second: Option<Hit>) -> Option<Hit>
+    ensures { result ≡ later first second }
 {
-    match behind {
+    match second {
         Some(hit) => Some(hit),
-        None => before,
+        None => first,
     }
 }
 
@@ -167,6 +169,31 @@ impl Target {
         }
     }
 
+    /// Sends the next event, or Runs in a row, and tells what stood last before one of them.
+    fn look_on(
+        &mut self,
+        alloc: Global,
+        back: &Back,
+        bytes: &[u64],
+        end: u64,
+    ) -> Result<Option<Hit>, SessionError>
+        requires watched { bytes.now ≡ watched_addresses self.old.points }
+        requires room { length self.old.run.session.events < end }
+        ensures within { length self.new.run.session.events ≤ end }
+        ensures more { IfOk result (λ _. length self.old.run.session.events < length self.new.run.session.events) }
+        ensures hit { IfOk result (λ h. IfSome h (λ found. found.place < end)) }
+        ensures looked { IfOk result (λ h. (n : ℕ) × Looked back.now n self.old self.new h) }
+        ensures same { beginning self.new.run ≡ beginning self.old.run }
+        ensures choices { choices self.new ≡ choices self.old }
+    {
+        if self.looks_at_row(back, bytes) {
+            return self.look_at_row(alloc, back, bytes, end);
+        }
+        let place = self.run.at();
+        let hit = self.look(alloc, back, place, end)?;
+        Ok(hit)
+    }
+
     /// The last place, from here on and before `end`, at which what is looked for stood. The run is then at `end`.
     fn last_hit(
         &mut self,
@@ -181,10 +208,12 @@ impl Target {
         ensures same { beginning self.new.run ≡ beginning self.old.run }
         ensures choices { choices self.new ≡ choices self.old }
     {
+        let Ok(bytes) = watched_bytes(alloc, &self.points) else {
+            return Err(SessionError::Memory);
+        };
         let mut last = None;
         'places: while self.run.at() < end {
-            let place = self.run.at();
-            let hit = self.look(alloc, back, place, end)?;
+            let hit = self.look_on(alloc, back, bytes.as_slice(), end)?;
             last = later(last, hit);
         }
         Ok(last)

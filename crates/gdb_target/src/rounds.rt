@@ -37,23 +37,23 @@ fn events_in(parts: &[RoundPart]) -> u64
     count
 }
 
-/// What comes behind so many of the events of parts.
+/// What comes after so many of the events of parts.
 fn next_among(parts: &[RoundPart], within: u64) -> Next
     requires { within < length (events_of_parts parts.now) }
     ensures equal { (k : ℕ) → k < result.count → event_among (events_of_parts parts.now) (within + k) ≡ event_of result.event }
     ensures some { 0 < result.count }
     ensures inside { within + result.count ≤ length (events_of_parts parts.now) }
 {
-    let mut behind = within;
+    let mut left = within;
     for part in parts {
         let count = u64::from(part.count);
-        if behind < count {
+        if left < count {
             return Next {
                 event: part.event,
-                count: (count - behind) as u32,
+                count: (count - left) as u32,
             };
         }
-        behind -= count;
+        left -= count;
     }
     unreachable!()
 }
@@ -66,7 +66,7 @@ fn round_len(key: Option<u8>, quantum: u32) -> u64
     events_in(&parts)
 }
 
-/// What comes in a round, behind so many of its events.
+/// What comes in a round, after so many of its events.
 fn next_in(key: Option<u8>, quantum: u32, within: u64) -> Next
     requires { within < length (round quantum (option_to_list key)) }
     ensures equal { (k : ℕ) → k < result.count → event_among (round quantum (option_to_list key)) (within + k) ≡ event_of result.event }

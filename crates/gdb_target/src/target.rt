@@ -5,10 +5,12 @@ ghost use Rattle.xv_machine.specs.Events.{outcome_of};
 ghost use Rattle.gdb_target.specs.Choices.{IsAlive, StopsAt, choices};
 ghost use Rattle.gdb_target.specs.Forth.{Goes, GoesBy, IsJudged, IsUnseen, Stands};
 ghost use Rattle.gdb_target.specs.Forth.{current_of, halted_of, is_reached, is_step, looks_at_each, or_shows};
+ghost use Rattle.gdb_target.specs.Rows.{watched_addresses};
 ghost use Rattle.gdb_target.specs.SameRun.{beginning};
 ghost use Rattle.gdb_target.specs.Standing.{NextIsRun};
 ghost use Rattle.gdb_target.specs.Told.{state_of};
 
+use crate::fast::rows::watched_bytes;
 use crate::outcomes::is_step_of;
 use crate::places::{at_breakpoint, changed, watched_now};
 use crate::played::{Played, is_run};
@@ -82,7 +84,7 @@ pub enum Until {
 #[derive(Clone, Copy)]
 pub struct Going {
     pub until: Until,
-    /// The place of the run behind which it sends no event.
+    /// The place of the run after which it sends no event.
     pub end: u64,
     /// The place at which a fault or the end was told, and is let happen now.
     pub passes: Option<u64>,
@@ -314,7 +316,7 @@ impl Target {
     }
 
     /// What stops the program after Runs of which this came last.
-    fn judged(
+    pub(crate) fn judged(
         &mut self,
         alloc: Global,
         going: &Going,
@@ -357,7 +359,7 @@ impl Target {
     }
 
     /// So many Runs, or those before the place `end`.
-    fn all_before(&self, count: u32, end: u64) -> u32
+    pub(crate) fn all_before(&self, count: u32, end: u64) -> u32
         requires some { 0 < count }
         requires room { length self.now.run.session.events < end }
         ensures some { 0 < result }
@@ -391,7 +393,7 @@ impl Target {
         }
     }
 
-    /// How many Runs are sent at once, of so many: one, if the place behind it is to be looked at.
+    /// How many Runs are sent at once, of so many: one, if the place after it is to be looked at.
     fn runs_at_once(&self, going: &Going, count: u32) -> u32
         requires some { 0 < count }
         requires room { length self.now.run.session.events < going.now.end }
@@ -434,17 +436,26 @@ impl Target {
     }
 
     /// Sends the next event, or so many Runs.
-    fn send_next(&mut self, alloc: Global, going: &Going) -> Result<Option<Pause>, SessionError>
+    fn send_next(
+        &mut self,
+        alloc: Global,
+        going: &Going,
+        bytes: &[u64],
+    ) -> Result<Option<Pause>, SessionError>
+        requires watched { bytes.now ≡ watched_addresses self.old.points }
         requires room { length self.old.run.session.events < going.now.end }
         ensures within { length self.new.run.session.events ≤ going.now.end }
         ensures more { IfOk result (λ p. p ≡ None → length self.old.run.session.events < length self.new.run.session.events) }
-        ensures goes { IfOk result (λ p. Goes going.now.until self.old p self.new) }
+        ensures goes { IfOk result (λ p. GoesBy going.now.until self.old p self.new) }
         ensures same { beginning self.new.run ≡ beginning self.old.run }
         ensures choices { choices self.new ≡ choices self.old }
     {
         let next = self.run.next();
         if !is_run(next.event) {
             return self.send_other(going);
+        }
+        if self.starts_row(going.until, bytes) {
+            return self.send_row(alloc, going, bytes);
         }
         let most = self.runs_at_once(going, next.count);
         self.send_runs(alloc, going, most)
@@ -464,8 +475,11 @@ impl Target {
         ensures same { beginning self.new.run ≡ beginning self.old.run }
         ensures choices { choices self.new ≡ choices self.old }
     {
+        let Ok(bytes) = watched_bytes(alloc, &self.points) else {
+            return Err(SessionError::Memory);
+        };
         'events: while self.run.at() < going.end {
-            let pause = self.send_next(alloc, going)?;
+            let pause = self.send_next(alloc, going, bytes.as_slice())?;
             let Some(pause) = pause else {
                 continue;
             };

@@ -19,7 +19,7 @@ pub(crate) struct Settings {
     pub most: u32,
     /// The path of a file whose bytes are typed.
     pub keys: Option<String>,
-    /// A line that is typed behind them.
+    /// A line that is typed after them.
     pub line: Option<String>,
     /// The name of the program that GDB has the symbols of.
     pub file: Option<String>,
@@ -72,7 +72,7 @@ const COMMAND_LINE: CommandLine = CommandLine {
         CommandWord::Text {
             name: "type",
             value: "TEXT",
-            help: "A line that is typed, behind those bytes",
+            help: "A line that is typed after those bytes",
         },
         CommandWord::Text {
             name: "file",

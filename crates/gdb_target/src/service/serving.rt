@@ -6,7 +6,7 @@ ghost use Rattle.gdb_target.specs.Forth.{shows};
 ghost use Rattle.gdb_target.specs.Sent.{IsAnswered, Sends, stop_told};
 ghost use Rattle.gdb_target.specs.Served.{ButTold, GoesAndTells, IsOver, IsPauseTold, IsReversed, IsStepBack};
 ghost use Rattle.gdb_target.specs.Served.{Pauses, Performs, Resumes, Takes, damaged_told, low_byte, shown_told};
-ghost use Rattle.gdb_target.specs.Serving.{behind};
+ghost use Rattle.gdb_target.specs.Serving.{more_after};
 
 use crate::answers::{malformed, no_such_process};
 use crate::reverse::Back;
@@ -51,8 +51,8 @@ fn low_byte(status: i32) -> u8
 }
 
 /// Whether there is more to serve after a command.
-fn behind(command: Command) -> After
-    ensures { result ≡ behind command }
+fn more_after(command: Command) -> After
+    ensures { result ≡ more_after command }
 {
     match command {
         Command::Detach => After::Ends,
@@ -258,12 +258,12 @@ impl Service {
     ) -> Result<After, Failure<'static>>
         ensures answered { OnOk result
             (IsAnswered command self.old.target self.new.target (W.contents output.old) (W.contents output.new)) }
-        ensures next { IfOk result (λ next. next ≡ behind command) }
+        ensures next { IfOk result (λ next. next ≡ more_after command) }
     {
         let payload = self.target.answer(self.alloc, command)?;
         self.link.send(output, payload.as_slice())?;
         self.note_acks(command);
-        Ok(behind(command))
+        Ok(more_after(command))
     }
 
     /// Does what a packet asks for.

@@ -1,7 +1,5 @@
 use Rattle.std.proofs.Common.{◌≡◌, ◌<◌, ◌/◌, [], ◌∷◌, arith, length}
 use Rattle.std.proofs.lemmas.List.{get_or_read}
-use Rattle.std.proofs.lemmas.Nat.{mod_below}
-use Rattle.kernel_spec.specs.runs.Rounds.{round}
 use Rattle.gdb_target.proofs.Turning.{round-length, unkeyed-goes, keyed-goes}
 use Rattle.gdb_target.proofs.rounds.Rounds.at.Goals as goal
 

@@ -1,27 +1,33 @@
-use Rattle.std.proofs.Common.{◌∙◌, Option, arith, refl, subst, suc}
-use Rattle.gdb_target.specs.Forth.{Goes}
+use Rattle.std.proofs.Common.{◌∙◌, Option, ap, arith, refl, subst, sym}
+use Rattle.gdb_target.specs.Choices.{Choices}
+use Rattle.gdb_target.specs.Forth.{GoesBy}
+use Rattle.gdb_target.specs.Rows.{watched_addresses}
 use Rattle.gdb_target.specs.declared.target.Pause.{Pause}
+use Rattle.gdb_target.proofs.Ways.{all-passed, goes-further, passed-join}
 use Rattle.gdb_target.proofs.target.Target.go.Goals as goal
+
+pub send_next-requires-clause-watched : goal.send_next-requires-clause-watched
+send_next-requires-clause-watched c = c.as_slice.ensures.value ∙ c.in-Ok.ensures ∙ ap (λ (x : Choices). watched_addresses x.points) (sym c.events.invariant.choices)
 
 pub events-preserved : goal.events-preserved
 events-preserved c =
+    let until = c.args.going.now.until in
     let (n, so_far) = c.events.invariant.passed in
+    let (m, more) = all-passed until c.events.self c.send_next.new.self
+    (subst (λ (p : Option Pause). GoesBy until c.events.self p c.send_next.new.self) c.in_default-pause.is c.in_ok-pause.ensures.goes) in
     record {
       within = omega (arith, c.in_ok-pause.ensures.within);
-      passed = (suc n, (c.events.self, so_far, subst (λ (p : Option Pause). Goes c.args.going.now.until c.events.self p c.send_next.new.self) c.in_default.is c.in_ok-pause.ensures.goes));
+      passed = passed-join until n m c.args.self.now c.events.self c.send_next.new.self so_far more;
       same = c.in_ok-pause.ensures.same ∙ c.events.invariant.same;
       choices = c.in_ok-pause.ensures.choices ∙ c.events.invariant.choices;
     }
 
 pub returns-in-events-clause-goes : goal.returns-in-events-clause-goes
 returns-in-events-clause-goes c =
+    let until = c.args.going.now.until in
     let (n, so_far) = c.events.invariant.passed in
-    record {
-      stretches = n;
-      last = c.events.self;
-      passed = so_far;
-      ends = subst (λ (p : Option Pause). Goes c.args.going.now.until c.events.self p c.send_next.new.self) c.in-Some.is c.in_ok-pause.ensures.goes;
-    }
+    subst (λ (p : Option Pause). GoesBy until c.args.self.now p c.send_next.new.self) c.in-Some.is
+    (goes-further until n c.args.self.now c.events.self c.send_next.new.self c.in_ok-pause.pause so_far c.in_ok-pause.ensures.goes)
 
 pub returns-clause-goes : goal.returns-clause-goes
 returns-clause-goes c =

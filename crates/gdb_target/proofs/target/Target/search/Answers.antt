@@ -1,4 +1,4 @@
-use Rattle.std.proofs.Common.{◌≡◌, ◌∙◌, refl, sym}
+use Rattle.std.proofs.Common.{◌∙◌, refl, sym}
 use Rattle.std.proofs.lemmas.Result.{IfOk-weaker}
 use Rattle.gdb_target.proofs.LastPlaces.{looks-still, none-stood}
 use Rattle.gdb_target.proofs.target.Target.search.Goals as goal
