@@ -1,7 +1,7 @@
 //! The debugger: a line goes in, its answer comes out.
 ghost use Rattle.std.specs.Prelude.{◌≡◌, ◌++◌, OnOk, string_bytes};
 ghost use Rattle.xv_debug.specs.Effects.{next_of};
-ghost use Rattle.xv_debug.specs.StopText.{no_return};
+ghost use Rattle.xv_debug.specs.StopText.{never, no_return};
 ghost use Rattle.xv_debug.specs.WhereText.{nobody};
 
 use crate::callers::told_calls;
@@ -19,7 +19,7 @@ use debug_views::{
     show_pages, show_registers, show_trace, show_value,
 };
 use debug_words::texts::Many;
-use debug_words::{EVENTS_MOST, Goal, Keys, Marks, Size, Word, WordError, show_help};
+use debug_words::{EVENTS_MOST, Goal, Keys, Mark, Marks, Size, Word, WordError, show_help};
 use std::alloc::{AllocError, Global};
 use xk_base::Pid;
 use xv_machine::Event;
@@ -32,7 +32,7 @@ const INSTRUCTIONS: u32 = 8;
 /// The Runs in a round of `run`: as many as in one of `xv_run`.
 const QUANTUM: u32 = 1000;
 
-/// What comes behind an answer.
+/// What comes after an answer.
 #[derive(Clone, Copy, PartialEq, Eq)]
 pub enum Next {
     /// The debugger waits for the next line.
@@ -48,7 +48,7 @@ pub enum Next {
 pub struct Debugger {
     /// The process that made the last step that was seen.
     last: Option<Pid>,
-    /// The address behind the memory that was shown last.
+    /// The address after the memory that was shown last.
     shown: u64,
     /// What is known of the sources of the session's programs, if anything is.
     sources: Option<Sources>,
@@ -56,7 +56,7 @@ pub struct Debugger {
     marks: KeptMarks,
 }
 
-/// What comes behind the answer to a word.
+/// What comes after the answer to a word.
 fn next_of(word: &Word) -> Next
     ensures { result ≡ next_of word.now }
 {
@@ -102,6 +102,13 @@ fn show_no_return(answer: &mut String) -> Result<(), AllocError>
     answer.push_str("no process runs whose function has a known return address: bt tells more\n")
 }
 
+/// Writes that a goal never came before.
+fn show_never(answer: &mut String) -> Result<(), AllocError>
+    ensures { OnOk result (string_bytes answer.new ≡ string_bytes answer.old ++ never) }
+{
+    answer.push_str("it never came before this place, and nothing is changed\n")
+}
+
 /// Writes that there is no process.
 fn show_nobody(answer: &mut String) -> Result<(), AllocError>
     ensures { OnOk result (string_bytes answer.new ≡ string_bytes answer.old ++ nobody) }
@@ -110,23 +117,25 @@ fn show_nobody(answer: &mut String) -> Result<(), AllocError>
 }
 
 impl Debugger {
-    ghost use Rattle.std.specs.Prelude.{◌≡◌, ◌⊎◌, [], IfOk, IfErr, OnOk, length, map, option_map, replicate, string_bytes, take, unwrap_or};
+    ghost use Rattle.std.specs.Prelude.{◌≡◌, ◌⊎◌, ℕ, [], IfOk, IfErr, OnOk, Option, length, map, option_map, replicate, string_bytes, take, unwrap_or};
     ghost use Rattle.kernel_spec.specs.runs.Run as runs;
     ghost use Rattle.xv_machine.specs.Events.{event_of, outcome_of};
     ghost use Rattle.xv_debug.specs.motion.Aims.{aim_in};
     ghost use Rattle.kcall_core.specs.Observers.{process_at};
     ghost use Rattle.debug_words.specs.Ranges.{IsInRange};
-    ghost use Rattle.xv_debug.specs.motion.Marks.{meets_marks};
-    ghost use Rattle.xv_debug.specs.motion.Reaching.{meets_aim};
+    ghost use Rattle.xv_session.specs.declared.until.Condition.TheVariants.{Fault};
+    ghost use Rattle.xv_debug.specs.declared.motion.aiming.Aim.TheVariants.{On};
+    ghost use Rattle.xv_debug.specs.motion.Backwards.{GoesBackUntil};
+    ghost use Rattle.xv_debug.specs.motion.Reaching.{meets_one};
     ghost use Rattle.debug_views.specs.DescriptorText.{descriptors_shown};
     ghost use Rattle.debug_views.specs.MemoryText.{memory_shown};
     ghost use Rattle.debug_views.specs.NumberText.{numbers_shown};
     ghost use Rattle.debug_views.specs.PagesText.{IsPagesText};
     ghost use Rattle.debug_views.specs.RegisterText.{registers_shown};
     ghost use Rattle.debug_views.specs.Written.{Writes};
-    ghost use Rattle.xv_debug.specs.AnswerText.{AimTells, Answers, BackTells, ConditionTells, FinishTells, GoalTells, IsBackText};
-    ghost use Rattle.xv_debug.specs.AnswerText.{IsSentText, RoundsTell, SearchTells, SendsTell, StepTells};
-    ghost use Rattle.xv_debug.specs.Effects.{Does, DoesOrStays, DoesSome, Finishes, GoesBack, IsConditionOf, Obeys, Plays, Searches, SearchesAim, SearchesFor, SearchesGoal, SendsFirst, Steps, next_of};
+    ghost use Rattle.xv_debug.specs.AnswerText.{Answers, BackTells, BackUntilTells, FinishTells, GoalTells, IsBackText};
+    ghost use Rattle.xv_debug.specs.AnswerText.{IsSentText, RoundsTell, SearchTells, SeekBackTells, SendsTell, StepTells};
+    ghost use Rattle.xv_debug.specs.Effects.{Does, DoesOrStays, DoesSome, Finishes, GoesBack, IsAimOf, Obeys, Plays, Searches, SearchesGoal, SeeksBack, SendsFirst, Steps, next_of};
     ghost use Rattle.xv_debug.specs.Focus.{IsFocus};
     ghost use Rattle.xv_debug.specs.LookText.{IsOfFocus, Shows};
     ghost use Rattle.xv_debug.specs.OutputText.{output_text};
@@ -238,7 +247,7 @@ impl Debugger {
         Word::ToMark(self.marks.marks())
     }
 
-    /// Does what a word of a line asks for, and writes its answer. Behind it the marks for once that are met are
+    /// Does what a word of a line asks for, and writes its answer. After it the marks for once that are met are
     /// forgotten.
     fn answer_marked(
         &mut self,
@@ -257,7 +266,7 @@ impl Debugger {
         next
     }
 
-    /// Forgets the marks for once that are met where the session is, behind the word that goes on to them.
+    /// Forgets the marks for once that are met where the session is, after the word that goes on to them.
     fn forget_met(&mut self, session: &Session, word: &Word)
         ensures { self.new.last ≡ self.old.last }
     {
@@ -320,6 +329,7 @@ impl Debugger {
     {
         match word {
             Word::Back { count } => self.go_back(alloc, session, *count, answer),
+            Word::BackUntil(goal) => self.seek_back(alloc, session, goal, answer),
             Word::Step { count } => self.step(alloc, session, word, *count, answer),
             Word::Next => self.next(alloc, session, word, answer),
             Word::Until(goal) => self.seek(alloc, session, word, goal, answer),
@@ -423,6 +433,27 @@ impl Debugger {
         self.tell(alloc, session, word, &journey, answer)
     }
 
+    /// Sends Runs up to an aim or a mark, and tells what came of them.
+    fn search(
+        &mut self,
+        alloc: Global,
+        session: &mut Session,
+        word: &Word,
+        aim: &Aim,
+        marks: &[Mark],
+        answer: &mut String,
+    ) -> Result<(), AllocError>
+        ensures done { IfOk result (λ _. Searches (meets_one aim.now marks.now) session.old session.new) }
+        ensures told { OnOk result
+            (SearchTells self.old.last self.new.last word.now (meets_one aim.now marks.now)
+            session.old session.new (string_bytes answer.old) (string_bytes answer.new)) }
+        ensures failed { IfErr result (λ _. (session.new ≡ session.old) ⊎ Searches (meets_one aim.now marks.now) session.old session.new) }
+    {
+        let mut output = Output::new(alloc)?;
+        let journey = motion::search(session, EVENTS_MOST, aim, marks, &mut output);
+        self.tell_shown(alloc, session, word, &journey, &output, answer)
+    }
+
     /// Sends Runs up to the end of an instruction, and of the call that it makes.
     fn next(
         &mut self,
@@ -431,16 +462,17 @@ impl Debugger {
         word: &Word,
         answer: &mut String,
     ) -> Result<(), AllocError>
-        ensures done { Searches (meets_aim (aim_in session.old.machine.world)) session.old session.new }
+        ensures done { IfOk result (λ _. Searches (meets_one (aim_in session.old.machine.world) []) session.old session.new) }
         ensures told { OnOk result
-            (SearchTells self.old.last self.new.last word.now (meets_aim (aim_in session.old.machine.world))
+            (SearchTells self.old.last self.new.last word.now (meets_one (aim_in session.old.machine.world) [])
             session.old session.new (string_bytes answer.old) (string_bytes answer.new)) }
+        ensures failed { IfErr result (λ _. (session.new ≡ session.old) ⊎ Searches (meets_one (aim_in session.old.machine.world) []) session.old session.new) }
     {
-        let journey = motion::next(session, EVENTS_MOST);
-        self.tell(alloc, session, word, &journey, answer)
+        let aim = motion::aim_in(session.machine());
+        self.search(alloc, session, word, &aim, &[], answer)
     }
 
-    /// Sends Runs up to the first that meets one of these marks.
+    /// Sends Runs up to the first that meets one of these marks, or by which a process is gone by a fault.
     fn go_on(
         &mut self,
         alloc: Global,
@@ -449,16 +481,17 @@ impl Debugger {
         marks: &Marks,
         answer: &mut String,
     ) -> Result<(), AllocError>
-        ensures done { Searches (meets_marks marks.now.items) session.old session.new }
+        ensures done { IfOk result (λ _. Searches (meets_one (On Fault) marks.now.items) session.old session.new) }
         ensures told { OnOk result
-            (SearchTells self.old.last self.new.last word.now (meets_marks marks.now.items)
+            (SearchTells self.old.last self.new.last word.now (meets_one (On Fault) marks.now.items)
             session.old session.new (string_bytes answer.old) (string_bytes answer.new)) }
+        ensures failed { IfErr result (λ _. (session.new ≡ session.old) ⊎ Searches (meets_one (On Fault) marks.now.items) session.old session.new) }
     {
-        let journey = motion::to_mark(session, EVENTS_MOST, marks);
-        self.tell(alloc, session, word, &journey, answer)
+        let aim = Aim::On(Condition::Fault);
+        self.search(alloc, session, word, &aim, marks.as_slice(), answer)
     }
 
-    /// Sends Runs up to the end of the function in which the process that runs is.
+    /// Sends Runs up to the end of the function in which the process that runs is; none if it isn't known.
     fn finish(
         &mut self,
         alloc: Global,
@@ -466,37 +499,19 @@ impl Debugger {
         word: &Word,
         answer: &mut String,
     ) -> Result<(), AllocError>
-        ensures done { Finishes session.old session.new }
+        ensures done { IfOk result (λ _. Finishes session.old session.new) }
         ensures told { OnOk result
             (FinishTells self.old.last self.new.last word.now session.old session.new
             (string_bytes answer.old) (string_bytes answer.new)) }
+        ensures failed { IfErr result (λ _. (session.new ≡ session.old) ⊎ Finishes session.old session.new) }
     {
-        let aim = motion::finish_aim(session, self.sources.as_ref());
-        self.leave(alloc, session, word, aim, answer)
+        match motion::finish_aim(session, self.sources.as_ref()) {
+            Some(aim) => self.search(alloc, session, word, &aim, &[], answer),
+            None => show_no_return(answer),
+        }
     }
 
-    /// Sends Runs up to an aim; none where there is none, since it isn't known.
-    fn leave(
-        &mut self,
-        alloc: Global,
-        session: &mut Session,
-        word: &Word,
-        aim: Option<Aim>,
-        answer: &mut String,
-    ) -> Result<(), AllocError>
-        ensures done { SearchesAim aim session.old session.new }
-        ensures told { OnOk result
-            (AimTells self.old.last self.new.last word.now aim session.old session.new
-            (string_bytes answer.old) (string_bytes answer.new)) }
-    {
-        let Some(aim) = aim else {
-            return show_no_return(answer);
-        };
-        let journey = motion::run_to(session, EVENTS_MOST, &aim);
-        self.tell(alloc, session, word, &journey, answer)
-    }
-
-    /// Sends Runs up to a goal.
+    /// Sends Runs up to a goal; none if it is asked of a process that isn't there.
     fn seek(
         &mut self,
         alloc: Global,
@@ -505,34 +520,55 @@ impl Debugger {
         goal: &Goal,
         answer: &mut String,
     ) -> Result<(), AllocError>
-        ensures done { SearchesGoal self.old.last goal.now session.old session.new }
+        ensures done { IfOk result (λ _. SearchesGoal self.old.last goal.now session.old session.new) }
         ensures told { OnOk result
             (GoalTells self.old.last self.new.last word.now goal.now session.old session.new
             (string_bytes answer.old) (string_bytes answer.new)) }
+        ensures failed { IfErr result (λ _. (session.new ≡ session.old) ⊎ SearchesGoal self.old.last goal.now session.old session.new) }
     {
-        let condition = self.condition(session, goal);
-        self.search(alloc, session, word, condition, answer)
+        match self.aim(session, goal) {
+            Some(aim) => self.search(alloc, session, word, &aim, &[], answer),
+            None => show_nobody(answer),
+        }
     }
 
-    /// Sends Runs up to a condition; none where there is none, since it is asked of a process that isn't there.
-    fn search(
-        &mut self,
+    /// Goes back to the last Run that was a goal, and tells where that is.
+    fn seek_back(
+        &self,
         alloc: Global,
         session: &mut Session,
-        word: &Word,
-        condition: Option<Condition>,
+        goal: &Goal,
         answer: &mut String,
     ) -> Result<(), AllocError>
-        ensures done { SearchesFor condition session.old session.new }
+        ensures done { SeeksBack self.now.last goal.now session.old session.new }
         ensures told { OnOk result
-            (ConditionTells self.old.last self.new.last word.now condition session.old session.new
+            (SeekBackTells self.now.last goal.now session.old session.new
             (string_bytes answer.old) (string_bytes answer.new)) }
     {
-        let Some(condition) = condition else {
-            return show_nobody(answer);
-        };
-        let journey = motion::until(session, EVENTS_MOST, &condition);
-        self.tell(alloc, session, word, &journey, answer)
+        match self.aim(session, goal) {
+            Some(aim) => self.go_back_until(alloc, session, &aim, answer),
+            None => show_nobody(answer),
+        }
+    }
+
+    /// Goes back to the last Run that was an aim, and tells where that is.
+    fn go_back_until(
+        &self,
+        alloc: Global,
+        session: &mut Session,
+        aim: &Aim,
+        answer: &mut String,
+    ) -> Result<(), AllocError>
+        ensures done { (session.new ≡ session.old) ⊎ ((taken : Option ℕ) × GoesBackUntil aim.now taken session.old session.new) }
+        ensures told { OnOk result
+            (BackUntilTells self.now.last aim.now session.old session.new
+            (string_bytes answer.old) (string_bytes answer.new)) }
+    {
+        match motion::back_until(alloc, session, aim) {
+            Ok(Some(taken)) => self.tell_back(alloc, session, taken, answer),
+            Ok(None) => show_never(answer),
+            Err(error) => show_refusal(&error, answer),
+        }
     }
 
     /// Plays rounds, and tells what came of them.
@@ -596,19 +632,23 @@ impl Debugger {
         self.tell_shown(alloc, session, word, &journey, &output, answer)
     }
 
-    /// What a search waits for; `None` where it is asked of a process, and there is none.
-    fn condition(&self, session: &Session, goal: &Goal) -> Option<Condition>
-        ensures { IsConditionOf self.now.last goal.now session.now.machine.world result }
+    /// What a goal waits for; `None` if it is asked of a process, and there is none.
+    fn aim(&self, session: &Session, goal: &Goal) -> Option<Aim>
+        ensures { IsAimOf self.now.last goal.now session.now.machine.world result }
     {
         match *goal {
-            Goal::Call(number) => Some(Condition::Call(number)),
-            Goal::Pc { address, pid } => Some(Condition::At {
-                pid: self.focus(session, pid)?,
-                pc: address,
-            }),
-            Goal::Store(address) => Some(Condition::StoreTo(address)),
-            Goal::Fault => Some(Condition::Fault),
-            Goal::Exit => Some(Condition::Exit),
+            Goal::Call(number) => Some(Aim::On(Condition::Call(number))),
+            Goal::Pc { address, pid } => {
+                let pid = self.focus(session, pid)?;
+                Some(Aim::On(Condition::At { pid, pc: address }))
+            }
+            Goal::Store(address) => Some(Aim::On(Condition::StoreTo(address))),
+            Goal::Fault => Some(Aim::On(Condition::Fault)),
+            Goal::Exit => Some(Aim::On(Condition::Exit)),
+            Goal::Line => {
+                let pid = self.focus(session, None)?;
+                motion::line_aim(session, self.sources.as_ref(), pid)
+            }
         }
     }
 
@@ -819,7 +859,7 @@ impl Debugger {
         }
     }
 
-    /// Writes so many bytes of the process that a word looks at, from this address on, or behind those that were shown
+    /// Writes so many bytes of the process that a word looks at, from this address on, or after those that were shown
     /// last.
     fn show_memory_of(
         &mut self,

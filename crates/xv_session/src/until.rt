@@ -159,7 +159,7 @@ fn is_storing(address: u64, machine: &Machine) -> bool
 
 impl Condition {
     /// Whether it waits for a store, and the process that runs is about to make it.
-    fn is_at_store(&self, machine: &Machine) -> bool
+    pub fn is_at_store(&self, machine: &Machine) -> bool
         ensures { result ≡ store_awaited self.now machine.now }
     {
         match self {
@@ -170,7 +170,7 @@ impl Condition {
 
     /// Whether the event of which this came, and which left this machine, is what is waited for; before it the store
     /// that is waited for was the next step, or not.
-    fn is_met(&self, stores: bool, outcome: &Outcome, machine: &Machine) -> bool
+    pub fn is_met(&self, stores: bool, outcome: &Outcome, machine: &Machine) -> bool
         ensures { result ≡ meets_with self.now stores (outcome_of outcome.now) machine.now }
     {
         match self {

@@ -1,9 +1,10 @@
-use Rattle.std.proofs.Common.{OnOk, length, map, replicate, string_bytes, subst, sym, take}
+use Rattle.std.proofs.Common.{OnOk, [], length, map, replicate, string_bytes, subst, sym, take}
 use Rattle.kernel_spec.specs.runs.Run as runs
 use Rattle.debug_words.specs.declared.vocabulary.Word.{Word}
 use Rattle.xv_debug.specs.motion.Aims.{aim_in}
-use Rattle.xv_debug.specs.motion.Marks.{meets_marks}
-use Rattle.xv_debug.specs.motion.Reaching.{meets_aim}
+use Rattle.xv_debug.specs.motion.Reaching.{meets_one}
+use Rattle.xv_debug.specs.declared.motion.aiming.Aim.TheVariants.{On}
+use Rattle.xv_session.specs.declared.until.Condition.TheVariants.{Fault}
 use Rattle.xv_debug.specs.AnswerText.{Answers, FinishTells, GoalTells, RoundsTell, SearchTells, SendsTell, StepTells}
 use Rattle.xv_debug.proofs.debugger.Debugger.act.Goals as goal
 
@@ -27,7 +28,7 @@ returns-in-Next-clause-told c =
     let before = string_bytes c.args.answer.now in
     let after = string_bytes c.next.new.answer in
     subst (λ (w : Word). OnOk c.next.result (Answers last seen c.args.self.now.shown w old new before after)) (sym c.in-Next.is)
-    (subst (λ (w : Word). OnOk c.next.result (SearchTells last seen w (meets_aim (aim_in old.machine.world)) old new before after)) c.in-Next.is c.next.ensures.told)
+    (subst (λ (w : Word). OnOk c.next.result (SearchTells last seen w (meets_one (aim_in old.machine.world) []) old new before after)) c.in-Next.is c.next.ensures.told)
 
 pub returns-in-Until-clause-told : goal.returns-in-Until-clause-told
 returns-in-Until-clause-told c =
@@ -93,7 +94,7 @@ returns-in-ToMark-clause-told c =
     let before = string_bytes c.args.answer.now in
     let after = string_bytes c.go_on.new.answer in
     subst (λ (w : Word). OnOk c.go_on.result (Answers last seen c.args.self.now.shown w old new before after)) (sym c.in-ToMark.is)
-    (subst (λ (w : Word). OnOk c.go_on.result (SearchTells last seen w (meets_marks c.in-ToMark.marks.items) old new before after)) c.in-ToMark.is c.go_on.ensures.told)
+    (subst (λ (w : Word). OnOk c.go_on.result (SearchTells last seen w (meets_one (On Fault) c.in-ToMark.marks.items) old new before after)) c.in-ToMark.is c.go_on.ensures.told)
 
 pub returns-in-Finish-clause-told : goal.returns-in-Finish-clause-told
 returns-in-Finish-clause-told c =
