@@ -154,7 +154,7 @@ module _ (aim : Aim) (marks : List Mark) (pcs bs : List ℕ) (far : IsFar aim) (
       let this : q ≡ o = same_Some q o (sym last ∙ is) in
       let last_one : Advances mid Run o (running_of new) = subst (λ (x : Outcome). Advances mid Run x (running_of new)) this one in
       let met_is : meets_one aim marks mid o (running_of new) ≡ met =
-          ap₂ (λ (x y : Bool). aims.meets_with aim x o new.machine || marked.meets_with marks y o (running_of new)) p.undue.by_aim p.undue.by_mark ∙ was in
+      ap₂ (λ (x y : Bool). aims.meets_with aim x o new.machine || marked.meets_with marks y o (running_of new)) p.undue.by_aim p.undue.by_mark ∙ was in
       let list : Steps = p.list ++ (Run, o) ∷ [] in
       let those : events list ≡ replicate (suc n) Run = map-append (λ (e : Event × Outcome). e.0) p.list ((Run, o) ∷ []) ∙ ap (λ (es : List Event). es ++ Run ∷ []) p.those ∙ one-more n in record {
         list = list;

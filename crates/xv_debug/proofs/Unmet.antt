@@ -209,7 +209,7 @@ module _ (aim : Aim) (marks : List Mark) (pcs bs : List ℕ) (far : IsFar aim) (
       let own : List ℕ = option_to_list (of_aim Bytes aim) in
       let theirs : List ℕ = flat_map (λ x. option_to_list (of_mark Bytes x)) marks in
       let apart = or_parts (list_any (λ a. is_storing a w) own) (list_any (λ a. is_storing a w) theirs)
-          (sym (list_any-append (λ a. is_storing a w) own theirs) ∙ sym (ap (list_any (λ a. is_storing a w)) are_bs) ∙ not-stored pcs bs w.state w.turns.current none) in
+      (sym (list_any-append (λ a. is_storing a w) own theirs) ∙ sym (ap (list_any (λ a. is_storing a w)) are_bs) ∙ not-stored pcs bs w.state w.turns.current none) in
       record { by_aim = no-aim-due aim m apart.0; by_mark = no-mark-due w marks apart.1 }
 
   pub unmet : (a b : Running) (o : Outcome) → AreUndue aim marks a.machine → is_done o ≡ true → is_before_stop pcs bs b.machine.world ≡ false → meets_one aim marks a o b ≡ false

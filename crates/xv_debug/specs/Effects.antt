@@ -1,7 +1,7 @@
 -- What the words do to a session: words that look leave it as it was; the others send events, or go back.
 use Rattle.std.specs.Prelude.{◌≡◌, ◌≢◌, ◌⊎◌, ◌≤◌, ◌-◌, ℕ, List, [], map, take, length, replicate, Option, None, Some, IfSome}
 use Rattle.kernel_spec.specs.runs.Run as runs
-use Rattle.kernel_spec.specs.runs.Run.{Event, Outcome, World}
+use Rattle.kernel_spec.specs.runs.Run.{Event, Outcome}
 use Rattle.xv_session.specs.Answers.{WentBack}
 use Rattle.xv_session.specs.Recorded.{Recorded}
 use Rattle.xv_session.specs.declared.until.Condition.TheVariants as waits_for
@@ -35,13 +35,13 @@ abbrev pub at : (pc : ℕ) → Option ℕ → Option Aim
 at pc None = None
 at pc (Some p) = Some (On (waits_for.At p pc))
 
-abbrev pub IsAimOf : (last : Option ℕ) → Goal → World → Option Aim → Type 0
-IsAimOf last (Call number) w answer = answer ≡ Some (On (waits_for.Call number))
-IsAimOf last (Pc address pid) w answer = (p : Option ℕ) × IsFocus last pid w p × (answer ≡ at address p)
-IsAimOf last (Store address) w answer = answer ≡ Some (On (waits_for.StoreTo address))
-IsAimOf last Fault w answer = answer ≡ Some (On waits_for.Fault)
-IsAimOf last Exit w answer = answer ≡ Some (On waits_for.Exit)
-IsAimOf last Line w answer = (p : Option ℕ) × IsFocus last None w p × IsLineOf p w answer
+abbrev pub IsAimOf : Goal → Recorded → Option Aim → Type 0
+IsAimOf (Call number) s answer = answer ≡ Some (On (waits_for.Call number))
+IsAimOf (Pc address pid) s answer = (p : Option ℕ) × IsFocus pid s p × (answer ≡ at address p)
+IsAimOf (Store address) s answer = answer ≡ Some (On (waits_for.StoreTo address))
+IsAimOf Fault s answer = answer ≡ Some (On waits_for.Fault)
+IsAimOf Exit s answer = answer ≡ Some (On waits_for.Exit)
+IsAimOf Line s answer = (p : Option ℕ) × IsFocus None s p × IsLineOf p s.machine.world answer
 
 -- ---- what the words leave
 
@@ -72,9 +72,9 @@ SearchesAim None old new = new ≡ old
 SearchesAim (Some aim) old new = Searches (meets_one aim []) old new
 
 -- up to a goal
-pub record SearchesGoal (last : Option ℕ) (goal : Goal) (old new : Recorded) : Type 0 where
+pub record SearchesGoal (goal : Goal) (old new : Recorded) : Type 0 where
   pub aim : Option Aim
-  pub is : IsAimOf last goal old.machine.world aim
+  pub is : IsAimOf goal old aim
   pub searches : SearchesAim aim old new
 
 -- up to the end of the function in which the process that runs is, if it is known where that is
@@ -113,29 +113,29 @@ GoesBackTo None old new = new ≡ old
 GoesBackTo (Some aim) old new = (new ≡ old) ⊎ ((taken : Option ℕ) × GoesBackUntil aim taken old new)
 
 -- that was a goal; or it is as it was, where the host had too little memory
-pub record SeeksBack (last : Option ℕ) (goal : Goal) (old new : Recorded) : Type 0 where
+pub record SeeksBack (goal : Goal) (old new : Recorded) : Type 0 where
   pub aim : Option Aim
-  pub is : IsAimOf last goal old.machine.world aim
+  pub is : IsAimOf goal old aim
   pub goes : GoesBackTo aim old new
 
 -- What a word leaves
-abbrev pub Does : (last : Option ℕ) → words.Word → Recorded → Recorded → Type 0
-Does last (Step count) old new = Steps count old new
-Does last Next old new = Searches (meets_one (aim_in old.machine.world) []) old new
-Does last (Until goal) old new = SearchesGoal last goal old new
-Does last (Run rounds) old new = Plays rounds old new
-Does last (Tick count) old new = SendsFirst (λ n. replicate n runs.Tick) count old new
-Does last (Send count) old new = SendsFirst (λ n. replicate n runs.Send) count old new
-Does last (Key keys) old new = SendsFirst (λ n. map runs.Key (take n keys.items)) (length keys.items) old new
-Does last (Back count) old new = GoesBack count old new
-Does last (BackUntil goal) old new = SeeksBack last goal old new
-Does last (ToMark marks) old new = Searches (meets_one (On waits_for.Fault) marks.items) old new
-Does last Finish old new = Finishes old new
-Does last _ old new = new ≡ old
+abbrev pub Does : words.Word → Recorded → Recorded → Type 0
+Does (Step count) old new = Steps count old new
+Does Next old new = Searches (meets_one (aim_in old.machine.world) []) old new
+Does (Until goal) old new = SearchesGoal goal old new
+Does (Run rounds) old new = Plays rounds old new
+Does (Tick count) old new = SendsFirst (λ n. replicate n runs.Tick) count old new
+Does (Send count) old new = SendsFirst (λ n. replicate n runs.Send) count old new
+Does (Key keys) old new = SendsFirst (λ n. map runs.Key (take n keys.items)) (length keys.items) old new
+Does (Back count) old new = GoesBack count old new
+Does (BackUntil goal) old new = SeeksBack goal old new
+Does (ToMark marks) old new = Searches (meets_one (On waits_for.Fault) marks.items) old new
+Does Finish old new = Finishes old new
+Does _ old new = new ≡ old
 
 -- Where the host had too little memory for its answer, it may have done nothing
-abbrev pub DoesOrStays : (last : Option ℕ) → words.Word → Recorded → Recorded → Type 0
-DoesOrStays last word old new = (new ≡ old) ⊎ Does last word old new
+abbrev pub DoesOrStays : words.Word → Recorded → Recorded → Type 0
+DoesOrStays word old new = (new ≡ old) ⊎ Does word old new
 
 -- ---- what a line leaves
 
@@ -146,14 +146,14 @@ next_of Quit = ends.Ends
 next_of _ = ends.Stays
 
 -- What some word leaves whose numbers are in their ranges. A line that is no word is answered as the word Nothing is, which does nothing
-pub record DoesSome (last : Option ℕ) (old new : Recorded) : Type 0 where
+pub record DoesSome (old new : Recorded) : Type 0 where
   pub word : words.Word
   pub in_range : IsInRange word
-  pub does : Does last word old new
+  pub does : Does word old new
 
 -- and what comes behind its answer
-pub record Obeys (last : Option ℕ) (old new : Recorded) (next : behind_words.Next) : Type 0 where
+pub record Obeys (old new : Recorded) (next : behind_words.Next) : Type 0 where
   pub word : words.Word
   pub in_range : IsInRange word
-  pub does : Does last word old new
+  pub does : Does word old new
   pub behind : next ≡ next_of word

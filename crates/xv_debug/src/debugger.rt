@@ -2,24 +2,23 @@
 ghost use Rattle.std.specs.Prelude.{◌≡◌, ◌++◌, OnOk, string_bytes};
 ghost use Rattle.xv_debug.specs.Effects.{next_of};
 ghost use Rattle.xv_debug.specs.StopText.{never, no_return};
-ghost use Rattle.xv_debug.specs.WhereText.{nobody};
 
 use crate::callers::told_calls;
-use crate::focus::{last_seen, running_or};
+use crate::focus::focus;
 use crate::instruction::listed_from;
 use crate::kept::KeptMarks;
+use crate::looks::{
+    show_descriptors_of, show_nobody, show_numbers_of, show_pages_of, show_registers_of,
+};
 use crate::motion::{self, Aim, Journey, Output};
 use crate::names::Known;
 use crate::pipes::show_pipes;
 use crate::processes::{show_process, show_processes, show_where};
 use crate::shown_output::show_output;
 use crate::stops::{show_refusal, show_sent};
-use debug_views::{
-    show_console, show_descriptors, show_events, show_frames, show_memory, show_numbers,
-    show_pages, show_registers, show_trace, show_value,
-};
+use debug_views::{show_console, show_events, show_frames, show_memory, show_trace, show_value};
 use debug_words::texts::Many;
-use debug_words::{EVENTS_MOST, Goal, Keys, Mark, Marks, Size, Word, WordError, show_help};
+use debug_words::{EVENTS_MOST, Goal, Keys, Mark, Marks, Word, WordError, show_help};
 use std::alloc::{AllocError, Global};
 use xk_base::Pid;
 use xv_machine::Event;
@@ -46,8 +45,6 @@ pub enum Next {
 /// A debugger: what it remembers between its words. The session isn't part of it.
 #[derive(Drop)]
 pub struct Debugger {
-    /// The process that made the last step that was seen.
-    last: Option<Pid>,
     /// The address after the memory that was shown last.
     shown: u64,
     /// What is known of the sources of the session's programs, if anything is.
@@ -109,13 +106,6 @@ fn show_never(answer: &mut String) -> Result<(), AllocError>
     answer.push_str("it never came before this place, and nothing is changed\n")
 }
 
-/// Writes that there is no process.
-fn show_nobody(answer: &mut String) -> Result<(), AllocError>
-    ensures { OnOk result (string_bytes answer.new ≡ string_bytes answer.old ++ nobody) }
-{
-    answer.push_str("there is no process\n")
-}
-
 impl Debugger {
     ghost use Rattle.std.specs.Prelude.{◌≡◌, ◌⊎◌, ℕ, [], IfOk, IfErr, OnOk, Option, length, map, option_map, replicate, string_bytes, take, unwrap_or};
     ghost use Rattle.kernel_spec.specs.runs.Run as runs;
@@ -127,16 +117,11 @@ impl Debugger {
     ghost use Rattle.xv_debug.specs.declared.motion.aiming.Aim.TheVariants.{On};
     ghost use Rattle.xv_debug.specs.motion.Backwards.{GoesBackUntil};
     ghost use Rattle.xv_debug.specs.motion.Reaching.{meets_one};
-    ghost use Rattle.debug_views.specs.DescriptorText.{descriptors_shown};
     ghost use Rattle.debug_views.specs.MemoryText.{memory_shown};
-    ghost use Rattle.debug_views.specs.NumberText.{numbers_shown};
-    ghost use Rattle.debug_views.specs.PagesText.{IsPagesText};
-    ghost use Rattle.debug_views.specs.RegisterText.{registers_shown};
     ghost use Rattle.debug_views.specs.Written.{Writes};
     ghost use Rattle.xv_debug.specs.AnswerText.{Answers, BackTells, BackUntilTells, FinishTells, GoalTells, IsBackText};
     ghost use Rattle.xv_debug.specs.AnswerText.{IsSentText, RoundsTell, SearchTells, SeekBackTells, SendsTell, StepTells};
     ghost use Rattle.xv_debug.specs.Effects.{Does, DoesOrStays, DoesSome, Finishes, GoesBack, IsAimOf, Obeys, Plays, Searches, SearchesGoal, SeeksBack, SendsFirst, Steps, next_of};
-    ghost use Rattle.xv_debug.specs.Focus.{IsFocus};
     ghost use Rattle.xv_debug.specs.LookText.{IsOfFocus, Shows};
     ghost use Rattle.xv_debug.specs.OutputText.{output_text};
     ghost use Rattle.xv_debug.specs.WhereText.{IsProcessText, IsWhereOf};
@@ -144,12 +129,10 @@ impl Debugger {
     /// A debugger that has seen nothing. The names of functions come from the programs' own symbols, and no line is
     /// known.
     pub fn new() -> Debugger
-        ensures last { result.last ≡ None }
         ensures shown { result.shown ≡ 0 }
         ensures sources { result.sources ≡ None }
     {
         Debugger {
-            last: None,
             shown: 0,
             sources: None,
             marks: KeptMarks::new(),
@@ -158,12 +141,10 @@ impl Debugger {
 
     /// A debugger that has seen nothing, and knows this of the programs' sources.
     pub fn with_sources(sources: Sources) -> Debugger
-        ensures last { result.last ≡ None }
         ensures shown { result.shown ≡ 0 }
         ensures sources { result.sources ≡ Some sources }
     {
         Debugger {
-            last: None,
             shown: 0,
             sources: Some(sources),
             marks: KeptMarks::new(),
@@ -181,21 +162,10 @@ impl Debugger {
     ) -> Result<(), AllocError>
         ensures { OnOk result
             (Writes (string_bytes answer.old) (string_bytes answer.new)
-            (IsWhereOf self.now.last session.now named)) }
+            (IsWhereOf session.now named)) }
     {
-        let focus = self.focus(session, named);
-        show_where(alloc, session, self.sources.as_ref(), focus, count, answer)
-    }
-
-    /// The process that a word looks at: the one that it names; else the one that runs; else the one that made the
-    /// last step, if it lives; else the one of the least pid.
-    fn focus(&self, session: &Session, named: Option<Pid>) -> Option<Pid>
-        ensures { IsFocus self.now.last named session.now.machine.world result }
-    {
-        match named {
-            Some(pid) => Some(pid),
-            None => running_or(session.machine(), self.last),
-        }
+        let pid = focus(session, named);
+        show_where(alloc, session, self.sources.as_ref(), pid, count, answer)
     }
 
     /// Obeys a line, and writes its answer.
@@ -210,8 +180,8 @@ impl Debugger {
         line: &str,
         answer: &mut String,
     ) -> Result<Next, AllocError>
-        ensures done { IfOk result (λ next. Obeys self.old.last session.old session.new next) }
-        ensures failed { IfErr result (λ _. (session.new ≡ session.old) ⊎ DoesSome self.old.last session.old session.new) }
+        ensures done { IfOk result (λ next. Obeys session.old session.new next) }
+        ensures failed { IfErr result (λ _. (session.new ≡ session.old) ⊎ DoesSome session.old session.new) }
     {
         match self.read(session, line) {
             Ok(word) => self.answer_marked(alloc, session, word, answer),
@@ -227,11 +197,10 @@ impl Debugger {
         ensures { IfOk result IsInRange }
     {
         let sources: Option<&Sources> = self.sources.as_ref();
-        let focus = self.focus(session, None);
         let known = Known {
             session,
             sources,
-            focus,
+            focus: focus(session, None),
         };
         Word::of(line, &known)
     }
@@ -257,8 +226,8 @@ impl Debugger {
         answer: &mut String,
     ) -> Result<Next, AllocError>
         requires { IsInRange word }
-        ensures done { IfOk result (λ next. Obeys self.old.last session.old session.new next) }
-        ensures failed { IfErr result (λ _. (session.new ≡ session.old) ⊎ DoesSome self.old.last session.old session.new) }
+        ensures done { IfOk result (λ next. Obeys session.old session.new next) }
+        ensures failed { IfErr result (λ _. (session.new ≡ session.old) ⊎ DoesSome session.old session.new) }
     {
         let word = self.with_marks(word);
         let next = self.obey_word(alloc, session, &word, answer);
@@ -267,9 +236,7 @@ impl Debugger {
     }
 
     /// Forgets the marks for once that are met where the session is, after the word that goes on to them.
-    fn forget_met(&mut self, session: &Session, word: &Word)
-        ensures { self.new.last ≡ self.old.last }
-    {
+    fn forget_met(&mut self, session: &Session, word: &Word) {
         if let Word::ToMark(_) = word {
             self.marks.forget_met(session);
         }
@@ -284,8 +251,8 @@ impl Debugger {
         answer: &mut String,
     ) -> Result<Next, AllocError>
         requires { IsInRange word.now }
-        ensures done { IfOk result (λ next. Obeys self.old.last session.old session.new next) }
-        ensures failed { IfErr result (λ _. (session.new ≡ session.old) ⊎ DoesSome self.old.last session.old session.new) }
+        ensures done { IfOk result (λ next. Obeys session.old session.new next) }
+        ensures failed { IfErr result (λ _. (session.new ≡ session.old) ⊎ DoesSome session.old session.new) }
     {
         self.answer(alloc, session, word, answer)
     }
@@ -302,12 +269,12 @@ impl Debugger {
         word: &Word,
         answer: &mut String,
     ) -> Result<Next, AllocError>
-        ensures done { IfOk result (λ _. Does self.old.last word.now session.old session.new) }
+        ensures done { IfOk result (λ _. Does word.now session.old session.new) }
         ensures next { IfOk result (λ next. next ≡ next_of word.now) }
         ensures told { OnOk result
-            (Answers self.old.last self.new.last self.old.shown word.now session.old session.new
+            (Answers self.old.shown word.now session.old session.new
             (string_bytes answer.old) (string_bytes answer.new)) }
-        ensures failed { IfErr result (λ _. DoesOrStays self.old.last word.now session.old session.new) }
+        ensures failed { IfErr result (λ _. DoesOrStays word.now session.old session.new) }
     {
         self.act(alloc, session, word, answer)?;
         Ok(next_of(word))
@@ -321,11 +288,11 @@ impl Debugger {
         word: &Word,
         answer: &mut String,
     ) -> Result<(), AllocError>
-        ensures done { IfOk result (λ _. Does self.old.last word.now session.old session.new) }
+        ensures done { IfOk result (λ _. Does word.now session.old session.new) }
         ensures told { OnOk result
-            (Answers self.old.last self.new.last self.old.shown word.now session.old session.new
+            (Answers self.old.shown word.now session.old session.new
             (string_bytes answer.old) (string_bytes answer.new)) }
-        ensures failed { IfErr result (λ _. DoesOrStays self.old.last word.now session.old session.new) }
+        ensures failed { IfErr result (λ _. DoesOrStays word.now session.old session.new) }
     {
         match word {
             Word::Back { count } => self.go_back(alloc, session, *count, answer),
@@ -389,7 +356,7 @@ impl Debugger {
     ) -> Result<(), AllocError>
         ensures done { GoesBack count session.old session.new }
         ensures told { OnOk result
-            (BackTells self.now.last count session.old session.new
+            (BackTells count session.old session.new
             (string_bytes answer.old) (string_bytes answer.new)) }
     {
         match motion::go_back(alloc, session, count) {
@@ -408,7 +375,7 @@ impl Debugger {
     ) -> Result<(), AllocError>
         ensures { OnOk result
             (Writes (string_bytes answer.old) (string_bytes answer.new)
-            (IsBackText self.now.last session.now taken)) }
+            (IsBackText session.now taken)) }
     {
         let many = Many(taken, "event");
         writeln!(answer, "{many} back")?;
@@ -417,7 +384,7 @@ impl Debugger {
 
     /// Sends so many Runs, and tells what came of them.
     fn step(
-        &mut self,
+        &self,
         alloc: Global,
         session: &mut Session,
         word: &Word,
@@ -426,7 +393,7 @@ impl Debugger {
     ) -> Result<(), AllocError>
         ensures done { Steps count session.old session.new }
         ensures told { OnOk result
-            (StepTells self.old.last self.new.last word.now count session.old session.new
+            (StepTells word.now count session.old session.new
             (string_bytes answer.old) (string_bytes answer.new)) }
     {
         let journey = motion::step(session, count);
@@ -435,7 +402,7 @@ impl Debugger {
 
     /// Sends Runs up to an aim or a mark, and tells what came of them.
     fn search(
-        &mut self,
+        &self,
         alloc: Global,
         session: &mut Session,
         word: &Word,
@@ -445,7 +412,7 @@ impl Debugger {
     ) -> Result<(), AllocError>
         ensures done { IfOk result (λ _. Searches (meets_one aim.now marks.now) session.old session.new) }
         ensures told { OnOk result
-            (SearchTells self.old.last self.new.last word.now (meets_one aim.now marks.now)
+            (SearchTells word.now (meets_one aim.now marks.now)
             session.old session.new (string_bytes answer.old) (string_bytes answer.new)) }
         ensures failed { IfErr result (λ _. (session.new ≡ session.old) ⊎ Searches (meets_one aim.now marks.now) session.old session.new) }
     {
@@ -456,7 +423,7 @@ impl Debugger {
 
     /// Sends Runs up to the end of an instruction, and of the call that it makes.
     fn next(
-        &mut self,
+        &self,
         alloc: Global,
         session: &mut Session,
         word: &Word,
@@ -464,7 +431,7 @@ impl Debugger {
     ) -> Result<(), AllocError>
         ensures done { IfOk result (λ _. Searches (meets_one (aim_in session.old.machine.world) []) session.old session.new) }
         ensures told { OnOk result
-            (SearchTells self.old.last self.new.last word.now (meets_one (aim_in session.old.machine.world) [])
+            (SearchTells word.now (meets_one (aim_in session.old.machine.world) [])
             session.old session.new (string_bytes answer.old) (string_bytes answer.new)) }
         ensures failed { IfErr result (λ _. (session.new ≡ session.old) ⊎ Searches (meets_one (aim_in session.old.machine.world) []) session.old session.new) }
     {
@@ -474,7 +441,7 @@ impl Debugger {
 
     /// Sends Runs up to the first that meets one of these marks, or by which a process is gone by a fault.
     fn go_on(
-        &mut self,
+        &self,
         alloc: Global,
         session: &mut Session,
         word: &Word,
@@ -483,7 +450,7 @@ impl Debugger {
     ) -> Result<(), AllocError>
         ensures done { IfOk result (λ _. Searches (meets_one (On Fault) marks.now.items) session.old session.new) }
         ensures told { OnOk result
-            (SearchTells self.old.last self.new.last word.now (meets_one (On Fault) marks.now.items)
+            (SearchTells word.now (meets_one (On Fault) marks.now.items)
             session.old session.new (string_bytes answer.old) (string_bytes answer.new)) }
         ensures failed { IfErr result (λ _. (session.new ≡ session.old) ⊎ Searches (meets_one (On Fault) marks.now.items) session.old session.new) }
     {
@@ -493,7 +460,7 @@ impl Debugger {
 
     /// Sends Runs up to the end of the function in which the process that runs is; none if it isn't known.
     fn finish(
-        &mut self,
+        &self,
         alloc: Global,
         session: &mut Session,
         word: &Word,
@@ -501,7 +468,7 @@ impl Debugger {
     ) -> Result<(), AllocError>
         ensures done { IfOk result (λ _. Finishes session.old session.new) }
         ensures told { OnOk result
-            (FinishTells self.old.last self.new.last word.now session.old session.new
+            (FinishTells word.now session.old session.new
             (string_bytes answer.old) (string_bytes answer.new)) }
         ensures failed { IfErr result (λ _. (session.new ≡ session.old) ⊎ Finishes session.old session.new) }
     {
@@ -513,18 +480,18 @@ impl Debugger {
 
     /// Sends Runs up to a goal; none if it is asked of a process that isn't there.
     fn seek(
-        &mut self,
+        &self,
         alloc: Global,
         session: &mut Session,
         word: &Word,
         goal: &Goal,
         answer: &mut String,
     ) -> Result<(), AllocError>
-        ensures done { IfOk result (λ _. SearchesGoal self.old.last goal.now session.old session.new) }
+        ensures done { IfOk result (λ _. SearchesGoal goal.now session.old session.new) }
         ensures told { OnOk result
-            (GoalTells self.old.last self.new.last word.now goal.now session.old session.new
+            (GoalTells word.now goal.now session.old session.new
             (string_bytes answer.old) (string_bytes answer.new)) }
-        ensures failed { IfErr result (λ _. (session.new ≡ session.old) ⊎ SearchesGoal self.old.last goal.now session.old session.new) }
+        ensures failed { IfErr result (λ _. (session.new ≡ session.old) ⊎ SearchesGoal goal.now session.old session.new) }
     {
         match self.aim(session, goal) {
             Some(aim) => self.search(alloc, session, word, &aim, &[], answer),
@@ -540,9 +507,9 @@ impl Debugger {
         goal: &Goal,
         answer: &mut String,
     ) -> Result<(), AllocError>
-        ensures done { SeeksBack self.now.last goal.now session.old session.new }
+        ensures done { SeeksBack goal.now session.old session.new }
         ensures told { OnOk result
-            (SeekBackTells self.now.last goal.now session.old session.new
+            (SeekBackTells goal.now session.old session.new
             (string_bytes answer.old) (string_bytes answer.new)) }
     {
         match self.aim(session, goal) {
@@ -561,7 +528,7 @@ impl Debugger {
     ) -> Result<(), AllocError>
         ensures done { (session.new ≡ session.old) ⊎ ((taken : Option ℕ) × GoesBackUntil aim.now taken session.old session.new) }
         ensures told { OnOk result
-            (BackUntilTells self.now.last aim.now session.old session.new
+            (BackUntilTells aim.now session.old session.new
             (string_bytes answer.old) (string_bytes answer.new)) }
     {
         match motion::back_until(alloc, session, aim) {
@@ -573,7 +540,7 @@ impl Debugger {
 
     /// Plays rounds, and tells what came of them.
     fn play(
-        &mut self,
+        &self,
         alloc: Global,
         session: &mut Session,
         word: &Word,
@@ -582,7 +549,7 @@ impl Debugger {
     ) -> Result<(), AllocError>
         ensures done { IfOk result (λ _. Plays rounds session.old session.new) }
         ensures told { OnOk result
-            (RoundsTell self.old.last self.new.last word.now rounds session.old session.new
+            (RoundsTell word.now rounds session.old session.new
             (string_bytes answer.old) (string_bytes answer.new)) }
         ensures failed { IfErr result (λ _. (session.new ≡ session.old) ⊎ Plays rounds session.old session.new) }
     {
@@ -593,7 +560,7 @@ impl Debugger {
 
     /// Sends an event so many times, and tells what came of it.
     fn send_often(
-        &mut self,
+        &self,
         alloc: Global,
         session: &mut Session,
         word: &Word,
@@ -603,7 +570,7 @@ impl Debugger {
     ) -> Result<(), AllocError>
         ensures done { IfOk result (λ _. SendsFirst (λ n. replicate n (event_of event)) count session.old session.new) }
         ensures told { OnOk result
-            (SendsTell self.old.last self.new.last word.now (λ n. replicate n (event_of event)) count
+            (SendsTell word.now (λ n. replicate n (event_of event)) count
             session.old session.new (string_bytes answer.old) (string_bytes answer.new)) }
         ensures failed { IfErr result (λ _. (session.new ≡ session.old) ⊎ SendsFirst (λ n. replicate n (event_of event)) count session.old session.new) }
     {
@@ -614,7 +581,7 @@ impl Debugger {
 
     /// Types keys, and tells what came of them.
     fn type_in(
-        &mut self,
+        &self,
         alloc: Global,
         session: &mut Session,
         word: &Word,
@@ -623,7 +590,7 @@ impl Debugger {
     ) -> Result<(), AllocError>
         ensures done { IfOk result (λ _. SendsFirst (λ n. map runs.Key (take n keys.now.items)) (length keys.now.items) session.old session.new) }
         ensures told { OnOk result
-            (SendsTell self.old.last self.new.last word.now (λ n. map runs.Key (take n keys.now.items))
+            (SendsTell word.now (λ n. map runs.Key (take n keys.now.items))
             (length keys.now.items) session.old session.new (string_bytes answer.old) (string_bytes answer.new)) }
         ensures failed { IfErr result (λ _. (session.new ≡ session.old) ⊎ SendsFirst (λ n. map runs.Key (take n keys.now.items)) (length keys.now.items) session.old session.new) }
     {
@@ -634,19 +601,19 @@ impl Debugger {
 
     /// What a goal waits for; `None` if it is asked of a process, and there is none.
     fn aim(&self, session: &Session, goal: &Goal) -> Option<Aim>
-        ensures { IsAimOf self.now.last goal.now session.now.machine.world result }
+        ensures { IsAimOf goal.now session.now result }
     {
         match *goal {
             Goal::Call(number) => Some(Aim::On(Condition::Call(number))),
             Goal::Pc { address, pid } => {
-                let pid = self.focus(session, pid)?;
+                let pid = focus(session, pid)?;
                 Some(Aim::On(Condition::At { pid, pc: address }))
             }
             Goal::Store(address) => Some(Aim::On(Condition::StoreTo(address))),
             Goal::Fault => Some(Aim::On(Condition::Fault)),
             Goal::Exit => Some(Aim::On(Condition::Exit)),
             Goal::Line => {
-                let pid = self.focus(session, None)?;
+                let pid = focus(session, None)?;
                 motion::line_aim(session, self.sources.as_ref(), pid)
             }
         }
@@ -654,7 +621,7 @@ impl Debugger {
 
     /// Writes what was sent, and who runs now.
     fn tell(
-        &mut self,
+        &self,
         alloc: Global,
         session: &Session,
         word: &Word,
@@ -663,17 +630,16 @@ impl Debugger {
     ) -> Result<(), AllocError>
         ensures { OnOk result
             (Writes (string_bytes answer.old) (string_bytes answer.new)
-            (IsSentText self.old.last self.new.last word.now session.now journey.now.sent journey.now.stop
+            (IsSentText word.now session.now journey.now.sent journey.now.stop
             (option_map outcome_of journey.now.last) [])) }
     {
-        self.last = last_seen(self.last, &journey.last);
         show_sent(word, journey, answer)?;
         self.show_focus(alloc, session, None, 1, answer)
     }
 
     /// Writes what was sent, what the console showed, and who runs now.
     fn tell_shown(
-        &mut self,
+        &self,
         alloc: Global,
         session: &Session,
         word: &Word,
@@ -683,10 +649,9 @@ impl Debugger {
     ) -> Result<(), AllocError>
         ensures { OnOk result
             (Writes (string_bytes answer.old) (string_bytes answer.new)
-            (IsSentText self.old.last self.new.last word.now session.now journey.now.sent journey.now.stop
+            (IsSentText word.now session.now journey.now.sent journey.now.stop
             (option_map outcome_of journey.now.last) (output_text output.now))) }
     {
-        self.last = last_seen(self.last, &journey.last);
         show_sent(word, journey, answer)?;
         show_output(output, answer)?;
         self.show_focus(alloc, session, None, 1, answer)
@@ -701,7 +666,7 @@ impl Debugger {
         answer: &mut String,
     ) -> Result<(), AllocError>
         ensures { OnOk result
-            (Shows self.old.last self.old.shown session.now word.now
+            (Shows self.old.shown session.now word.now
             (string_bytes answer.old) (string_bytes answer.new)) }
     {
         match word {
@@ -715,9 +680,9 @@ impl Debugger {
             Word::Events { from } => show_events(session, *from, answer),
             Word::Trace { count } => show_trace(session, *count, answer),
             Word::Help { topic } => show_help(*topic, answer),
-            Word::Registers { pid } => self.show_registers_of(session, *pid, answer),
-            Word::Descriptors { pid } => self.show_descriptors_of(session, *pid, answer),
-            Word::Pages { from, pid } => self.show_pages_of(alloc, session, *pid, *from, answer),
+            Word::Registers { pid } => show_registers_of(session, *pid, answer),
+            Word::Descriptors { pid } => show_descriptors_of(session, *pid, answer),
+            Word::Pages { from, pid } => show_pages_of(alloc, session, *pid, *from, answer),
             Word::Memory {
                 address,
                 count,
@@ -728,7 +693,7 @@ impl Debugger {
                 count,
                 size,
                 pid,
-            } => self.show_numbers_of(session, *pid, *from, *size, *count, answer),
+            } => show_numbers_of(session, *pid, *from, *size, *count, answer),
             Word::Callers { pid } => self.show_calls_of(alloc, session, *pid, answer),
             Word::Listing { from, count, pid } => {
                 self.show_listing_of(alloc, session, *pid, *from, *count, answer)
@@ -746,59 +711,6 @@ impl Debugger {
         }
     }
 
-    /// Writes the registers of the process that a word looks at.
-    fn show_registers_of(
-        &self,
-        session: &Session,
-        named: Option<Pid>,
-        answer: &mut String,
-    ) -> Result<(), AllocError>
-        ensures { OnOk result
-            (Writes (string_bytes answer.old) (string_bytes answer.new)
-            (IsOfFocus self.now.last session.now named (λ p text. text ≡ registers_shown session.now p))) }
-    {
-        match self.focus(session, named) {
-            Some(pid) => show_registers(session, pid, answer),
-            None => show_nobody(answer),
-        }
-    }
-
-    /// Writes the descriptors of the process that a word looks at.
-    fn show_descriptors_of(
-        &self,
-        session: &Session,
-        named: Option<Pid>,
-        answer: &mut String,
-    ) -> Result<(), AllocError>
-        ensures { OnOk result
-            (Writes (string_bytes answer.old) (string_bytes answer.new)
-            (IsOfFocus self.now.last session.now named (λ p text. text ≡ descriptors_shown session.now p))) }
-    {
-        match self.focus(session, named) {
-            Some(pid) => show_descriptors(session, pid, answer),
-            None => show_nobody(answer),
-        }
-    }
-
-    /// Writes the tables and pages of the process that a word looks at, from an address on.
-    fn show_pages_of(
-        &self,
-        alloc: Global,
-        session: &Session,
-        named: Option<Pid>,
-        from: u64,
-        answer: &mut String,
-    ) -> Result<(), AllocError>
-        ensures { OnOk result
-            (Writes (string_bytes answer.old) (string_bytes answer.new)
-            (IsOfFocus self.now.last session.now named (λ p. IsPagesText session.now p from))) }
-    {
-        match self.focus(session, named) {
-            Some(pid) => show_pages(alloc, session, pid, from, answer),
-            None => show_nobody(answer),
-        }
-    }
-
     /// Writes the calls that led the process that a word looks at to where it is.
     fn show_calls_of(
         &self,
@@ -809,9 +721,9 @@ impl Debugger {
     ) -> Result<(), AllocError>
         ensures { OnOk result
             (Writes (string_bytes answer.old) (string_bytes answer.new)
-            (IsOfFocus self.now.last session.now named (λ p. IsProcessText session.now p (process_at session.now.machine.world p)))) }
+            (IsOfFocus session.now named (λ p. IsProcessText session.now p (process_at session.now.machine.world p)))) }
     {
-        let Some(pid) = self.focus(session, named) else {
+        let Some(pid) = focus(session, named) else {
             return show_nobody(answer);
         };
         let told = told_calls(alloc, session, self.sources.as_ref(), pid)?;
@@ -830,33 +742,13 @@ impl Debugger {
     ) -> Result<(), AllocError>
         ensures { OnOk result
             (Writes (string_bytes answer.old) (string_bytes answer.new)
-            (IsOfFocus self.now.last session.now named (λ p. IsProcessText session.now p (process_at session.now.machine.world p)))) }
+            (IsOfFocus session.now named (λ p. IsProcessText session.now p (process_at session.now.machine.world p)))) }
     {
-        let Some(pid) = self.focus(session, named) else {
+        let Some(pid) = focus(session, named) else {
             return show_nobody(answer);
         };
         let told = listed_from(alloc, session, self.sources.as_ref(), pid, from, count)?;
         show_process(session, pid, told.as_str(), answer)
-    }
-
-    /// Writes so many numbers of the process that a word looks at, from an address on.
-    fn show_numbers_of(
-        &self,
-        session: &Session,
-        named: Option<Pid>,
-        from: u64,
-        size: Size,
-        count: u32,
-        answer: &mut String,
-    ) -> Result<(), AllocError>
-        ensures { OnOk result
-            (Writes (string_bytes answer.old) (string_bytes answer.new)
-            (IsOfFocus self.now.last session.now named (λ p text. text ≡ numbers_shown session.now size p from count))) }
-    {
-        match self.focus(session, named) {
-            Some(pid) => show_numbers(session, pid, from, size, count, answer),
-            None => show_nobody(answer),
-        }
     }
 
     /// Writes so many bytes of the process that a word looks at, from this address on, or after those that were shown
@@ -871,10 +763,10 @@ impl Debugger {
     ) -> Result<(), AllocError>
         ensures { OnOk result
             (Writes (string_bytes answer.old) (string_bytes answer.new)
-            (IsOfFocus self.old.last session.now named
+            (IsOfFocus session.now named
             (λ p text. text ≡ memory_shown session.now p (unwrap_or address self.old.shown) count))) }
     {
-        let Some(pid) = self.focus(session, named) else {
+        let Some(pid) = focus(session, named) else {
             return show_nobody(answer);
         };
         let from = address.unwrap_or(self.shown);

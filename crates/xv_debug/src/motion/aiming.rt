@@ -158,9 +158,8 @@ fn is_answer(outcome: &Outcome, wanted: Pid) -> bool
     ensures { result ≡ meant.is_answer_to wanted (outcome_of outcome.now) }
 {
     match outcome {
-        Outcome::Called { pid, .. } | Outcome::Exited { pid, .. } | Outcome::Faulted { pid, .. } => {
-            pid.number() == wanted.number()
-        }
+        Outcome::Called { pid, .. } | Outcome::Exited { pid, .. } | Outcome::Faulted { pid, .. } =>
+            { pid.number() == wanted.number() }
         _ => false,
     }
 }

@@ -157,11 +157,7 @@ fn run_often(
     ensures silent { IfErr result (λ _. output.new ≡ output.old) }
     ensures reason { IfErr result (λ e. IsReason e (length session.old.events)) }
 {
-    let found = session.run_to_stop(
-        most,
-        places.addresses.as_slice(),
-        places.bytes.as_slice(),
-    )?;
+    let found = session.run_to_stop(most, places.addresses.as_slice(), places.bytes.as_slice())?;
     let sent = found.sent;
     let Some(outcome) = found.last else {
         unreachable!();
