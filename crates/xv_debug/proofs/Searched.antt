@@ -1,10 +1,10 @@
 -- Events that are sent up to a Run that is what is waited for.
-use Rattle.std.proofs.Common.{◌≡◌, ◌≢◌, ◌||◌, ◌<◌, ◌≤◌, ◌+◌, ◌∙◌, ℕ, zero, suc, Bool, true, false, List, [], ◌∷◌, ◌++◌, length, Option, None, Some, replicate, refl, sym, ap, ap₂, subst, append_assoc, append-nil, add-one, arith, slice_get, is_some}
+use Rattle.std.proofs.Common.{◌≡◌, ◌≢◌, ◌||◌, ◌<◌, ◌≤◌, ◌+◌, ◌∙◌, ℕ, zero, suc, Bool, true, false, List, [], ◌∷◌, ◌++◌, length, Option, None, Some, replicate, refl, sym, ap, ap₂, subst, append_assoc, append-nil, add-one, arith, slice_get, is_some, Result, Ok, Err, IfOk, IfSome}
 use Rattle.std.proofs.lemmas.List.{map-append, length-append}
 use Rattle.std.proofs.lemmas.Grind.{flat_map-append}
 use Rattle.std.proofs.lemmas.Option.{none-some, same_Some}
 use Rattle.kernel_spec.specs.runs.Run as runs
-use Rattle.kernel_spec.specs.runs.Run.{Event, Run, Outcome, Step_of, bytes_out, out}
+use Rattle.kernel_spec.specs.runs.Run.{Event, Run, Outcome, Step_of, World, bytes_out, out}
 use Rattle.kernel_spec.specs.runs.Rounds.{events}
 use Rattle.kernel_spec.specs.steps.Own as answers
 use Rattle.xv_session.specs.Answers.{Sent, Stopped}
@@ -19,10 +19,13 @@ use Rattle.xv_debug.specs.motion.Effects.{Adds}
 use Rattle.xv_debug.specs.motion.Marks as marked
 use Rattle.xv_debug.specs.motion.Places.{IsFar, all_of}
 use Rattle.xv_debug.specs.motion.Reaching.{Goes, LastMet, NoneMet, ReachesBy, Test, meets_one, waiting}
+use Rattle.xv_debug.specs.motion.Resting.{RestsBy, RestsQuiet}
 use Rattle.xv_debug.specs.motion.Sent.{last_outcome}
 use Rattle.xv_debug.specs.motion.Shown.{KeepsShown}
 use Rattle.xv_debug.specs.declared.motion.aiming.Aim.{Aim}
+use Rattle.xv_debug.specs.declared.motion.journey.Stop.{Stop}
 use Rattle.xv_debug.specs.declared.motion.output.Output.{Output}
+use Rattle.xv_debug.specs.declared.motion.searching.Went.{Went}
 use Rattle.xv_debug.specs.declared.motion.places.Kind.TheVariants.{Instructions, Bytes}
 use Rattle.xv_debug.proofs.Played.{Steps, last-one, shown-join, shown-none}
 use Rattle.xv_debug.proofs.Quiet.{done-quiet}
@@ -171,17 +174,36 @@ pub waits : (xs : List ℕ) → is_some (slice_get xs 0) ≡ true → xs ≢ []
 waits [] is same = let bad : ⊥ = cc in bad
 waits (x ∷ xs) is same = let bad : ⊥ = cc in bad
 
-pub none-waits : (xs : List ℕ) → is_some (slice_get xs 0) ≡ false → xs ≡ []
-none-waits [] is = refl
-none-waits (x ∷ xs) is = let bad : ⊥ = cc in absurd bad
+pub none_waits : (xs : List ℕ) → is_some (slice_get xs 0) ≡ false → xs ≡ []
+none_waits [] is = refl
+none_waits (x ∷ xs) is = let bad : ⊥ = cc in absurd bad
 
--- ---- how many Runs were sent at once
+-- nobody may run, and no byte waits
+pub rests_quiet : (o : Option Stop) (w : World) → is_some (slice_get w.state.console.to_send 0) ≡ false → IfSome o (λ stop. RestsBy stop w) → IfSome o (λ stop. RestsQuiet stop w)
+rests_quiet None w none rests = tt
+rests_quiet (Some stop) w none rests = (rests, none_waits w.state.console.to_send none)
 
-pub often-within : (pcs bs : List ℕ) (most sent : ℕ) (met : Bool) (told : Option Outcome) (old new : Recorded) → 0 < most → Stopped pcs bs most sent met told old new → (sent ≤ most) × (0 < sent)
-often-within pcs bs most zero met told old new some ((none, a, b, d), same) = let bad : ⊥ = omega (arith, some, none) in absurd bad
-often-within pcs bs most (suc n) met told old new some ((mid, q, first, one, stands, last, within, all), same) = (within, omega arith)
+-- ---- how many were sent
+
+-- of Runs that were sent at once
+pub often_within : (pcs bs : List ℕ) (most sent : ℕ) (met : Bool) (told : Option Outcome) (old new : Recorded) → 0 < most → Stopped pcs bs most sent met told old new → sent ≤ most
+often_within pcs bs most zero met told old new some ((none, a, b, d), same) = let bad : ⊥ = omega (arith, some, none) in absurd bad
+often_within pcs bs most (suc n) met told old new some ((mid, q, first, one, stands, last, within, all), same) = within
+
+pub often_forth : (pcs bs : List ℕ) (most sent : ℕ) (met : Bool) (told : Option Outcome) (old new : Recorded) → 0 < most → Stopped pcs bs most sent met told old new → 0 < sent
+often_forth pcs bs most zero met told old new some ((none, a, b, d), same) = let bad : ⊥ = omega (arith, some, none) in absurd bad
+often_forth pcs bs most (suc n) met told old new some ((mid, q, first, one, stands, last, within, all), same) = omega arith
+
+-- one event is not more than some
+pub one_within : {E : Type 0} (r : Result Went E) (most : ℕ) → 0 < most → IfOk r (λ w. w.sent ≡ 1) → IfOk r (λ w. w.sent ≤ most)
+one_within (Ok w) most some one = omega (arith, some, one)
+one_within (Err e) most some one = tt
+
+pub one_forth : {E : Type 0} (r : Result Went E) → IfOk r (λ w. w.sent ≡ 1) → IfOk r (λ w. 0 < w.sent)
+one_forth (Ok w) one = omega (arith, one)
+one_forth (Err e) one = tt
 
 -- it is told what came of the last
-pub told-some : (pcs bs : List ℕ) (most sent : ℕ) (met : Bool) (told : Option Outcome) (old new : Recorded) → 0 < most → Stopped pcs bs most sent met told old new → told ≡ None → ⊥
-told-some pcs bs most zero met told old new some ((none, a, b, d), same) is = omega (arith, some, none)
-told-some pcs bs most (suc n) met told old new some ((mid, q, first, one, stands, last, within, all), same) is = none-some q (sym is ∙ last)
+pub told_some : (pcs bs : List ℕ) (most sent : ℕ) (met : Bool) (told : Option Outcome) (old new : Recorded) → 0 < most → Stopped pcs bs most sent met told old new → told ≡ None → ⊥
+told_some pcs bs most zero met told old new some ((none, a, b, d), same) is = omega (arith, some, none)
+told_some pcs bs most (suc n) met told old new some ((mid, q, first, one, stands, last, within, all), same) is = none-some q (sym is ∙ last)

@@ -49,6 +49,7 @@ fn byte_waits(machine: &Machine) -> bool
 }
 
 /// Why no event is sent: the machine has halted, or all processes sleep, and no byte waits.
+#[tactic(auto, using(crate::proofs::Searched::rests_quiet))]
 fn rest_without_bytes(machine: &Machine) -> Option<Stop>
     ensures { IfSome result (λ stop. RestsQuiet stop machine.now.world) }
 {
@@ -137,6 +138,7 @@ fn run_once(
 
 /// Sends Runs at once, so many at most, up to one of these places, or up to one by which no instruction is done; and
 /// looks whether the last is the aim, or meets a mark.
+#[tactic(auto, using(crate::proofs::Searched::often_within, crate::proofs::Searched::often_forth))]
 fn run_often(
     session: &mut Session,
     most: u32,
@@ -177,6 +179,7 @@ fn run_often(
 
 /// Sends Runs, so many at most: one, if a store that is waited for is due, or if there are no places; else as many as
 /// lead to none of the places.
+#[tactic(auto, using(crate::proofs::Searched::one_within, crate::proofs::Searched::one_forth))]
 fn run_some(
     session: &mut Session,
     most: u32,
@@ -206,6 +209,7 @@ fn run_some(
 }
 
 /// Takes a byte, if one waits; else sends Runs, so many at most.
+#[tactic(auto, using(crate::proofs::Searched::waits, crate::proofs::Searched::none_waits, crate::proofs::Searched::one_within, crate::proofs::Searched::one_forth))]
 fn send_some(
     session: &mut Session,
     most: u32,
