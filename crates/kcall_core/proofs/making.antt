@@ -13,6 +13,7 @@ pub mod Midway
 pub mod Moved
 pub mod Prepared
 pub mod Series
+pub mod Unwatched
 pub mod Sleepers
 pub mod Staying
 pub mod TickMakes

@@ -17,3 +17,4 @@ pub mod Moves
 pub mod Sharings
 pub mod Forks
 pub mod Kills
+pub mod Watched

@@ -24,6 +24,7 @@ ghost use Rattle.kcall_core.specs.Kernel.{IsRunning, slot_now, pid_now, live_now
 ghost use Rattle.kcall_core.specs.Machine.{world_of};
 ghost use Rattle.kcall_core.specs.Starts.{HasNoProcess};
 ghost use Rattle.kcall_core.specs.Whole.{IsWhole};
+ghost use Rattle.kcall_core.specs.Watched.{MakesUnwatched};
 ghost use Rattle.kcall_core.specs.Makes.{Makes, MakesInARow, Stays, StillRuns, view_now, stop_now};
 
 mod booting;
@@ -49,7 +50,7 @@ mod wakeup;
 
 use crate::memories::Memories;
 use file_table::Files;
-use hart_core::{Hart, Series};
+use hart_core::{Hart, Series, Watch};
 pub use observers::{ChildState, Descriptor, FrameUse, ProcessState};
 use proc_table::Table;
 pub use program_list::first_refused;
@@ -122,6 +123,20 @@ impl Kernel {
             made,
             stop: Stop::Next,
         }
+    }
+
+    /// One instruction of the process that runs, if it is done on the pages that are there and uses nothing that is
+    /// watched. It tells whether it made one; if not, nothing that can be seen is another.
+    #[inline(always)]
+    pub fn step_unwatched(&mut self, hart: &mut Hart, watch: &Watch<'_>) -> bool
+        requires whole { IsWhole self.old hart.old }
+        requires running { IsRunning self.old }
+        requires between_calls { laws.IsBetweenCalls (live_now self.old hart.old) }
+        ensures made { MakesUnwatched watch.now.addresses.now watch.now.bytes.now result self.old hart.old self.new hart.new }
+        ensures running { IsRunning self.new }
+        ensures between_calls { laws.IsBetweenCalls (live_now self.new hart.new) }
+    {
+        self.memories.step_unwatched(hart, watch)
     }
 }
 

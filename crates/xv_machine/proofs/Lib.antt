@@ -17,6 +17,7 @@ pub mod Sent
 pub mod Idle
 pub mod Advances
 pub mod Instructed
+pub mod Unwatched
 pub mod Uses
 pub mod Written
 pub mod WorkedFrames

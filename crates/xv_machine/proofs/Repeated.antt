@@ -60,7 +60,7 @@ module _ (k k' : Kernel) (h h' : Hart) (whole : IsWhole k h) (runs : IsRunning k
   runs-on : IsRunning k' × (pid_now k ≡ pid_now k')
   runs-on = current-pid k' (pid_now k) now-current
 
-  step-done : Promised (world_of k h None) Run (Step_of (pid_now k) Stepped) (world_of k' h' None)
+  pub step-done : Promised (world_of k h None) Run (Step_of (pid_now k) Stepped) (world_of k' h' None)
   step-done = subst (λ a. Promised (world_of k h None) Run (Step_of (pid_now k) a) (world_of k' h' (halts_with (pid_now k) a))) answer-is (step-promised k k' h h' whole runs made)
 
   first-lives-on : IsSome (live (state_of k h) 1) → IsSome (live (state_of k' h') 1)

@@ -13,9 +13,9 @@ mod observers;
 
 use crate::event::{Event, Outcome};
 use crate::fast::trace_runs::Trace;
-use crate::step::{StepsMade, advance, instructions, step};
+use crate::step::{StepsMade, advance, instructions, instructions_unwatched, step};
 use crate::trace::Note;
-use hart_core::Hart;
+use hart_core::{Hart, Watch};
 use kcall_core::{ChildState, Kernel, first_refused};
 use rv64i_core::Regs;
 use std::alloc::Global;
@@ -167,7 +167,7 @@ impl Machine {
     ghost use Rattle.xv_machine.specs.Boots.{Boots, HasEmptyTrace};
     ghost use Rattle.xv_machine.specs.Drives.{Goes, Ran, done_by};
     ghost use Rattle.xv_machine.specs.Events.{event_of, outcome_of};
-    ghost use Rattle.xv_machine.specs.Instructions.{NextIsOther};
+    ghost use Rattle.xv_machine.specs.Instructions.{NextIsOther, RunsUnwatched, AreUnwatched, noted};
     ghost use Rattle.xv_machine.specs.Machine.{SameTrace};
     ghost use Rattle.xv_machine.specs.declared.trace.Note.TheVariants.{Stepped};
     ghost use Rattle.xv_machine.specs.Reached.{IsEvent};
@@ -438,6 +438,32 @@ impl Machine {
         let made = self.make_instructions(pid, most);
         self.keep_often(Note::Stepped { pid }, made);
         made
+    }
+
+    /// Sends Run as long as a done instruction comes of it that uses nothing that is watched, and for which no page comes,
+    /// `most` times at most. It tells how many were sent. The trace keeps a note of each.
+    pub fn instructions_unwatched(&mut self, most: u32, watch: &Watch<'_>) -> u32
+        ensures made { AreUnwatched watch.now.addresses.now watch.now.bytes.now (or_zero self.old.world.turns.current) result self.old self.new }
+        ensures within { result ≤ most }
+        ensures stops { result < most → ¬ RunsUnwatched watch.now.addresses.now watch.now.bytes.now self.new.world }
+    {
+        let Some(pid) = self.current() else {
+            return 0;
+        };
+        let made = self.make_unwatched(pid, most, watch);
+        self.keep_often(Note::Stepped { pid }, made);
+        made
+    }
+
+    // The process that runs does these instructions, of which the trace keeps no note yet.
+    #[inline(always)]
+    fn make_unwatched(&mut self, pid: Pid, most: u32, watch: &Watch<'_>) -> u32
+        requires current { self.old.world.turns.current ≡ Some pid }
+        ensures made { AreUnwatched watch.now.addresses.now watch.now.bytes.now pid result self.old (noted pid result self.new) }
+        ensures within { result ≤ most }
+        ensures stops { result < most → ¬ RunsUnwatched watch.now.addresses.now watch.now.bytes.now self.new.world }
+    {
+        instructions_unwatched(&mut self.kernel, &mut self.hart, most, watch)
     }
 
     // The process that runs does these instructions, of which the trace keeps no note yet.

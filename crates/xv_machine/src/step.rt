@@ -10,11 +10,11 @@ ghost use Rattle.kcall_core.specs.Whole.{IsWhole};
 ghost use Rattle.kcall_core.specs.Makes.{Makes, view_now, stop_now, answer_of};
 ghost use Rattle.rv64i_core.specs.declared.execution.Stop.TheVariants as stops;
 ghost use Rattle.xv_machine.specs.Events.{outcome_of};
-ghost use Rattle.xv_machine.specs.Instructions.{Instructed};
+ghost use Rattle.xv_machine.specs.Instructions.{Instructed, InstructedUnwatched};
 ghost use Rattle.xv_machine.specs.Steps.{IsBusy, Advanced};
 
 use crate::event::Outcome;
-use hart_core::{Hart, Series};
+use hart_core::{Hart, Series, Watch};
 use kcall_core::{CallEnd, Kernel, call_number};
 use rv64i_core::Stop;
 use xk_base::Pid;
@@ -185,4 +185,28 @@ pub(crate) fn instructions(kernel: &mut Kernel, hart: &mut Hart, most: u32) -> u
         return 0;
     }
     kernel.steps(hart, most).made
+}
+
+/// Instructions of the process that runs that are done and use nothing that is watched, one after another, `most` at
+/// most. How many were done.
+#[inline(always)]
+pub(crate) fn instructions_unwatched(
+    kernel: &mut Kernel,
+    hart: &mut Hart,
+    most: u32,
+    watch: &Watch<'_>,
+) -> u32
+    requires whole { IsWhole kernel.old hart.old }
+    requires running { IsRunning kernel.old }
+    ensures { InstructedUnwatched watch.now.addresses.now watch.now.bytes.now kernel.old hart.old most result kernel.new hart.new }
+{
+    if is_busy(kernel) {
+        return 0;
+    }
+    'row: for made in 0..most {
+        if !kernel.step_unwatched(hart, watch) {
+            return made;
+        }
+    }
+    most
 }

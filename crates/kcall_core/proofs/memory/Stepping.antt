@@ -1,13 +1,15 @@
 -- One instruction of the process in a slot.
-use Rattle.kcall_core.proofs.Prelude.{ℕ, ◌%◌, ◌/◌, ◌<◌, ◌∙◌, ◌≡◌, ◌≢◌, address_used, ap, AreDone, AreSound, arith, Belongs, Cause, Changed, each_of, Ecall, Fault, Fits, fits_hart, fits_root, FitsHart}
-use Rattle.kcall_core.proofs.Prelude.{frame_at, frame_of, free_in, free_of, get_or, Hart, held_at, image_of, InARow, instr, Instructed, IsLast, IsLastStep, last_fault, length, List, Memories, Next}
-use Rattle.kcall_core.proofs.Prelude.{None, Option, others_stay-set, owned, page_entry, pages_of, Pool, refl, Registers, regs_after, root_of, RunsIn, set, Some, Space, Stands, state_after, Step}
-use Rattle.kcall_core.proofs.Prelude.{step_in, Steps, StepsDone, StepsInARow, Stop, stop_of, subst, suc, sym, trade-lengths, Translations, user, with_store, write_pages, zero}
+use Rattle.kcall_core.proofs.Prelude.{ℕ, ◌%◌, ◌/◌, ◌<◌, ◌∙◌, ◌≡◌, ◌≢◌, address_used, ap, AreDone, AreSound, arith, Belongs, Bool, Cause, Changed, each_of, Ecall, false, Fault, Fits, fits_hart}
+use Rattle.kcall_core.proofs.Prelude.{fits_root, FitsHart, frame_at, frame_of, free_in, free_of, get_or, Hart, held_at, image_of, InARow, instr, Instructed, IsLast, IsLastStep, last_fault, length}
+use Rattle.kcall_core.proofs.Prelude.{List, Memories, Next, None, Option, others_stay-set, owned, page_entry, pages_of, Pool, refl, Registers, regs_after, root_of, RunsIn, set, Some, Space, Stands}
+use Rattle.kcall_core.proofs.Prelude.{state_after, Step, step_in, Steps, StepsDone, StepsInARow, StepsUnwatched, Stop, stop_of, subst, suc, sym, trade-lengths, Translations, true, user, with_store}
+use Rattle.kcall_core.proofs.Prelude.{write_pages, zero}
 use Rattle.addr_space.proofs.Pages.{bytes-changed}
 use Rattle.addr_space.proofs.Freeing.{changed-none}
 use Rattle.addr_space.proofs.FromFrames.{leaf-of}
 use Rattle.rv64i_core.specs.Memory.{written}
 use Rattle.hart_core.specs.Steps.{Stepped}
+use Rattle.hart_core.specs.Watch.{IsUnwatched}
 use Rattle.hart_core.specs.UserMemory.{user_at, put_bytes, store_in, SpaceState, space_state, space_store}
 use Rattle.kcall_core.proofs.memory.Lists.{set-read}
 use Rattle.kcall_core.proofs.memory.Changes.{belongs-of, image-seen, space-changes, runs-inside}
@@ -199,6 +201,50 @@ pub steps-in-a-row : (old : Memories) (slot : ℕ) (hart hart' : Hart) (ram' : L
 steps-in-a-row old slot hart hart' ram' most made stop sound runs root row =
     let P = λ (h : Hart). StepsInARow slot most made stop old hart (record old { ram = ram' }) h in
     subst P (λ t. record hart' { root = sym root t }) (in-a-row old slot hart (record { sound = sound; runs = runs }) most made stop ram' hart'.regs hart'.cache hart'.fault_address row)
+
+-- ---- one that uses nothing that is watched
+
+-- what the hart says of it
+pub record Guarded (addresses bytes : List ℕ) (made : Bool) (ram ram' : List (List ℕ)) (hart hart' : Hart) : Type 0 where
+  pub done : made ≡ true → Instructed (root_of hart.root) ram hart.regs stops.Next ram' hart'.regs hart'.cache × IsUnwatched addresses bytes hart.regs (user_at ram (root_of hart.root))
+  pub refused : made ≡ false → IsUnwatched addresses bytes hart.regs (user_at ram (root_of hart.root)) → stop_of (instr hart.regs (user_at ram (root_of hart.root))) ≢ stops.Next
+  pub kept : made ≡ false → (ram' ≡ ram) × (hart'.regs ≡ hart.regs)
+  pub root : hart'.root ≡ hart.root
+  pub fault : hart'.fault_address ≡ hart.fault_address
+  pub fits : FitsHart ram' hart'.root hart'.cache
+
+module _ (old : Memories) (slot : ℕ) (hart hart' : Hart) (ram' : List (List ℕ)) (addresses bytes : List ℕ) (sound : AreSound old) (r : RunsIn old slot hart) where
+  seen-here : user_at old.ram (root_of hart.root) ≡ user (held_at (each_of old) slot).image
+  seen-here =
+      ap (user_at old.ram) (ap root_of r.root) ∙ user-space old.ram r.memory.space
+      ∙ ap user (sym (image-seen (runs-stands old slot hart sound r (runs-inside r))))
+
+  pub steps-unwatched : (made : Bool) → Guarded addresses bytes made old.ram ram' hart hart' → StepsUnwatched addresses bytes made old (record old { ram = ram' }) slot hart hart'
+  steps-unwatched true g =
+      let (one, free) = g.done refl in
+      let before = user_at old.ram (root_of hart.root) in (
+        record { spares = subst (IsUnwatched addresses bytes hart.regs) seen-here free; done = sym (ap (λ m. stop_of (instr hart.regs m)) seen-here) ∙ sym one.ends },
+        steps old (record old { ram = ram' }) slot hart hart' stops.Next r (runs-stands old slot hart sound r (runs-inside r)) (record {
+          ends = one.ends;
+          regs = one.regs_are;
+          stepped = one.stepped;
+          root = g.root;
+          fits = g.fits;
+          fault = g.fault ∙ fault-stays stops.Next (instr hart.regs before) hart.fault_address (address_used hart.regs before) one.ends next-no-fault;
+        }) refl refl refl,
+      )
+  steps-unwatched false g =
+      let (ram, regs) = g.kept refl in (
+        λ goes. g.refused refl (subst (IsUnwatched addresses bytes hart.regs) (sym seen-here) goes.spares) (ap (λ m. stop_of (instr hart.regs m)) seen-here ∙ goes.done),
+        ap (λ x. record old { ram = x }) ram,
+        regs,
+        record {
+          memory = r.memory;
+          is = r.is;
+          root = g.root ∙ r.root;
+          fits = fits_root old.ram hart'.root r.memory.space.root hart'.cache (g.root ∙ r.root) (subst (λ x. FitsHart x hart'.root hart'.cache) ram g.fits);
+        },
+      )
 
 -- ---- a single one of a row
 
