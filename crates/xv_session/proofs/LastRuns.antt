@@ -150,7 +150,7 @@ stays-by p (Blocked number) done = let bad : ⊥ = cc in absurd bad
 stays-by p (Exited status) done = let bad : ⊥ = cc in absurd bad
 stays-by p (Faulted cause) done = let bad : ⊥ = cc in absurd bad
 
-done-stays : (w t : World) (o : Outcome) → Happens w Run o t → is_done o ≡ true → t.turns.current ≡ w.turns.current
+pub done-stays : (w t : World) (o : Outcome) → Happens w Run o t → is_done o ≡ true → t.turns.current ≡ w.turns.current
 done-stays w t o h done = by w.turns.halted w.turns.current refl h
   where
     taken : (x : Outcome) → is_done x ≡ true → TurnTaken w x t → ⊥

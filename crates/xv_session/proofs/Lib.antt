@@ -14,5 +14,6 @@ pub mod Searches
 pub mod Spans
 pub mod Stretches
 pub mod Texts
+pub mod Unwatched
 mod WorkedSpans
 mod WorkedSteps

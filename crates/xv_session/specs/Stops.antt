@@ -51,3 +51,9 @@ abbrev pub WentOn : (addresses bytes : List ℕ) → (most : ℕ) → (met : Boo
 WentOn addresses bytes most met last old new zero = (most ≡ 0) × (met ≡ false) × (last ≡ None) × (new ≡ old)
 WentOn addresses bytes most met last old new (suc n) =
     (mid : Running) × (o : Outcome) × Unstopped addresses bytes n old mid × Advances mid Run o new × (is_before_stop addresses bytes new.machine.world ≡ met) × (last ≡ Some o) × (suc n ≤ most) × (met ≡ false → is_done o ≡ true → suc n ≡ most)
+
+-- So many Runs were sent in a row, one at least: all but the last are done instructions that lead to no stop; this came of the last, and it led to a stop, or it didn't
+abbrev pub MadeRow : (addresses bytes : List ℕ) → (met : Bool) → (last : Outcome) → (old new : Running) → (sent : ℕ) → Type 0
+MadeRow addresses bytes met last old new zero = ⊥
+MadeRow addresses bytes met last old new (suc n) =
+    (mid : Running) × Unstopped addresses bytes n old mid × Advances mid Run last new × (is_before_stop addresses bytes new.machine.world ≡ met)
