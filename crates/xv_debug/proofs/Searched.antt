@@ -1,12 +1,14 @@
 -- Events that are sent up to a Run that is what is waited for.
-use Rattle.std.proofs.Common.{◌≡◌, ◌≢◌, ◌||◌, ◌<◌, ◌≤◌, ◌+◌, ◌∙◌, ℕ, zero, suc, Bool, true, false, List, [], ◌∷◌, ◌++◌, length, Option, None, Some, replicate, refl, sym, ap, ap₂, subst, append_assoc, append-nil, add-one, arith, slice_get, is_some, Result, Ok, Err, IfOk, IfSome}
+use Rattle.std.proofs.Common.{◌≡◌, ◌≢◌, ◌||◌, ◌<◌, ◌≤◌, ◌+◌, ◌∙◌, ℕ, zero, suc, Bool, true, false, List, [], ◌∷◌, ◌++◌, length, Option, None, Some, replicate, refl, sym, ap, ap₂, subst, append_assoc, append-nil, add-one, arith, slice_get, is_some, option_map, Result, Ok, Err, IfOk, IfSome}
 use Rattle.std.proofs.lemmas.List.{map-append, length-append}
 use Rattle.std.proofs.lemmas.Grind.{flat_map-append}
-use Rattle.std.proofs.lemmas.Option.{none-some, same_Some}
+use Rattle.std.proofs.lemmas.Option.{same_Some}
 use Rattle.kernel_spec.specs.runs.Run as runs
 use Rattle.kernel_spec.specs.runs.Run.{Event, Run, Outcome, Step_of, World, bytes_out, out}
 use Rattle.kernel_spec.specs.runs.Rounds.{events}
 use Rattle.kernel_spec.specs.steps.Own as answers
+use Rattle.xv_machine.specs.Events.{outcome_of}
+use Rattle.xv_machine.specs.declared.event.Outcome as declared
 use Rattle.xv_session.specs.Answers.{Sent, Stopped}
 use Rattle.xv_session.specs.Recorded.{Recorded, running_of}
 use Rattle.xv_session.specs.Steps.{Advances}
@@ -18,12 +20,14 @@ use Rattle.xv_debug.specs.motion.Aims as aims
 use Rattle.xv_debug.specs.motion.Effects.{Adds}
 use Rattle.xv_debug.specs.motion.Marks as marked
 use Rattle.xv_debug.specs.motion.Places.{IsFar, all_of}
-use Rattle.xv_debug.specs.motion.Reaching.{Goes, LastMet, NoneMet, ReachesBy, Test, meets_one, waiting}
+use Rattle.xv_debug.specs.motion.Reaching.{Goes, LastMet, NoneMet, Reaches, ReachesBy, Test, meets_one, waiting}
 use Rattle.xv_debug.specs.motion.Resting.{RestsBy, RestsQuiet}
 use Rattle.xv_debug.specs.motion.Sent.{last_outcome}
 use Rattle.xv_debug.specs.motion.Shown.{KeepsShown}
 use Rattle.xv_debug.specs.declared.motion.aiming.Aim.{Aim}
+use Rattle.xv_debug.specs.declared.motion.journey.Journey.{Journey}
 use Rattle.xv_debug.specs.declared.motion.journey.Stop.{Stop}
+use Rattle.xv_debug.specs.declared.motion.journey.Stop.TheVariants.{Met}
 use Rattle.xv_debug.specs.declared.motion.output.Output.{Output}
 use Rattle.xv_debug.specs.declared.motion.searching.Went.{Went}
 use Rattle.xv_debug.specs.declared.motion.places.Kind.TheVariants.{Instructions, Bytes}
@@ -203,7 +207,14 @@ pub one_forth : {E : Type 0} (r : Result Went E) → IfOk r (λ w. w.sent ≡ 1)
 one_forth (Ok w) one = omega (arith, one)
 one_forth (Err e) one = tt
 
--- it is told what came of the last
-pub told_some : (pcs bs : List ℕ) (most sent : ℕ) (met : Bool) (told : Option Outcome) (old new : Recorded) → 0 < most → Stopped pcs bs most sent met told old new → told ≡ None → ⊥
-told_some pcs bs most zero met told old new some ((none, a, b, d), same) is = omega (arith, some, none)
-told_some pcs bs most (suc n) met told old new some ((mid, q, first, one, stands, last, within, all), same) is = none-some q (sym is ∙ last)
+-- ---- the last is what is waited for
+
+pub reaches_met : (test : Test) (most n : ℕ) (last : Option Outcome) (old new : Recorded) (had has : Output) → n ≤ most → Goes test true n last old new had has → Reaches test most Met n last old new had has
+reaches_met test most n last old new had has within goes = record { goes = goes; within = within; all = λ is. let bad : ⊥ = cc in absurd bad; rests = tt; reason = tt }
+
+-- as a word's journey tells it
+pub reaches_told : (test : Test) (most : ℕ) (j : Journey) (n m : ℕ) (stop : Stop) (last : Option declared.Outcome) (old new : Recorded) (had has : Output) → j ≡ record { sent = m; stop = stop; last = last } → m ≡ n
+    → Reaches test most stop n (option_map outcome_of last) old new had has → Reaches test most j.stop j.sent (option_map outcome_of j.last) old new had has
+reaches_told test most j n m stop last old new had has is same reaches =
+    subst (λ (k : Journey). Reaches test most k.stop k.sent (option_map outcome_of k.last) old new had has) (sym is)
+    (subst (λ (k : ℕ). Reaches test most stop k (option_map outcome_of last) old new had has) (sym same) reaches)
