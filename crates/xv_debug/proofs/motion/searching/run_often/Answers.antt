@@ -13,4 +13,4 @@ returns-clause-goes c =
     goes-often c.args.aim.now c.args.marks.now c.as_slice.result.now c.as_slice-2.result.now c.requires.places.far (c.as_slice.ensures.value ∙ c.requires.places.addresses)
     (c.as_slice-2.ensures.value ∙ c.requires.places.bytes) c.args.most found.sent found.met c.is_one-met.result (option_map outcome_of found.last) _ c.args.session.now c.run_to_stop.new.self had
     c.add.new.self c.requires.some c.requires.quiet (record { by_aim = c.requires.aim; by_mark = c.requires.marks }) had.fits c.in_ok-found.ensures.stopped
-    (ap (option_map outcome_of) c.in-Some.is ∙ ap (λ (x : declared.Outcome). Some (outcome_of x)) c.in-Some.outcome-is) shown (sym c.is_one-met.ensures)
+    (ap (option_map outcome_of) c.in-Some.is ∙ ap (λ (x : declared.Outcome). Some (outcome_of x)) (sym c.in-Some.outcome-is)) shown (sym c.is_one-met.ensures)
