@@ -19,7 +19,7 @@ function words_of(command, args) {
   const plain = args.filter((word) => word !== "--prompt");
   const { stdout } = spawnSync(command, plain, { input: "help\nhelp until\n", stdio: ["pipe", "pipe", "ignore"] });
   const lines = (stdout?.toString() ?? "").split("\n").filter((line) => /^[a-z]/.test(line));
-  const goals = lines.flatMap((line) => /^until ([a-z]+)/.exec(line)?.[1] ?? []);
+  const goals = lines.flatMap((line) => /^until \[?([a-z]+)/.exec(line)?.[1] ?? []);
   return { words: [...new Set(lines.map((line) => line.split(" ")[0]))], goals };
 }
 

@@ -185,15 +185,31 @@ fn goal_at<'a, N: Names>(
     }
 }
 
-/// `pc PLACE [of P]`, where the first of these stands at a place.
+/// `PLACE [of P]`, where the first of these stands at a place.
 fn goal_pc<'a, N: Names>(
     tokens: &Tokens<'a>,
     place: usize,
     names: &N,
 ) -> Result<Goal, WordErrorKind<'a>> {
-    match owner(tokens, place.saturating_add(2)) {
-        Ok(pid) => goal_at(tokens, place.saturating_add(1), names, pid),
+    match owner(tokens, place.saturating_add(1)) {
+        Ok(pid) => goal_at(tokens, place, names, pid),
         Err(kind) => Err(kind),
+    }
+}
+
+/// A PLACE that begins at a place of the line, as a goal.
+fn goal_place<'a, N: Names>(
+    text: &'a str,
+    tokens: &Tokens<'a>,
+    place: usize,
+    names: &N,
+) -> Result<Goal, WordErrorKind<'a>> {
+    match goal_pc(tokens, place, names) {
+        Err(WordErrorKind::NotANumber(_)) => Err(WordErrorKind::NotThis {
+            text,
+            wanted: "a goal or a place",
+        }),
+        read => read,
     }
 }
 
@@ -221,25 +237,25 @@ fn goal_ended<'a>(
     }
 }
 
-/// The goal that begins at a place.
+/// The goal that begins at a place; another line, if nothing stands there.
 fn goal<'a, N: Names>(
     tokens: &Tokens<'a>,
     place: usize,
     names: &N,
 ) -> Result<Goal, WordErrorKind<'a>> {
     let Some(text) = tokens.get(place) else {
-        return Err(WordErrorKind::Missing("call, pc, store, fault or exit"));
+        return Ok(Goal::Line);
     };
+    let next = place.saturating_add(1);
     match text {
         "call" => goal_call(tokens, place),
-        "pc" => goal_pc(tokens, place, names),
+        "fork" => goal_ended(tokens, next, Goal::Call(KernelCall::Fork.number())),
+        "pc" => goal_pc(tokens, next, names),
         "store" => goal_store(tokens, place, names),
-        "fault" => goal_ended(tokens, place.saturating_add(1), Goal::Fault),
-        "exit" => goal_ended(tokens, place.saturating_add(1), Goal::Exit),
-        _ => Err(WordErrorKind::NotThis {
-            text,
-            wanted: "call, pc, store, fault or exit",
-        }),
+        "fault" => goal_ended(tokens, next, Goal::Fault),
+        "exit" => goal_ended(tokens, next, Goal::Exit),
+        "line" => goal_ended(tokens, next, Goal::Line),
+        _ => goal_place(text, tokens, place, names),
     }
 }
 
@@ -609,15 +625,33 @@ fn help<'a>(tokens: &Tokens<'a>) -> Result<Word, WordErrorKind<'a>>
     ended(tokens, 2, Word::Help { topic: Some(topic) })
 }
 
-/// A number of events to go back by, which may be left out.
-fn back<'a>(tokens: &Tokens<'a>) -> Result<Word, WordErrorKind<'a>>
+/// A number of events to go back by.
+fn back_by<'a>(text: &'a str, tokens: &Tokens<'a>) -> Result<Word, WordErrorKind<'a>>
     ensures { IfOk result IsInRange }
 {
-    let Some(text) = tokens.get(1) else {
-        return Ok(Word::Back { count: 1 });
-    };
     let count = number_in(text, 1, u64::MAX)?;
     ended(tokens, 2, Word::Back { count })
+}
+
+/// What `back until` asks for.
+fn back_until<'a, N: Names>(tokens: &Tokens<'a>, names: &N) -> Result<Word, WordErrorKind<'a>>
+    ensures { IfOk result IsInRange }
+{
+    match goal(tokens, 2, names) {
+        Ok(goal) => Ok(Word::BackUntil(goal)),
+        Err(kind) => Err(kind),
+    }
+}
+
+/// What `back` asks for: a number of events, or a goal; one event, if neither is given.
+fn back<'a, N: Names>(tokens: &Tokens<'a>, names: &N) -> Result<Word, WordErrorKind<'a>>
+    ensures { IfOk result IsInRange }
+{
+    match tokens.get(1) {
+        None => Ok(Word::Back { count: 1 }),
+        Some("until") => back_until(tokens, names),
+        Some(text) => back_by(text, tokens),
+    }
 }
 
 /// This word, if nothing stands at a place.
@@ -726,6 +760,7 @@ fn named<'a, N: Names>(
 {
     match topic {
         Topic::Until => until(tokens, names),
+        Topic::Back => back(tokens, names),
         Topic::Memory => memory(tokens, names),
         Topic::Pages => pages(tokens, names),
         Topic::Listing => listing(tokens, names),
@@ -752,7 +787,6 @@ fn asked<'a>(topic: Topic, tokens: &Tokens<'a>) -> Result<Word, WordErrorKind<'a
         Topic::Where | Topic::Registers | Topic::Descriptors | Topic::Callers => {
             owned(topic, tokens)
         }
-        Topic::Back => back(tokens),
         Topic::Delete => deleted(tokens),
         Topic::Frames => frames(tokens),
         Topic::Events => events(tokens),

@@ -126,7 +126,7 @@ impl Topic {
             Topic::Step => "s si stepi",
             Topic::Next => "n ni nexti",
             Topic::Back => "rsi reverse-stepi",
-            Topic::Until => "u",
+            Topic::Until => "u advance",
             Topic::Finish => "fin",
             Topic::Break => "b",
             Topic::BreakOnce => "tb",
@@ -180,27 +180,31 @@ an instruction, over the call that it makes
 one instruction, over the whole function or kernel call that it calls.
 Also: n, ni, nexti.
 A jump that keeps its return address in ra is a call of a function: it is over where the
-process is back behind the jump, with the stack pointer not below. An ecall is over where the kernel
+process is back after the jump, with the stack pointer not below. An ecall is over where the kernel
 has answered. Other processes may run meanwhile. At most 100000000 events are sent.",
             Topic::Back => "\
-back [N]
-go back by N events
+back [N], back until GOAL
+go back by N events, or to a goal
 go back by N events, of whatever kind; 1 if N is left out.
 Also: rsi, reverse-stepi.
-The session is then as it was, exactly. The events behind that place are forgotten.
+back until GOAL goes back to the last Run before this place that was the goal (help until).
+The session is then as it was, exactly. The events after that place are forgotten.
 If there were fewer events, it goes back to the boot.",
             Topic::Until => "\
-until GOAL
+until [GOAL]
 send Runs up to a goal: help until lists them
 send Runs up to the first that is the goal.
-Also: u.
-until call CALL         a step of this kernel call, by its name or number: until call write
-until pc PLACE [of P]   process P runs, and its next instruction stands at PLACE
-until store PLACE       an instruction has stored to this address, of whatever process
-until fault             a process is gone by a fault
-until exit              a process is gone, by a call, a kill or a fault
+Also: u, advance.
+until call CALL          a step of this kernel call, by its name or number: until call write
+until fork               a step of fork
+until [pc] PLACE [of P]  process P runs, and its next instruction stands at PLACE
+until store PLACE        an instruction has stored to this address, of whatever process
+until fault              a process is gone by a fault
+until exit               a process is gone, by a call, a kill or a fault
+until [line]             the process stands in another line of its source, also of a function that it calls
 help print tells what a PLACE may be.
-One Run is sent at least, 100000000 at most. It stops early where all processes sleep.",
+The bytes that wait in the console are taken before each Run, and told. 100000000 events are sent at most.
+It stops early where all processes sleep.",
             Topic::Finish => "\
 finish
 send Runs up to the end of the function that runs
@@ -223,8 +227,8 @@ let c stop before the instruction at PLACE, for once.
 Also: tb.",
             Topic::Watch => "\
 watch PLACE
-stop c behind a store to PLACE
-let c stop behind an instruction that stores to this address, of whatever process.",
+stop c after a store to PLACE
+let c stop after an instruction that stores to this address, of whatever process.",
             Topic::Delete => "\
 delete [N]
 forget mark N, or all marks
@@ -302,14 +306,14 @@ N bytes of memory from PLACE on
 N bytes of a process's memory from PLACE on.
 Also: m.
 -- is a byte that isn't there. N is 1 to 256, and 64 if it is left out. Without PLACE
-it goes on behind the bytes that were shown last.",
+it goes on after the bytes that were shown last.",
             Topic::Pages => "\
 pages [PLACE] [of P]
 the tables and pages, as a tree
 the tables and pages of a process's memory from PLACE on, as a tree.
 Sv39 has three levels: a root table, upper tables for 1 GiB each, lower tables for
 2 MiB each, and in them pages of 4 KiB. r, w, x: the page may be read, written, executed;
-u: by the program itself. Pages one behind another that are alike take a line.",
+u: by the program itself. Pages that follow one another and are alike take a line.",
             Topic::Frames => "\
 frames [N]
 who owns how many frames of RAM; or frame N

@@ -71,6 +71,8 @@ pub enum Goal {
     Fault,
     /// A process is gone.
     Exit,
+    /// The process that words look at stands in another line of its source.
+    Line,
 }
 
 /// What a line asks for.
@@ -90,6 +92,8 @@ pub enum Word {
     },
     /// Runs, up to the first that is the goal.
     Until(Goal),
+    /// Back to the last Run that was the goal.
+    BackUntil(Goal),
     /// So many rounds: 1 to [`ROUNDS_MOST`].
     Run {
         rounds: u32,
@@ -111,7 +115,7 @@ pub enum Word {
     Registers {
         pid: Option<Pid>,
     },
-    /// So many bytes of memory, 1 to [`BYTES_MOST`], from this address on, or behind those that were shown last.
+    /// So many bytes of memory, 1 to [`BYTES_MOST`], from this address on, or after those that were shown last.
     Memory {
         address: Option<u64>,
         count: u32,

@@ -29,7 +29,7 @@ abbrev pub asked_end : (halted : Option ℤ) → End
 asked_end None = ends.Asked
 asked_end (Some status) = ends.Halted status
 
--- the end behind a prompt; none if the machine is to go on
+-- the end after a prompt; none if the machine is to go on
 abbrev pub end_behind_prompt : Next → (halted : Option ℤ) → Option End
 end_behind_prompt behind.Ends halted = Some (asked_end halted)
 end_behind_prompt behind.Continues halted = None
@@ -39,7 +39,7 @@ end_behind_prompt behind.Stays halted = None
 abbrev pub IsEndBehindPrompt : (halted : Option ℤ) → Option End → Type 0
 IsEndBehindPrompt halted e = (next : Next) × (e ≡ end_behind_prompt next halted)
 
--- the end behind a pause; the machine goes on behind none but the prompt
+-- the end after a pause; the machine goes on after none but the prompt
 abbrev pub IsEndBehind : Pause → (halted : Option ℤ) → Option End → Type 0
 IsEndBehind (pauses.Halted status) halted e = e ≡ Some (ends.Halted status)
 IsEndBehind pauses.Debugger halted e = IsEndBehindPrompt halted e

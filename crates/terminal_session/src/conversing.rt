@@ -30,7 +30,7 @@ fn asked_end(session: &Session) -> End
     }
 }
 
-// The end behind a prompt, if the machine isn't to go on.
+// The end after a prompt, if the machine isn't to go on.
 fn end_of_prompt(session: &Session, next: Next) -> Option<End>
     ensures is { result ≡ end_behind_prompt next session.now.machine.world.turns.halted }
     ensures end { IfSome result (λ e. IsEndOf session.now e) }

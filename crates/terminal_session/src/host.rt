@@ -7,7 +7,7 @@ use std::thread;
 use std::time::{Clock, Duration};
 use xv_live::{Host, Look};
 
-/// The longest rest, in milliseconds: a key that is typed meanwhile is seen behind it.
+/// The longest rest, in milliseconds: a key that is typed meanwhile is seen after it.
 const REST_MILLIS: u64 = 10;
 
 /// A reader as the keyboard, and the host's clock.
@@ -49,7 +49,7 @@ impl<R: Read, C: Clock> Desk<R, C> {
         }
     }
 
-    // A tick behind this time.
+    // A tick after this time.
     fn tick_behind(&self, time: Duration) -> Duration {
         time.checked_add(self.tick).unwrap_or(Duration::MAX)
     }

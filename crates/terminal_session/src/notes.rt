@@ -4,7 +4,7 @@ use std::alloc::Global;
 use std::fmt::Display;
 use std::io::Write;
 
-/// The bytes of a line that are kept, to be shown again behind a note.
+/// The bytes of a line that are kept, to be shown again after a note.
 const LINE_BYTES: usize = 256;
 
 /// The most bytes of a line that surely stand in one row of a terminal.

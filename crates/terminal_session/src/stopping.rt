@@ -16,7 +16,7 @@ pub(crate) const PROMPT: &str = "(xv) ";
 /// What is said when it opens.
 const WELCOME: &str = "the machine is stopped: `c` goes on, `help` tells the words, `quit` ends it";
 
-/// What comes behind a line.
+/// What comes after a line.
 enum Line {
     /// It was typed.
     Typed,
@@ -89,7 +89,7 @@ fn answer<E: Write>(
     Ok(next)
 }
 
-// A line at the prompt, and what comes behind it.
+// A line at the prompt, and what comes after it.
 fn exchange<H: Host, E: Write>(
     session: &mut Session,
     host: &mut H,

@@ -1,13 +1,16 @@
+pub mod Backwards
 pub mod Conversed
 pub mod HeldEnds
 pub mod Looking
 pub mod PipeBytes
 pub mod Played
+pub mod Quiet
 pub mod Reached
 pub mod Results
-pub mod Searching
+pub mod Searched
 pub mod Stretched
 pub mod ToldOutput
 pub mod ToldPipes
 pub mod ToldProcesses
+pub mod Unmet
 mod WorkedAnswers

@@ -24,7 +24,7 @@ last-often zero x some = let no : ⊥ = omega (arith, some) in absurd no
 last-often (suc zero) x some = refl
 last-often (suc (suc n)) x some = last-often (suc n) x (omega arith)
 
-last-join : (xs ys : Steps) → 0 < length ys → last_outcome (xs ++ ys) ≡ last_outcome ys
+pub last-join : (xs ys : Steps) → 0 < length ys → last_outcome (xs ++ ys) ≡ last_outcome ys
 last-join [] ys some = refl
 last-join (x ∷ []) [] some = let no : ⊥ = omega (arith, some) in absurd no
 last-join (x ∷ []) (y ∷ ys) some = refl

@@ -1,25 +1,24 @@
 -- What the words do to a session: words that look leave it as it was; the others send events, or go back.
-use Rattle.std.specs.Prelude.{◌≡◌, ◌≢◌, ◌⊎◌, ◌≤◌, ◌-◌, ℕ, Bool, List, map, take, length, replicate, Option, None, Some, IfSome}
+use Rattle.std.specs.Prelude.{◌≡◌, ◌≢◌, ◌⊎◌, ◌≤◌, ◌-◌, ℕ, List, [], map, take, length, replicate, Option, None, Some, IfSome}
 use Rattle.kernel_spec.specs.runs.Run as runs
-use Rattle.kernel_spec.specs.runs.Run.{Event, Outcome, World}
+use Rattle.kernel_spec.specs.runs.Run.{Event, Outcome}
 use Rattle.xv_session.specs.Answers.{WentBack}
-use Rattle.xv_session.specs.Recorded.{Recorded, running_of}
-use Rattle.xv_session.specs.declared.running.Running.{Running}
-use Rattle.xv_session.specs.declared.until.Condition.{Condition}
+use Rattle.xv_session.specs.Recorded.{Recorded}
 use Rattle.xv_session.specs.declared.until.Condition.TheVariants as waits_for
 use Rattle.debug_words.specs.declared.vocabulary.TheConstants.{EVENTS_MOST}
 use Rattle.debug_words.specs.declared.vocabulary.Goal.{Goal}
-use Rattle.debug_words.specs.declared.vocabulary.Goal.TheVariants.{Call, Pc, Store, Fault, Exit}
+use Rattle.debug_words.specs.declared.vocabulary.Goal.TheVariants.{Call, Pc, Store, Fault, Exit, Line}
 use Rattle.debug_words.specs.declared.vocabulary.Word as words
-use Rattle.debug_words.specs.declared.vocabulary.Word.TheVariants.{Step, Next, Back, Until, Run, Tick, Key, Send, ToMark, Finish, Continue, Quit}
+use Rattle.debug_words.specs.declared.vocabulary.Word.TheVariants.{Step, Next, Back, BackUntil, Until, Run, Tick, Key, Send, ToMark, Finish, Continue, Quit}
 use Rattle.debug_words.specs.Ranges.{IsInRange}
 use Rattle.xv_debug.specs.motion.Aims.{aim_in}
 use Rattle.xv_debug.specs.motion.Finishing.{IsFinishAim}
-use Rattle.xv_debug.specs.motion.Marks.{meets_marks}
+use Rattle.xv_debug.specs.motion.Backwards.{GoesBackUntil}
+use Rattle.xv_debug.specs.motion.Lines.{IsLineOf}
 use Rattle.xv_debug.specs.declared.motion.aiming.Aim.{Aim}
-use Rattle.xv_debug.specs.motion.Effects.{AddsRuns}
+use Rattle.xv_debug.specs.declared.motion.aiming.Aim.TheVariants.{On}
 use Rattle.xv_debug.specs.motion.Ran.{Ran}
-use Rattle.xv_debug.specs.motion.Reaching.{Reaches, IsRefusal, IsRefusedBy, meets_aim, meets_condition}
+use Rattle.xv_debug.specs.motion.Reaching.{Reaches, IsRefusal, IsRefusedBy, Test, meets_one}
 use Rattle.xv_debug.specs.motion.Resting.{RestsIf}
 use Rattle.xv_debug.specs.motion.Rounds.{RoundsLeave}
 use Rattle.xv_debug.specs.motion.Sent.{Sends}
@@ -30,18 +29,19 @@ use Rattle.xv_debug.specs.Focus.{IsFocus}
 use Rattle.xv_debug.specs.declared.debugger.Next as behind_words
 use Rattle.xv_debug.specs.declared.debugger.Next.TheVariants as ends
 
--- ---- what `until` waits for
+-- ---- what a goal waits for
 
-abbrev pub at : (pc : ℕ) → Option ℕ → Option Condition
+abbrev pub at : (pc : ℕ) → Option ℕ → Option Aim
 at pc None = None
-at pc (Some p) = Some (waits_for.At p pc)
+at pc (Some p) = Some (On (waits_for.At p pc))
 
-abbrev pub IsConditionOf : (last : Option ℕ) → Goal → World → Option Condition → Type 0
-IsConditionOf last (Call number) w answer = answer ≡ Some (waits_for.Call number)
-IsConditionOf last (Pc address pid) w answer = (p : Option ℕ) × IsFocus last pid w p × (answer ≡ at address p)
-IsConditionOf last (Store address) w answer = answer ≡ Some (waits_for.StoreTo address)
-IsConditionOf last Fault w answer = answer ≡ Some waits_for.Fault
-IsConditionOf last Exit w answer = answer ≡ Some waits_for.Exit
+abbrev pub IsAimOf : Goal → Recorded → Option Aim → Type 0
+IsAimOf (Call number) s answer = answer ≡ Some (On (waits_for.Call number))
+IsAimOf (Pc address pid) s answer = (p : Option ℕ) × IsFocus pid s p × (answer ≡ at address p)
+IsAimOf (Store address) s answer = answer ≡ Some (On (waits_for.StoreTo address))
+IsAimOf Fault s answer = answer ≡ Some (On waits_for.Fault)
+IsAimOf Exit s answer = answer ≡ Some (On waits_for.Exit)
+IsAimOf Line s answer = (p : Option ℕ) × IsFocus None s p × IsLineOf p s.machine.world answer
 
 -- ---- what the words leave
 
@@ -57,33 +57,25 @@ pub record Steps (count : ℕ) (old new : Recorded) : Type 0 where
   pub rests : RestsIf stop new.machine.world
   pub reason : IsRefusedBy stop new
 
--- Runs were sent up to the first that is what is waited for; or fewer than that, where nobody may run, the session keeps no more events, or all that a word may send were sent
-pub record Searches (test : Running → Outcome → Running → Bool) (old new : Recorded) : Type 0 where
+-- Events were sent up to the first Run that is what is waited for; or fewer than that, where nobody may run, the session keeps no more events, or all that a word may send were sent
+pub record Searches (test : Test) (old new : Recorded) : Type 0 where
   pub stop : Stop
   pub sent : ℕ
   pub last : Option Outcome
-  pub added : AddsRuns sent old new
-  pub within : sent ≤ EVENTS_MOST
-  pub all : stop ≡ Done → sent ≡ EVENTS_MOST
-  pub reaches : Reaches test stop sent last (running_of old) (running_of new)
-  pub rests : RestsIf stop new.machine.world
-  pub reason : IsRefusedBy stop new
-
--- up to this condition; where there is none, all stays
-abbrev pub SearchesFor : Option Condition → Recorded → Recorded → Type 0
-SearchesFor None old new = new ≡ old
-SearchesFor (Some c) old new = Searches (meets_condition c) old new
-
--- up to a goal
-pub record SearchesGoal (last : Option ℕ) (goal : Goal) (old new : Recorded) : Type 0 where
-  pub condition : Option Condition
-  pub is : IsConditionOf last goal old.machine.world condition
-  pub searches : SearchesFor condition old new
+  pub had : Output
+  pub has : Output
+  pub reaches : Reaches test EVENTS_MOST stop sent last old new had has
 
 -- up to this aim; where there is none, all stays
 abbrev pub SearchesAim : Option Aim → Recorded → Recorded → Type 0
 SearchesAim None old new = new ≡ old
-SearchesAim (Some aim) old new = Searches (meets_aim aim) old new
+SearchesAim (Some aim) old new = Searches (meets_one aim []) old new
+
+-- up to a goal
+pub record SearchesGoal (goal : Goal) (old new : Recorded) : Type 0 where
+  pub aim : Option Aim
+  pub is : IsAimOf goal old aim
+  pub searches : SearchesAim aim old new
 
 -- up to the end of the function in which the process that runs is, if it is known where that is
 pub record Finishes (old new : Recorded) : Type 0 where
@@ -115,23 +107,35 @@ pub record Plays (most : ℕ) (old new : Recorded) : Type 0 where
 abbrev pub GoesBack : (count : ℕ) → Recorded → Recorded → Type 0
 GoesBack count old new = (new ≡ old) ⊎ WentBack (length old.events - count) old new
 
+-- It has gone back to the last Run that was this aim, if there is one
+abbrev pub GoesBackTo : Option Aim → Recorded → Recorded → Type 0
+GoesBackTo None old new = new ≡ old
+GoesBackTo (Some aim) old new = (new ≡ old) ⊎ ((taken : Option ℕ) × GoesBackUntil aim taken old new)
+
+-- that was a goal; or it is as it was, where the host had too little memory
+pub record SeeksBack (goal : Goal) (old new : Recorded) : Type 0 where
+  pub aim : Option Aim
+  pub is : IsAimOf goal old aim
+  pub goes : GoesBackTo aim old new
+
 -- What a word leaves
-abbrev pub Does : (last : Option ℕ) → words.Word → Recorded → Recorded → Type 0
-Does last (Step count) old new = Steps count old new
-Does last Next old new = Searches (meets_aim (aim_in old.machine.world)) old new
-Does last (Until goal) old new = SearchesGoal last goal old new
-Does last (Run rounds) old new = Plays rounds old new
-Does last (Tick count) old new = SendsFirst (λ n. replicate n runs.Tick) count old new
-Does last (Send count) old new = SendsFirst (λ n. replicate n runs.Send) count old new
-Does last (Key keys) old new = SendsFirst (λ n. map runs.Key (take n keys.items)) (length keys.items) old new
-Does last (Back count) old new = GoesBack count old new
-Does last (ToMark marks) old new = Searches (meets_marks marks.items) old new
-Does last Finish old new = Finishes old new
-Does last _ old new = new ≡ old
+abbrev pub Does : words.Word → Recorded → Recorded → Type 0
+Does (Step count) old new = Steps count old new
+Does Next old new = Searches (meets_one (aim_in old.machine.world) []) old new
+Does (Until goal) old new = SearchesGoal goal old new
+Does (Run rounds) old new = Plays rounds old new
+Does (Tick count) old new = SendsFirst (λ n. replicate n runs.Tick) count old new
+Does (Send count) old new = SendsFirst (λ n. replicate n runs.Send) count old new
+Does (Key keys) old new = SendsFirst (λ n. map runs.Key (take n keys.items)) (length keys.items) old new
+Does (Back count) old new = GoesBack count old new
+Does (BackUntil goal) old new = SeeksBack goal old new
+Does (ToMark marks) old new = Searches (meets_one (On waits_for.Fault) marks.items) old new
+Does Finish old new = Finishes old new
+Does _ old new = new ≡ old
 
 -- Where the host had too little memory for its answer, it may have done nothing
-abbrev pub DoesOrStays : (last : Option ℕ) → words.Word → Recorded → Recorded → Type 0
-DoesOrStays last word old new = (new ≡ old) ⊎ Does last word old new
+abbrev pub DoesOrStays : words.Word → Recorded → Recorded → Type 0
+DoesOrStays word old new = (new ≡ old) ⊎ Does word old new
 
 -- ---- what a line leaves
 
@@ -142,14 +146,14 @@ next_of Quit = ends.Ends
 next_of _ = ends.Stays
 
 -- What some word leaves whose numbers are in their ranges. A line that is no word is answered as the word Nothing is, which does nothing
-pub record DoesSome (last : Option ℕ) (old new : Recorded) : Type 0 where
+pub record DoesSome (old new : Recorded) : Type 0 where
   pub word : words.Word
   pub in_range : IsInRange word
-  pub does : Does last word old new
+  pub does : Does word old new
 
 -- and what comes behind its answer
-pub record Obeys (last : Option ℕ) (old new : Recorded) (next : behind_words.Next) : Type 0 where
+pub record Obeys (old new : Recorded) (next : behind_words.Next) : Type 0 where
   pub word : words.Word
   pub in_range : IsInRange word
-  pub does : Does last word old new
+  pub does : Does word old new
   pub behind : next ≡ next_of word

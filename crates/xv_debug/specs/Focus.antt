@@ -1,27 +1,11 @@
 -- Which process a word looks at.
 use Rattle.std.specs.Prelude.{◌≡◌, ℕ, Bool, true, false, is_some, Option, None, Some}
-use Rattle.kernel_spec.specs.runs.Run as runs
-use Rattle.kernel_spec.specs.runs.Run.{Outcome, World, Step_of}
 use Rattle.kernel_spec.specs.views.State.{State, live}
+use Rattle.xv_session.specs.LastStep.{IsLastStep}
+use Rattle.xv_session.specs.Recorded.{Recorded}
 use Rattle.debug_views.specs.Focus.{IsLeastFrom}
 
--- the process of which this came
-abbrev pub process_of : Outcome → Option ℕ
-process_of (Step_of p answer) = Some p
-process_of (runs.Turn p) = Some p
-process_of _ = None
-
--- the first, if it is one, else the second
-abbrev pub or_else : Option ℕ → Option ℕ → Option ℕ
-or_else (Some p) last = Some p
-or_else None last = last
-
--- the process that was seen last: that of this outcome, if it is of a process, else the one before
-abbrev pub last_seen : (last : Option ℕ) → Option Outcome → Option ℕ
-last_seen last (Some o) = or_else (process_of o) last
-last_seen last None = last
-
--- the one that made the last step, if it lives, else the one of the least pid
+-- the one whose step was last, if it lives, else the one of the least pid
 abbrev pub IsLastOrLeast : (lives : Bool) → (last : Option ℕ) → State → Option ℕ → Type 0
 IsLastOrLeast true last s answer = answer ≡ last
 IsLastOrLeast false last s answer = IsLeastFrom s 1 answer
@@ -34,7 +18,11 @@ abbrev pub IsRunningOr : (current last : Option ℕ) → State → Option ℕ �
 IsRunningOr (Some p) last s answer = answer ≡ Some p
 IsRunningOr None last s answer = IsLastOrLeast (lives_in s last) last s answer
 
--- the one that it names; else the one that runs; else that
-abbrev pub IsFocus : (last named : Option ℕ) → World → Option ℕ → Type 0
-IsFocus last (Some p) w answer = answer ≡ Some p
-IsFocus last None w answer = IsRunningOr w.turns.current last w.state answer
+-- The one that runs; if nobody runs, that. The session's events alone settle which it is
+abbrev pub IsUsual : Recorded → Option ℕ → Type 0
+IsUsual s answer = (last : Option ℕ) × IsLastStep s last × IsRunningOr s.machine.world.turns.current last s.machine.world.state answer
+
+-- the one that the word names; if it names none, that
+abbrev pub IsFocus : (named : Option ℕ) → Recorded → Option ℕ → Type 0
+IsFocus (Some p) s answer = answer ≡ Some p
+IsFocus None s answer = IsUsual s answer

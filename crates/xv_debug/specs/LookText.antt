@@ -24,28 +24,28 @@ IsOf Is None text = text ≡ nobody
 IsOf Is (Some p) text = Is p text
 
 -- of the process that a word looks at, which may name one
-abbrev pub IsOfFocus : (last : Option ℕ) → Recorded → (named : Option ℕ) → (ℕ → List ℕ → Type 0) → List ℕ → Type 0
-IsOfFocus last s named Is text = (p : Option ℕ) × IsFocus last named s.machine.world p × IsOf Is p text
+abbrev pub IsOfFocus : Recorded → (named : Option ℕ) → (ℕ → List ℕ → Type 0) → List ℕ → Type 0
+IsOfFocus s named Is text = (p : Option ℕ) × IsFocus named s p × IsOf Is p text
 
--- What a word writes behind an answer, if the process `last` was seen last and the memory that was shown last ends at `shown`. Of `help`, of a trace that has notes, of marks, and of what stands behind a process's line, nothing is told here, nor of words that move the session
-abbrev pub Shows : (last : Option ℕ) → (shown : ℕ) → Recorded → Word → (old new : List ℕ) → Type 0
-Shows last shown s (Where named) old new = Writes old new (IsWhereOf last s named)
-Shows last shown s At old new = Writes old new (IsWhereOf last s None)
-Shows last shown s (Registers named) old new = Writes old new (IsOfFocus last s named (λ p text. text ≡ registers_shown s p))
-Shows last shown s (Memory address count named) old new = Writes old new (IsOfFocus last s named (λ p text. text ≡ memory_shown s p (unwrap_or address shown) count))
-Shows last shown s (Pages from named) old new = Writes old new (IsOfFocus last s named (λ p. IsPagesText s p from))
-Shows last shown s (Numbers from count size named) old new = Writes old new (IsOfFocus last s named (λ p text. text ≡ numbers_shown s size p from count))
-Shows last shown s (Value n) old new = new ≡ old ++ value_text n
-Shows last shown s (Callers named) old new = Writes old new (IsOfFocus last s named (λ p. IsProcessText s p (process_at s.machine.world p)))
-Shows last shown s (Listing from count named) old new = Writes old new (IsOfFocus last s named (λ p. IsProcessText s p (process_at s.machine.world p)))
-Shows last shown s (Descriptors named) old new = Writes old new (IsOfFocus last s named (λ p text. text ≡ descriptors_shown s p))
-Shows last shown s (Frames frame) old new = Writes old new (IsFramesText s frame)
-Shows last shown s (Processes from) old new = Writes old new (IsProcessesText s from)
-Shows last shown s Pipe old new = Writes old new (IsPipesText s.machine.world)
-Shows last shown s Console old new = new ≡ old ++ console_text s.machine.world.state.console
-Shows last shown s (Events from) old new = Writes old new (IsEventsText s from)
-Shows last shown s (Trace count) old new = s.machine.notes ≡ [] → new ≡ old ++ no_notes
-Shows last shown s Nothing old new = new ≡ old
-Shows last shown s Continue old new = new ≡ old
-Shows last shown s Quit old new = new ≡ old
-Shows last shown s word old new = ⊤
+-- What a word writes behind an answer, if the memory that was shown last ends at `shown`. Of `help`, of a trace that has notes, of marks, and of what stands after a process's line, nothing is told here, nor of words that move the session
+abbrev pub Shows : (shown : ℕ) → Recorded → Word → (old new : List ℕ) → Type 0
+Shows shown s (Where named) old new = Writes old new (IsWhereOf s named)
+Shows shown s At old new = Writes old new (IsWhereOf s None)
+Shows shown s (Registers named) old new = Writes old new (IsOfFocus s named (λ p text. text ≡ registers_shown s p))
+Shows shown s (Memory address count named) old new = Writes old new (IsOfFocus s named (λ p text. text ≡ memory_shown s p (unwrap_or address shown) count))
+Shows shown s (Pages from named) old new = Writes old new (IsOfFocus s named (λ p. IsPagesText s p from))
+Shows shown s (Numbers from count size named) old new = Writes old new (IsOfFocus s named (λ p text. text ≡ numbers_shown s size p from count))
+Shows shown s (Value n) old new = new ≡ old ++ value_text n
+Shows shown s (Callers named) old new = Writes old new (IsOfFocus s named (λ p. IsProcessText s p (process_at s.machine.world p)))
+Shows shown s (Listing from count named) old new = Writes old new (IsOfFocus s named (λ p. IsProcessText s p (process_at s.machine.world p)))
+Shows shown s (Descriptors named) old new = Writes old new (IsOfFocus s named (λ p text. text ≡ descriptors_shown s p))
+Shows shown s (Frames frame) old new = Writes old new (IsFramesText s frame)
+Shows shown s (Processes from) old new = Writes old new (IsProcessesText s from)
+Shows shown s Pipe old new = Writes old new (IsPipesText s.machine.world)
+Shows shown s Console old new = new ≡ old ++ console_text s.machine.world.state.console
+Shows shown s (Events from) old new = Writes old new (IsEventsText s from)
+Shows shown s (Trace count) old new = s.machine.notes ≡ [] → new ≡ old ++ no_notes
+Shows shown s Nothing old new = new ≡ old
+Shows shown s Continue old new = new ≡ old
+Shows shown s Quit old new = new ≡ old
+Shows shown s word old new = ⊤

@@ -29,7 +29,7 @@ in_pipe_text call fd awaited pipe = on_text call fd awaited ++ (codes " in pipe 
 -- the call in which a process sleeps, and what it waits for
 abbrev pub wait_text : Wait → List ℕ
 wait_text (Until tick) = codes "sleep, until tick " ++ decimal tick
-wait_text Child = codes "wait, for a child's end"
+wait_text Child = codes "wait, for a child to end"
 wait_text (Keys fd) = on_text (codes "read of") fd (codes "a line of keys")
 wait_text (Sending fd) = on_text (codes "write to") fd (codes "room in the console")
 wait_text (PipeBytes fd pipe) = in_pipe_text (codes "read of") fd (codes "bytes") pipe

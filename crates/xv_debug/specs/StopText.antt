@@ -61,3 +61,7 @@ no_return = codes "no process runs whose function has a known return address: bt
 -- how many events were taken back
 abbrev pub back_text : (taken : ℕ) → List ℕ
 back_text taken = many taken (codes "event") ++ codes " back\n"
+
+-- where a goal never came before
+abbrev pub never : List ℕ
+never = codes "it never came before this place, and nothing is changed\n"

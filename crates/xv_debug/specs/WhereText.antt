@@ -55,5 +55,5 @@ abbrev pub IsWhereText : Recorded → (focus : Option ℕ) → List ℕ → Type
 IsWhereText s focus text = (rest : List ℕ) × IsStateText s focus s.machine.world.turns.halted rest × (text ≡ place_text s ++ rest)
 
 -- of the process that a word looks at, which may name one
-abbrev pub IsWhereOf : (last : Option ℕ) → Recorded → (named : Option ℕ) → List ℕ → Type 0
-IsWhereOf last s named text = (p : Option ℕ) × IsFocus last named s.machine.world p × IsWhereText s p text
+abbrev pub IsWhereOf : Recorded → (named : Option ℕ) → List ℕ → Type 0
+IsWhereOf s named text = (p : Option ℕ) × IsFocus named s p × IsWhereText s p text

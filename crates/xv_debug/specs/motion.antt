@@ -1,7 +1,10 @@
 pub mod Aims
+pub mod Backwards
 pub mod Effects
 pub mod Finishing
+pub mod Lines
 pub mod Marks
+pub mod Places
 pub mod Ran
 pub mod Reaching
 pub mod Resting

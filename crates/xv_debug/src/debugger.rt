@@ -1,25 +1,24 @@
 //! The debugger: a line goes in, its answer comes out.
 ghost use Rattle.std.specs.Prelude.{◌≡◌, ◌++◌, OnOk, string_bytes};
 ghost use Rattle.xv_debug.specs.Effects.{next_of};
-ghost use Rattle.xv_debug.specs.StopText.{no_return};
-ghost use Rattle.xv_debug.specs.WhereText.{nobody};
+ghost use Rattle.xv_debug.specs.StopText.{never, no_return};
 
 use crate::callers::told_calls;
-use crate::focus::{last_seen, running_or};
+use crate::focus::focus;
 use crate::instruction::listed_from;
 use crate::kept::KeptMarks;
+use crate::looks::{
+    show_descriptors_of, show_nobody, show_numbers_of, show_pages_of, show_registers_of,
+};
 use crate::motion::{self, Aim, Journey, Output};
 use crate::names::Known;
 use crate::pipes::show_pipes;
 use crate::processes::{show_process, show_processes, show_where};
 use crate::shown_output::show_output;
 use crate::stops::{show_refusal, show_sent};
-use debug_views::{
-    show_console, show_descriptors, show_events, show_frames, show_memory, show_numbers,
-    show_pages, show_registers, show_trace, show_value,
-};
+use debug_views::{show_console, show_events, show_frames, show_memory, show_trace, show_value};
 use debug_words::texts::Many;
-use debug_words::{EVENTS_MOST, Goal, Keys, Marks, Size, Word, WordError, show_help};
+use debug_words::{EVENTS_MOST, Goal, Keys, Mark, Marks, Word, WordError, show_help};
 use std::alloc::{AllocError, Global};
 use xk_base::Pid;
 use xv_machine::Event;
@@ -32,7 +31,7 @@ const INSTRUCTIONS: u32 = 8;
 /// The Runs in a round of `run`: as many as in one of `xv_run`.
 const QUANTUM: u32 = 1000;
 
-/// What comes behind an answer.
+/// What comes after an answer.
 #[derive(Clone, Copy, PartialEq, Eq)]
 pub enum Next {
     /// The debugger waits for the next line.
@@ -46,9 +45,7 @@ pub enum Next {
 /// A debugger: what it remembers between its words. The session isn't part of it.
 #[derive(Drop)]
 pub struct Debugger {
-    /// The process that made the last step that was seen.
-    last: Option<Pid>,
-    /// The address behind the memory that was shown last.
+    /// The address after the memory that was shown last.
     shown: u64,
     /// What is known of the sources of the session's programs, if anything is.
     sources: Option<Sources>,
@@ -56,7 +53,7 @@ pub struct Debugger {
     marks: KeptMarks,
 }
 
-/// What comes behind the answer to a word.
+/// What comes after the answer to a word.
 fn next_of(word: &Word) -> Next
     ensures { result ≡ next_of word.now }
 {
@@ -102,32 +99,29 @@ fn show_no_return(answer: &mut String) -> Result<(), AllocError>
     answer.push_str("no process runs whose function has a known return address: bt tells more\n")
 }
 
-/// Writes that there is no process.
-fn show_nobody(answer: &mut String) -> Result<(), AllocError>
-    ensures { OnOk result (string_bytes answer.new ≡ string_bytes answer.old ++ nobody) }
+/// Writes that a goal never came before.
+fn show_never(answer: &mut String) -> Result<(), AllocError>
+    ensures { OnOk result (string_bytes answer.new ≡ string_bytes answer.old ++ never) }
 {
-    answer.push_str("there is no process\n")
+    answer.push_str("it never came before this place, and nothing is changed\n")
 }
 
 impl Debugger {
-    ghost use Rattle.std.specs.Prelude.{◌≡◌, ◌⊎◌, [], IfOk, IfErr, OnOk, length, map, option_map, replicate, string_bytes, take, unwrap_or};
+    ghost use Rattle.std.specs.Prelude.{◌≡◌, ◌⊎◌, ℕ, [], IfOk, IfErr, OnOk, Option, length, map, option_map, replicate, string_bytes, take, unwrap_or};
     ghost use Rattle.kernel_spec.specs.runs.Run as runs;
     ghost use Rattle.xv_machine.specs.Events.{event_of, outcome_of};
     ghost use Rattle.xv_debug.specs.motion.Aims.{aim_in};
     ghost use Rattle.kcall_core.specs.Observers.{process_at};
     ghost use Rattle.debug_words.specs.Ranges.{IsInRange};
-    ghost use Rattle.xv_debug.specs.motion.Marks.{meets_marks};
-    ghost use Rattle.xv_debug.specs.motion.Reaching.{meets_aim};
-    ghost use Rattle.debug_views.specs.DescriptorText.{descriptors_shown};
+    ghost use Rattle.xv_session.specs.declared.until.Condition.TheVariants.{Fault};
+    ghost use Rattle.xv_debug.specs.declared.motion.aiming.Aim.TheVariants.{On};
+    ghost use Rattle.xv_debug.specs.motion.Backwards.{GoesBackUntil};
+    ghost use Rattle.xv_debug.specs.motion.Reaching.{meets_one};
     ghost use Rattle.debug_views.specs.MemoryText.{memory_shown};
-    ghost use Rattle.debug_views.specs.NumberText.{numbers_shown};
-    ghost use Rattle.debug_views.specs.PagesText.{IsPagesText};
-    ghost use Rattle.debug_views.specs.RegisterText.{registers_shown};
     ghost use Rattle.debug_views.specs.Written.{Writes};
-    ghost use Rattle.xv_debug.specs.AnswerText.{AimTells, Answers, BackTells, ConditionTells, FinishTells, GoalTells, IsBackText};
-    ghost use Rattle.xv_debug.specs.AnswerText.{IsSentText, RoundsTell, SearchTells, SendsTell, StepTells};
-    ghost use Rattle.xv_debug.specs.Effects.{Does, DoesOrStays, DoesSome, Finishes, GoesBack, IsConditionOf, Obeys, Plays, Searches, SearchesAim, SearchesFor, SearchesGoal, SendsFirst, Steps, next_of};
-    ghost use Rattle.xv_debug.specs.Focus.{IsFocus};
+    ghost use Rattle.xv_debug.specs.AnswerText.{Answers, BackTells, BackUntilTells, FinishTells, GoalTells, IsBackText};
+    ghost use Rattle.xv_debug.specs.AnswerText.{IsSentText, RoundsTell, SearchTells, SeekBackTells, SendsTell, StepTells};
+    ghost use Rattle.xv_debug.specs.Effects.{Does, DoesOrStays, DoesSome, Finishes, GoesBack, IsAimOf, Obeys, Plays, Searches, SearchesGoal, SeeksBack, SendsFirst, Steps, next_of};
     ghost use Rattle.xv_debug.specs.LookText.{IsOfFocus, Shows};
     ghost use Rattle.xv_debug.specs.OutputText.{output_text};
     ghost use Rattle.xv_debug.specs.WhereText.{IsProcessText, IsWhereOf};
@@ -135,12 +129,10 @@ impl Debugger {
     /// A debugger that has seen nothing. The names of functions come from the programs' own symbols, and no line is
     /// known.
     pub fn new() -> Debugger
-        ensures last { result.last ≡ None }
         ensures shown { result.shown ≡ 0 }
         ensures sources { result.sources ≡ None }
     {
         Debugger {
-            last: None,
             shown: 0,
             sources: None,
             marks: KeptMarks::new(),
@@ -149,12 +141,10 @@ impl Debugger {
 
     /// A debugger that has seen nothing, and knows this of the programs' sources.
     pub fn with_sources(sources: Sources) -> Debugger
-        ensures last { result.last ≡ None }
         ensures shown { result.shown ≡ 0 }
         ensures sources { result.sources ≡ Some sources }
     {
         Debugger {
-            last: None,
             shown: 0,
             sources: Some(sources),
             marks: KeptMarks::new(),
@@ -172,21 +162,10 @@ impl Debugger {
     ) -> Result<(), AllocError>
         ensures { OnOk result
             (Writes (string_bytes answer.old) (string_bytes answer.new)
-            (IsWhereOf self.now.last session.now named)) }
+            (IsWhereOf session.now named)) }
     {
-        let focus = self.focus(session, named);
-        show_where(alloc, session, self.sources.as_ref(), focus, count, answer)
-    }
-
-    /// The process that a word looks at: the one that it names; else the one that runs; else the one that made the
-    /// last step, if it lives; else the one of the least pid.
-    fn focus(&self, session: &Session, named: Option<Pid>) -> Option<Pid>
-        ensures { IsFocus self.now.last named session.now.machine.world result }
-    {
-        match named {
-            Some(pid) => Some(pid),
-            None => running_or(session.machine(), self.last),
-        }
+        let pid = focus(session, named);
+        show_where(alloc, session, self.sources.as_ref(), pid, count, answer)
     }
 
     /// Obeys a line, and writes its answer.
@@ -201,8 +180,8 @@ impl Debugger {
         line: &str,
         answer: &mut String,
     ) -> Result<Next, AllocError>
-        ensures done { IfOk result (λ next. Obeys self.old.last session.old session.new next) }
-        ensures failed { IfErr result (λ _. (session.new ≡ session.old) ⊎ DoesSome self.old.last session.old session.new) }
+        ensures done { IfOk result (λ next. Obeys session.old session.new next) }
+        ensures failed { IfErr result (λ _. (session.new ≡ session.old) ⊎ DoesSome session.old session.new) }
     {
         match self.read(session, line) {
             Ok(word) => self.answer_marked(alloc, session, word, answer),
@@ -218,11 +197,10 @@ impl Debugger {
         ensures { IfOk result IsInRange }
     {
         let sources: Option<&Sources> = self.sources.as_ref();
-        let focus = self.focus(session, None);
         let known = Known {
             session,
             sources,
-            focus,
+            focus: focus(session, None),
         };
         Word::of(line, &known)
     }
@@ -238,7 +216,7 @@ impl Debugger {
         Word::ToMark(self.marks.marks())
     }
 
-    /// Does what a word of a line asks for, and writes its answer. Behind it the marks for once that are met are
+    /// Does what a word of a line asks for, and writes its answer. After it the marks for once that are met are
     /// forgotten.
     fn answer_marked(
         &mut self,
@@ -248,8 +226,8 @@ impl Debugger {
         answer: &mut String,
     ) -> Result<Next, AllocError>
         requires { IsInRange word }
-        ensures done { IfOk result (λ next. Obeys self.old.last session.old session.new next) }
-        ensures failed { IfErr result (λ _. (session.new ≡ session.old) ⊎ DoesSome self.old.last session.old session.new) }
+        ensures done { IfOk result (λ next. Obeys session.old session.new next) }
+        ensures failed { IfErr result (λ _. (session.new ≡ session.old) ⊎ DoesSome session.old session.new) }
     {
         let word = self.with_marks(word);
         let next = self.obey_word(alloc, session, &word, answer);
@@ -257,10 +235,8 @@ impl Debugger {
         next
     }
 
-    /// Forgets the marks for once that are met where the session is, behind the word that goes on to them.
-    fn forget_met(&mut self, session: &Session, word: &Word)
-        ensures { self.new.last ≡ self.old.last }
-    {
+    /// Forgets the marks for once that are met where the session is, after the word that goes on to them.
+    fn forget_met(&mut self, session: &Session, word: &Word) {
         if let Word::ToMark(_) = word {
             self.marks.forget_met(session);
         }
@@ -275,8 +251,8 @@ impl Debugger {
         answer: &mut String,
     ) -> Result<Next, AllocError>
         requires { IsInRange word.now }
-        ensures done { IfOk result (λ next. Obeys self.old.last session.old session.new next) }
-        ensures failed { IfErr result (λ _. (session.new ≡ session.old) ⊎ DoesSome self.old.last session.old session.new) }
+        ensures done { IfOk result (λ next. Obeys session.old session.new next) }
+        ensures failed { IfErr result (λ _. (session.new ≡ session.old) ⊎ DoesSome session.old session.new) }
     {
         self.answer(alloc, session, word, answer)
     }
@@ -293,12 +269,12 @@ impl Debugger {
         word: &Word,
         answer: &mut String,
     ) -> Result<Next, AllocError>
-        ensures done { IfOk result (λ _. Does self.old.last word.now session.old session.new) }
+        ensures done { IfOk result (λ _. Does word.now session.old session.new) }
         ensures next { IfOk result (λ next. next ≡ next_of word.now) }
         ensures told { OnOk result
-            (Answers self.old.last self.new.last self.old.shown word.now session.old session.new
+            (Answers self.old.shown word.now session.old session.new
             (string_bytes answer.old) (string_bytes answer.new)) }
-        ensures failed { IfErr result (λ _. DoesOrStays self.old.last word.now session.old session.new) }
+        ensures failed { IfErr result (λ _. DoesOrStays word.now session.old session.new) }
     {
         self.act(alloc, session, word, answer)?;
         Ok(next_of(word))
@@ -312,14 +288,15 @@ impl Debugger {
         word: &Word,
         answer: &mut String,
     ) -> Result<(), AllocError>
-        ensures done { IfOk result (λ _. Does self.old.last word.now session.old session.new) }
+        ensures done { IfOk result (λ _. Does word.now session.old session.new) }
         ensures told { OnOk result
-            (Answers self.old.last self.new.last self.old.shown word.now session.old session.new
+            (Answers self.old.shown word.now session.old session.new
             (string_bytes answer.old) (string_bytes answer.new)) }
-        ensures failed { IfErr result (λ _. DoesOrStays self.old.last word.now session.old session.new) }
+        ensures failed { IfErr result (λ _. DoesOrStays word.now session.old session.new) }
     {
         match word {
             Word::Back { count } => self.go_back(alloc, session, *count, answer),
+            Word::BackUntil(goal) => self.seek_back(alloc, session, goal, answer),
             Word::Step { count } => self.step(alloc, session, word, *count, answer),
             Word::Next => self.next(alloc, session, word, answer),
             Word::Until(goal) => self.seek(alloc, session, word, goal, answer),
@@ -379,7 +356,7 @@ impl Debugger {
     ) -> Result<(), AllocError>
         ensures done { GoesBack count session.old session.new }
         ensures told { OnOk result
-            (BackTells self.now.last count session.old session.new
+            (BackTells count session.old session.new
             (string_bytes answer.old) (string_bytes answer.new)) }
     {
         match motion::go_back(alloc, session, count) {
@@ -398,7 +375,7 @@ impl Debugger {
     ) -> Result<(), AllocError>
         ensures { OnOk result
             (Writes (string_bytes answer.old) (string_bytes answer.new)
-            (IsBackText self.now.last session.now taken)) }
+            (IsBackText session.now taken)) }
     {
         let many = Many(taken, "event");
         writeln!(answer, "{many} back")?;
@@ -407,7 +384,7 @@ impl Debugger {
 
     /// Sends so many Runs, and tells what came of them.
     fn step(
-        &mut self,
+        &self,
         alloc: Global,
         session: &mut Session,
         word: &Word,
@@ -416,128 +393,154 @@ impl Debugger {
     ) -> Result<(), AllocError>
         ensures done { Steps count session.old session.new }
         ensures told { OnOk result
-            (StepTells self.old.last self.new.last word.now count session.old session.new
+            (StepTells word.now count session.old session.new
             (string_bytes answer.old) (string_bytes answer.new)) }
     {
         let journey = motion::step(session, count);
         self.tell(alloc, session, word, &journey, answer)
     }
 
+    /// Sends Runs up to an aim or a mark, and tells what came of them.
+    fn search(
+        &self,
+        alloc: Global,
+        session: &mut Session,
+        word: &Word,
+        aim: &Aim,
+        marks: &[Mark],
+        answer: &mut String,
+    ) -> Result<(), AllocError>
+        ensures done { IfOk result (λ _. Searches (meets_one aim.now marks.now) session.old session.new) }
+        ensures told { OnOk result
+            (SearchTells word.now (meets_one aim.now marks.now)
+            session.old session.new (string_bytes answer.old) (string_bytes answer.new)) }
+        ensures failed { IfErr result (λ _. (session.new ≡ session.old) ⊎ Searches (meets_one aim.now marks.now) session.old session.new) }
+    {
+        let mut output = Output::new(alloc)?;
+        let journey = motion::search(session, EVENTS_MOST, aim, marks, &mut output);
+        self.tell_shown(alloc, session, word, &journey, &output, answer)
+    }
+
     /// Sends Runs up to the end of an instruction, and of the call that it makes.
     fn next(
-        &mut self,
+        &self,
         alloc: Global,
         session: &mut Session,
         word: &Word,
         answer: &mut String,
     ) -> Result<(), AllocError>
-        ensures done { Searches (meets_aim (aim_in session.old.machine.world)) session.old session.new }
+        ensures done { IfOk result (λ _. Searches (meets_one (aim_in session.old.machine.world) []) session.old session.new) }
         ensures told { OnOk result
-            (SearchTells self.old.last self.new.last word.now (meets_aim (aim_in session.old.machine.world))
+            (SearchTells word.now (meets_one (aim_in session.old.machine.world) [])
             session.old session.new (string_bytes answer.old) (string_bytes answer.new)) }
+        ensures failed { IfErr result (λ _. (session.new ≡ session.old) ⊎ Searches (meets_one (aim_in session.old.machine.world) []) session.old session.new) }
     {
-        let journey = motion::next(session, EVENTS_MOST);
-        self.tell(alloc, session, word, &journey, answer)
+        let aim = motion::aim_in(session.machine());
+        self.search(alloc, session, word, &aim, &[], answer)
     }
 
-    /// Sends Runs up to the first that meets one of these marks.
+    /// Sends Runs up to the first that meets one of these marks, or by which a process is gone by a fault.
     fn go_on(
-        &mut self,
+        &self,
         alloc: Global,
         session: &mut Session,
         word: &Word,
         marks: &Marks,
         answer: &mut String,
     ) -> Result<(), AllocError>
-        ensures done { Searches (meets_marks marks.now.items) session.old session.new }
+        ensures done { IfOk result (λ _. Searches (meets_one (On Fault) marks.now.items) session.old session.new) }
         ensures told { OnOk result
-            (SearchTells self.old.last self.new.last word.now (meets_marks marks.now.items)
+            (SearchTells word.now (meets_one (On Fault) marks.now.items)
             session.old session.new (string_bytes answer.old) (string_bytes answer.new)) }
+        ensures failed { IfErr result (λ _. (session.new ≡ session.old) ⊎ Searches (meets_one (On Fault) marks.now.items) session.old session.new) }
     {
-        let journey = motion::to_mark(session, EVENTS_MOST, marks);
-        self.tell(alloc, session, word, &journey, answer)
+        let aim = Aim::On(Condition::Fault);
+        self.search(alloc, session, word, &aim, marks.as_slice(), answer)
     }
 
-    /// Sends Runs up to the end of the function in which the process that runs is.
+    /// Sends Runs up to the end of the function in which the process that runs is; none if it isn't known.
     fn finish(
-        &mut self,
+        &self,
         alloc: Global,
         session: &mut Session,
         word: &Word,
         answer: &mut String,
     ) -> Result<(), AllocError>
-        ensures done { Finishes session.old session.new }
+        ensures done { IfOk result (λ _. Finishes session.old session.new) }
         ensures told { OnOk result
-            (FinishTells self.old.last self.new.last word.now session.old session.new
+            (FinishTells word.now session.old session.new
             (string_bytes answer.old) (string_bytes answer.new)) }
+        ensures failed { IfErr result (λ _. (session.new ≡ session.old) ⊎ Finishes session.old session.new) }
     {
-        let aim = motion::finish_aim(session, self.sources.as_ref());
-        self.leave(alloc, session, word, aim, answer)
+        match motion::finish_aim(session, self.sources.as_ref()) {
+            Some(aim) => self.search(alloc, session, word, &aim, &[], answer),
+            None => show_no_return(answer),
+        }
     }
 
-    /// Sends Runs up to an aim; none where there is none, since it isn't known.
-    fn leave(
-        &mut self,
-        alloc: Global,
-        session: &mut Session,
-        word: &Word,
-        aim: Option<Aim>,
-        answer: &mut String,
-    ) -> Result<(), AllocError>
-        ensures done { SearchesAim aim session.old session.new }
-        ensures told { OnOk result
-            (AimTells self.old.last self.new.last word.now aim session.old session.new
-            (string_bytes answer.old) (string_bytes answer.new)) }
-    {
-        let Some(aim) = aim else {
-            return show_no_return(answer);
-        };
-        let journey = motion::run_to(session, EVENTS_MOST, &aim);
-        self.tell(alloc, session, word, &journey, answer)
-    }
-
-    /// Sends Runs up to a goal.
+    /// Sends Runs up to a goal; none if it is asked of a process that isn't there.
     fn seek(
-        &mut self,
+        &self,
         alloc: Global,
         session: &mut Session,
         word: &Word,
         goal: &Goal,
         answer: &mut String,
     ) -> Result<(), AllocError>
-        ensures done { SearchesGoal self.old.last goal.now session.old session.new }
+        ensures done { IfOk result (λ _. SearchesGoal goal.now session.old session.new) }
         ensures told { OnOk result
-            (GoalTells self.old.last self.new.last word.now goal.now session.old session.new
+            (GoalTells word.now goal.now session.old session.new
             (string_bytes answer.old) (string_bytes answer.new)) }
+        ensures failed { IfErr result (λ _. (session.new ≡ session.old) ⊎ SearchesGoal goal.now session.old session.new) }
     {
-        let condition = self.condition(session, goal);
-        self.search(alloc, session, word, condition, answer)
+        match self.aim(session, goal) {
+            Some(aim) => self.search(alloc, session, word, &aim, &[], answer),
+            None => show_nobody(answer),
+        }
     }
 
-    /// Sends Runs up to a condition; none where there is none, since it is asked of a process that isn't there.
-    fn search(
-        &mut self,
+    /// Goes back to the last Run that was a goal, and tells where that is.
+    fn seek_back(
+        &self,
         alloc: Global,
         session: &mut Session,
-        word: &Word,
-        condition: Option<Condition>,
+        goal: &Goal,
         answer: &mut String,
     ) -> Result<(), AllocError>
-        ensures done { SearchesFor condition session.old session.new }
+        ensures done { SeeksBack goal.now session.old session.new }
         ensures told { OnOk result
-            (ConditionTells self.old.last self.new.last word.now condition session.old session.new
+            (SeekBackTells goal.now session.old session.new
             (string_bytes answer.old) (string_bytes answer.new)) }
     {
-        let Some(condition) = condition else {
-            return show_nobody(answer);
-        };
-        let journey = motion::until(session, EVENTS_MOST, &condition);
-        self.tell(alloc, session, word, &journey, answer)
+        match self.aim(session, goal) {
+            Some(aim) => self.go_back_until(alloc, session, &aim, answer),
+            None => show_nobody(answer),
+        }
+    }
+
+    /// Goes back to the last Run that was an aim, and tells where that is.
+    fn go_back_until(
+        &self,
+        alloc: Global,
+        session: &mut Session,
+        aim: &Aim,
+        answer: &mut String,
+    ) -> Result<(), AllocError>
+        ensures done { (session.new ≡ session.old) ⊎ ((taken : Option ℕ) × GoesBackUntil aim.now taken session.old session.new) }
+        ensures told { OnOk result
+            (BackUntilTells aim.now session.old session.new
+            (string_bytes answer.old) (string_bytes answer.new)) }
+    {
+        match motion::back_until(alloc, session, aim) {
+            Ok(Some(taken)) => self.tell_back(alloc, session, taken, answer),
+            Ok(None) => show_never(answer),
+            Err(error) => show_refusal(&error, answer),
+        }
     }
 
     /// Plays rounds, and tells what came of them.
     fn play(
-        &mut self,
+        &self,
         alloc: Global,
         session: &mut Session,
         word: &Word,
@@ -546,7 +549,7 @@ impl Debugger {
     ) -> Result<(), AllocError>
         ensures done { IfOk result (λ _. Plays rounds session.old session.new) }
         ensures told { OnOk result
-            (RoundsTell self.old.last self.new.last word.now rounds session.old session.new
+            (RoundsTell word.now rounds session.old session.new
             (string_bytes answer.old) (string_bytes answer.new)) }
         ensures failed { IfErr result (λ _. (session.new ≡ session.old) ⊎ Plays rounds session.old session.new) }
     {
@@ -557,7 +560,7 @@ impl Debugger {
 
     /// Sends an event so many times, and tells what came of it.
     fn send_often(
-        &mut self,
+        &self,
         alloc: Global,
         session: &mut Session,
         word: &Word,
@@ -567,7 +570,7 @@ impl Debugger {
     ) -> Result<(), AllocError>
         ensures done { IfOk result (λ _. SendsFirst (λ n. replicate n (event_of event)) count session.old session.new) }
         ensures told { OnOk result
-            (SendsTell self.old.last self.new.last word.now (λ n. replicate n (event_of event)) count
+            (SendsTell word.now (λ n. replicate n (event_of event)) count
             session.old session.new (string_bytes answer.old) (string_bytes answer.new)) }
         ensures failed { IfErr result (λ _. (session.new ≡ session.old) ⊎ SendsFirst (λ n. replicate n (event_of event)) count session.old session.new) }
     {
@@ -578,7 +581,7 @@ impl Debugger {
 
     /// Types keys, and tells what came of them.
     fn type_in(
-        &mut self,
+        &self,
         alloc: Global,
         session: &mut Session,
         word: &Word,
@@ -587,7 +590,7 @@ impl Debugger {
     ) -> Result<(), AllocError>
         ensures done { IfOk result (λ _. SendsFirst (λ n. map runs.Key (take n keys.now.items)) (length keys.now.items) session.old session.new) }
         ensures told { OnOk result
-            (SendsTell self.old.last self.new.last word.now (λ n. map runs.Key (take n keys.now.items))
+            (SendsTell word.now (λ n. map runs.Key (take n keys.now.items))
             (length keys.now.items) session.old session.new (string_bytes answer.old) (string_bytes answer.new)) }
         ensures failed { IfErr result (λ _. (session.new ≡ session.old) ⊎ SendsFirst (λ n. map runs.Key (take n keys.now.items)) (length keys.now.items) session.old session.new) }
     {
@@ -596,25 +599,29 @@ impl Debugger {
         self.tell_shown(alloc, session, word, &journey, &output, answer)
     }
 
-    /// What a search waits for; `None` where it is asked of a process, and there is none.
-    fn condition(&self, session: &Session, goal: &Goal) -> Option<Condition>
-        ensures { IsConditionOf self.now.last goal.now session.now.machine.world result }
+    /// What a goal waits for; `None` if it is asked of a process, and there is none.
+    fn aim(&self, session: &Session, goal: &Goal) -> Option<Aim>
+        ensures { IsAimOf goal.now session.now result }
     {
         match *goal {
-            Goal::Call(number) => Some(Condition::Call(number)),
-            Goal::Pc { address, pid } => Some(Condition::At {
-                pid: self.focus(session, pid)?,
-                pc: address,
-            }),
-            Goal::Store(address) => Some(Condition::StoreTo(address)),
-            Goal::Fault => Some(Condition::Fault),
-            Goal::Exit => Some(Condition::Exit),
+            Goal::Call(number) => Some(Aim::On(Condition::Call(number))),
+            Goal::Pc { address, pid } => {
+                let pid = focus(session, pid)?;
+                Some(Aim::On(Condition::At { pid, pc: address }))
+            }
+            Goal::Store(address) => Some(Aim::On(Condition::StoreTo(address))),
+            Goal::Fault => Some(Aim::On(Condition::Fault)),
+            Goal::Exit => Some(Aim::On(Condition::Exit)),
+            Goal::Line => {
+                let pid = focus(session, None)?;
+                motion::line_aim(session, self.sources.as_ref(), pid)
+            }
         }
     }
 
     /// Writes what was sent, and who runs now.
     fn tell(
-        &mut self,
+        &self,
         alloc: Global,
         session: &Session,
         word: &Word,
@@ -623,17 +630,16 @@ impl Debugger {
     ) -> Result<(), AllocError>
         ensures { OnOk result
             (Writes (string_bytes answer.old) (string_bytes answer.new)
-            (IsSentText self.old.last self.new.last word.now session.now journey.now.sent journey.now.stop
+            (IsSentText word.now session.now journey.now.sent journey.now.stop
             (option_map outcome_of journey.now.last) [])) }
     {
-        self.last = last_seen(self.last, &journey.last);
         show_sent(word, journey, answer)?;
         self.show_focus(alloc, session, None, 1, answer)
     }
 
     /// Writes what was sent, what the console showed, and who runs now.
     fn tell_shown(
-        &mut self,
+        &self,
         alloc: Global,
         session: &Session,
         word: &Word,
@@ -643,10 +649,9 @@ impl Debugger {
     ) -> Result<(), AllocError>
         ensures { OnOk result
             (Writes (string_bytes answer.old) (string_bytes answer.new)
-            (IsSentText self.old.last self.new.last word.now session.now journey.now.sent journey.now.stop
+            (IsSentText word.now session.now journey.now.sent journey.now.stop
             (option_map outcome_of journey.now.last) (output_text output.now))) }
     {
-        self.last = last_seen(self.last, &journey.last);
         show_sent(word, journey, answer)?;
         show_output(output, answer)?;
         self.show_focus(alloc, session, None, 1, answer)
@@ -661,7 +666,7 @@ impl Debugger {
         answer: &mut String,
     ) -> Result<(), AllocError>
         ensures { OnOk result
-            (Shows self.old.last self.old.shown session.now word.now
+            (Shows self.old.shown session.now word.now
             (string_bytes answer.old) (string_bytes answer.new)) }
     {
         match word {
@@ -675,9 +680,9 @@ impl Debugger {
             Word::Events { from } => show_events(session, *from, answer),
             Word::Trace { count } => show_trace(session, *count, answer),
             Word::Help { topic } => show_help(*topic, answer),
-            Word::Registers { pid } => self.show_registers_of(session, *pid, answer),
-            Word::Descriptors { pid } => self.show_descriptors_of(session, *pid, answer),
-            Word::Pages { from, pid } => self.show_pages_of(alloc, session, *pid, *from, answer),
+            Word::Registers { pid } => show_registers_of(session, *pid, answer),
+            Word::Descriptors { pid } => show_descriptors_of(session, *pid, answer),
+            Word::Pages { from, pid } => show_pages_of(alloc, session, *pid, *from, answer),
             Word::Memory {
                 address,
                 count,
@@ -688,7 +693,7 @@ impl Debugger {
                 count,
                 size,
                 pid,
-            } => self.show_numbers_of(session, *pid, *from, *size, *count, answer),
+            } => show_numbers_of(session, *pid, *from, *size, *count, answer),
             Word::Callers { pid } => self.show_calls_of(alloc, session, *pid, answer),
             Word::Listing { from, count, pid } => {
                 self.show_listing_of(alloc, session, *pid, *from, *count, answer)
@@ -706,59 +711,6 @@ impl Debugger {
         }
     }
 
-    /// Writes the registers of the process that a word looks at.
-    fn show_registers_of(
-        &self,
-        session: &Session,
-        named: Option<Pid>,
-        answer: &mut String,
-    ) -> Result<(), AllocError>
-        ensures { OnOk result
-            (Writes (string_bytes answer.old) (string_bytes answer.new)
-            (IsOfFocus self.now.last session.now named (λ p text. text ≡ registers_shown session.now p))) }
-    {
-        match self.focus(session, named) {
-            Some(pid) => show_registers(session, pid, answer),
-            None => show_nobody(answer),
-        }
-    }
-
-    /// Writes the descriptors of the process that a word looks at.
-    fn show_descriptors_of(
-        &self,
-        session: &Session,
-        named: Option<Pid>,
-        answer: &mut String,
-    ) -> Result<(), AllocError>
-        ensures { OnOk result
-            (Writes (string_bytes answer.old) (string_bytes answer.new)
-            (IsOfFocus self.now.last session.now named (λ p text. text ≡ descriptors_shown session.now p))) }
-    {
-        match self.focus(session, named) {
-            Some(pid) => show_descriptors(session, pid, answer),
-            None => show_nobody(answer),
-        }
-    }
-
-    /// Writes the tables and pages of the process that a word looks at, from an address on.
-    fn show_pages_of(
-        &self,
-        alloc: Global,
-        session: &Session,
-        named: Option<Pid>,
-        from: u64,
-        answer: &mut String,
-    ) -> Result<(), AllocError>
-        ensures { OnOk result
-            (Writes (string_bytes answer.old) (string_bytes answer.new)
-            (IsOfFocus self.now.last session.now named (λ p. IsPagesText session.now p from))) }
-    {
-        match self.focus(session, named) {
-            Some(pid) => show_pages(alloc, session, pid, from, answer),
-            None => show_nobody(answer),
-        }
-    }
-
     /// Writes the calls that led the process that a word looks at to where it is.
     fn show_calls_of(
         &self,
@@ -769,9 +721,9 @@ impl Debugger {
     ) -> Result<(), AllocError>
         ensures { OnOk result
             (Writes (string_bytes answer.old) (string_bytes answer.new)
-            (IsOfFocus self.now.last session.now named (λ p. IsProcessText session.now p (process_at session.now.machine.world p)))) }
+            (IsOfFocus session.now named (λ p. IsProcessText session.now p (process_at session.now.machine.world p)))) }
     {
-        let Some(pid) = self.focus(session, named) else {
+        let Some(pid) = focus(session, named) else {
             return show_nobody(answer);
         };
         let told = told_calls(alloc, session, self.sources.as_ref(), pid)?;
@@ -790,36 +742,16 @@ impl Debugger {
     ) -> Result<(), AllocError>
         ensures { OnOk result
             (Writes (string_bytes answer.old) (string_bytes answer.new)
-            (IsOfFocus self.now.last session.now named (λ p. IsProcessText session.now p (process_at session.now.machine.world p)))) }
+            (IsOfFocus session.now named (λ p. IsProcessText session.now p (process_at session.now.machine.world p)))) }
     {
-        let Some(pid) = self.focus(session, named) else {
+        let Some(pid) = focus(session, named) else {
             return show_nobody(answer);
         };
         let told = listed_from(alloc, session, self.sources.as_ref(), pid, from, count)?;
         show_process(session, pid, told.as_str(), answer)
     }
 
-    /// Writes so many numbers of the process that a word looks at, from an address on.
-    fn show_numbers_of(
-        &self,
-        session: &Session,
-        named: Option<Pid>,
-        from: u64,
-        size: Size,
-        count: u32,
-        answer: &mut String,
-    ) -> Result<(), AllocError>
-        ensures { OnOk result
-            (Writes (string_bytes answer.old) (string_bytes answer.new)
-            (IsOfFocus self.now.last session.now named (λ p text. text ≡ numbers_shown session.now size p from count))) }
-    {
-        match self.focus(session, named) {
-            Some(pid) => show_numbers(session, pid, from, size, count, answer),
-            None => show_nobody(answer),
-        }
-    }
-
-    /// Writes so many bytes of the process that a word looks at, from this address on, or behind those that were shown
+    /// Writes so many bytes of the process that a word looks at, from this address on, or after those that were shown
     /// last.
     fn show_memory_of(
         &mut self,
@@ -831,10 +763,10 @@ impl Debugger {
     ) -> Result<(), AllocError>
         ensures { OnOk result
             (Writes (string_bytes answer.old) (string_bytes answer.new)
-            (IsOfFocus self.old.last session.now named
+            (IsOfFocus session.now named
             (λ p text. text ≡ memory_shown session.now p (unwrap_or address self.old.shown) count))) }
     {
-        let Some(pid) = self.focus(session, named) else {
+        let Some(pid) = focus(session, named) else {
             return show_nobody(answer);
         };
         let from = address.unwrap_or(self.shown);

@@ -66,11 +66,11 @@ fn show_kept(known: &Known<'_>, kept: &Kept, answer: &mut String) -> Result<(), 
     write!(answer, "mark {number}{once}: ")?;
     match kept.mark {
         Mark::At { program, address } => show_spot(known, program, address, answer),
-        Mark::Store(address) => writeln!(answer, "behind a store to {address:#x}"),
+        Mark::Store(address) => writeln!(answer, "after a store to {address:#x}"),
     }
 }
 
-/// Whether a mark is kept any longer behind a word that went on to where the session is: it isn't for once, or isn't met.
+/// Whether a mark is kept any longer after a word that went on to where the session is: it isn't for once, or isn't met.
 fn is_left(session: &Session, kept: &Kept) -> bool
     ensures { result ≡ is_left (running_of session.now) kept.now }
 {

@@ -14,6 +14,7 @@ mod focus;
 mod happened;
 mod instruction;
 mod kept;
+mod looks;
 mod motion;
 mod names;
 mod pipes;

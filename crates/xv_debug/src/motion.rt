@@ -1,27 +1,35 @@
 //! The debugger's words that move a session: they send it events, or take it back.
 //!
-//! [`step`] sends so many Runs (`specs/motion/Ran.antt`), [`next`] and [`until`] send Runs up to the event that they say
-//! (`specs/motion/Reaching.antt`, `specs/motion/Aims.antt`), and none of them sends one where nobody may run
-//! (`specs/motion/Resting.antt`). [`send_often`], [`type_keys`] and [`play_rounds`] send the other events, and
-//! [`go_back`] takes the last ones back. Each promises which events the session has got then
-//! (`specs/motion/Effects.antt`): no event is sent that isn't kept, and the machine is what they lead to.
+//! [`step`] sends so many Runs (`specs/motion/Ran.antt`); [`search`] sends Runs up to what is waited for, and takes the
+//! bytes that wait in the console (`specs/motion/Reaching.antt`, `specs/motion/Aims.antt`, `specs/motion/Marks.antt`).
+//! Neither sends one if nobody may run (`specs/motion/Resting.antt`). [`send_often`], [`type_keys`] and [`play_rounds`]
+//! send the other events. [`go_back`] takes the last ones back, [`back_until`] those after the last Run that is the aim
+//! (`specs/motion/Backwards.antt`). Each promises which events the session has got then (`specs/motion/Effects.antt`): no
+//! event is sent that isn't kept, and the machine is what they lead to.
 
 mod aiming;
+mod backwards;
 mod finishing;
 mod journey;
+mod lines;
 mod marks;
 mod output;
+mod places;
 mod resting;
 mod rounds;
 mod running;
+mod searching;
 mod sending;
 mod stretches;
 
-pub(crate) use aiming::Aim;
+pub(crate) use aiming::{Aim, aim_in};
+pub(crate) use backwards::back_until;
 pub(crate) use finishing::finish_aim;
 pub(crate) use journey::{Journey, Stop};
-pub(crate) use marks::{is_at_mark, to_mark};
+pub(crate) use lines::line_aim;
+pub(crate) use marks::is_at_mark;
 pub(crate) use output::Output;
 pub(crate) use rounds::play_rounds;
-pub(crate) use running::{next, run_to, step, until};
+pub(crate) use running::step;
+pub(crate) use searching::search;
 pub(crate) use sending::{go_back, send_often, type_keys};

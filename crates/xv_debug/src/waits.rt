@@ -45,7 +45,7 @@ impl<'a> fmt::Display for WaitShown<'a> {
     fn fmt<W: fmt::Write>(&self, f: &mut fmt::Formatter<W>) -> fmt::Result {
         match *self.0 {
             Wait::Until { tick } => write!(f, "sleep, until tick {tick}"),
-            Wait::Child => f.write_str("wait, for a child's end"),
+            Wait::Child => f.write_str("wait, for a child to end"),
             Wait::Keys { fd } => show_on("read of", fd, "a line of keys", f),
             Wait::Sending { fd } => show_on("write to", fd, "room in the console", f),
             Wait::PipeBytes { fd, pipe } => show_in_pipe("read of", fd, "bytes", pipe, f),

@@ -28,7 +28,7 @@ and is named without the .s. The program named init runs first. Functions are to
 if it is there, or else by FILE.
 
 Standard input has words, a line each: help lists them. Without --prompt each line is written
-before its answer, behind a >, so that the words of a file and their answers read well. The end
+before its answer, after a >, so that the words of a file and their answers read well. The end
 of the input ends the debugger, and so do quit and c.
 
 Example:

@@ -1,5 +1,5 @@
--- What `next` waits for: the end of an instruction, and of the function or the kernel call that it calls.
-use Rattle.std.specs.Prelude.{ℕ, ◌&&◌, ◌||◌, Bool, true, false, nat_eq, nat_le, if◌then◌else◌, Option, None, Some}
+-- What Runs are sent for. `next` waits for the end of an instruction, and of the function or the kernel call that it calls.
+use Rattle.std.specs.Prelude.{ℕ, ◌&&◌, ◌||◌, Bool, true, false, nat_eq, nat_le, nat_lt, if◌then◌else◌, Option, None, Some}
 use Rattle.rv64i_core.specs.Registers.{Registers, reg, add}
 use Rattle.rv64i_core.specs.Table.{decoded}
 use Rattle.rv64i_core.specs.declared.instruction.Instr.{Instr}
@@ -9,10 +9,14 @@ use Rattle.kernel_spec.specs.runs.Run.{World, Outcome, Step_of}
 use Rattle.kernel_spec.specs.views.State.{State}
 use Rattle.kernel_spec.specs.views.Words.{is_this}
 use Rattle.kcall_core.specs.Observers.{registers_of}
+use Rattle.xv_machine.specs.Meaning.{Meaning}
 use Rattle.xv_session.specs.Looking.{next_step_of}
+use Rattle.xv_session.specs.Until as searched
+use Rattle.xv_session.specs.Until.{store_awaited}
 use Rattle.xv_session.specs.declared.looking.NextStep.{NextStep}
+use Rattle.xv_session.specs.declared.until.Condition.TheVariants.{StepOf}
 use Rattle.xv_debug.specs.declared.motion.aiming.Aim.{Aim}
-use Rattle.xv_debug.specs.declared.motion.aiming.Aim.TheVariants.{Anything, Step, Answer as Answers, Return}
+use Rattle.xv_debug.specs.declared.motion.aiming.Aim.TheVariants.{Anything, On, Answer as Answers, Return, Outside}
 use Rattle.xv_debug.specs.declared.motion.aiming.Leads.{Leads}
 use Rattle.xv_debug.specs.declared.motion.aiming.Leads.TheVariants.{Kernel, Function, Other}
 
@@ -42,13 +46,13 @@ word_leads (Some word) = decoded_leads (decoded word)
 abbrev pub aim_by : Leads → NextStep → Aim
 aim_by Kernel step = Answers step.pid
 aim_by Function step = Return step.pid (add step.regs.pc 4) (reg step.regs 2)
-aim_by Other step = Step step.pid
+aim_by Other step = On (StepOf step.pid)
 
 abbrev pub aim_of : NextStep → Aim
 aim_of step = aim_by (word_leads step.word) step
 
 abbrev pub aim_at : ℕ → Option NextStep → Aim
-aim_at p None = Step p
+aim_at p None = On (StepOf p)
 aim_at p (Some step) = aim_of step
 
 abbrev pub aim_with : State → Option ℕ → Aim
@@ -61,13 +65,26 @@ aim_in w = aim_with w.state w.turns.current
 
 -- ---- which event it is
 
+-- the registers of process p, if it runs
+abbrev pub regs_if : (runs : Bool) → State → (p : ℕ) → Option Registers
+regs_if true s p = registers_of s p
+regs_if false s p = None
+
 abbrev pub is_back : (pc stack : ℕ) → Option Registers → Bool
 is_back pc stack None = false
 is_back pc stack (Some regs) = nat_eq regs.pc pc && nat_le stack (reg regs 2)
 
 -- process p runs, its next instruction stands at the address, and its stack pointer isn't below this one
 abbrev pub has_returned : (p pc stack : ℕ) → World → Bool
-has_returned p pc stack w = is_this p w.turns.current && is_back pc stack (registers_of w.state p)
+has_returned p pc stack w = is_back pc stack (regs_if (is_this p w.turns.current) w.state p)
+
+abbrev pub is_elsewhere : (first last : ℕ) → Option Registers → Bool
+is_elsewhere first last None = false
+is_elsewhere first last (Some regs) = nat_lt regs.pc first || nat_lt last regs.pc
+
+-- process p runs, and its next instruction stands before the first of these addresses, or after the last
+abbrev pub stands_outside : (p first last : ℕ) → World → Bool
+stands_outside p first last w = is_elsewhere first last (regs_if (is_this p w.turns.current) w.state p)
 
 abbrev pub is_end : Answer → Bool
 is_end (Exited status) = true
@@ -83,19 +100,24 @@ abbrev pub ends_of : ℕ → Outcome → Bool
 ends_of p (Step_of q answer) = is_end answer && nat_eq q p
 ends_of p _ = false
 
--- process p made a step
-abbrev pub is_step_of : ℕ → Outcome → Bool
-is_step_of p (Step_of q answer) = nat_eq q p
-is_step_of p _ = false
-
 -- the kernel answered process p, or it is gone
 abbrev pub is_answer_to : ℕ → Outcome → Bool
 is_answer_to p (Step_of q answer) = is_answer answer && nat_eq q p
 is_answer_to p _ = false
 
--- an event of which this came, and which left this world, is what is waited for
-abbrev pub meets : Aim → Outcome → World → Bool
-meets Anything o w = true
-meets (Step pid) o w = is_step_of pid o
-meets (Answers pid) o w = is_answer_to pid o
-meets (Return pid pc stack) o w = has_returned pid pc stack w || ends_of pid o
+-- it is a store that is waited for, and the process that runs is about to make it
+abbrev pub is_due : Aim → Meaning → Bool
+is_due (On condition) m = store_awaited condition m
+is_due _ m = false
+
+-- an event of which this came, and which left this machine, is what is waited for; before it that store was the next step, or not
+abbrev pub meets_with : Aim → (due : Bool) → Outcome → Meaning → Bool
+meets_with Anything due o m = true
+meets_with (On condition) due o m = searched.meets_with condition due o m
+meets_with (Answers pid) due o m = is_answer_to pid o
+meets_with (Return pid pc stack) due o m = has_returned pid pc stack m.world || ends_of pid o
+meets_with (Outside pid first last) due o m = stands_outside pid first last m.world || ends_of pid o
+
+-- an event of which this came, and which led from the one machine to the other, is what is waited for
+abbrev pub meets : Aim → (before : Meaning) → Outcome → (after : Meaning) → Bool
+meets aim m o n = meets_with aim (is_due aim m) o n

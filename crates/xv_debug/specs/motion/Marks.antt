@@ -3,18 +3,12 @@ use Rattle.std.specs.Prelude.{ℕ, ◌&&◌, ◌||◌, Bool, false, List, Option
 use Rattle.std.specs.List.{list_any}
 use Rattle.kernel_spec.specs.runs.Run.{World, Outcome}
 use Rattle.kernel_spec.specs.views.Words.{is_this}
-use Rattle.rv64i_core.specs.declared.instruction.Instr.{Instr}
 use Rattle.kcall_core.specs.Observers.{registers_of}
 use Rattle.xv_session.specs.Names.{place_in}
-use Rattle.xv_session.specs.Until.{faults, instruction_in, is_done, is_storing, pc_is}
-use Rattle.xv_session.specs.declared.looking.NextStep.{NextStep}
+use Rattle.xv_session.specs.Until.{is_done, is_storing, pc_is}
 use Rattle.xv_session.specs.declared.running.Running.{Running}
 use Rattle.debug_words.specs.declared.vocabulary.Mark.{Mark}
 use Rattle.debug_words.specs.declared.vocabulary.Mark.TheVariants.{At, Store}
-
--- the instruction that a step makes, if its word is one
-abbrev pub instruction_of : NextStep → Option Instr
-instruction_of step = instruction_in step.word
 
 -- process p runs the program at a place, and its next instruction stands at this address
 abbrev pub stands_in : (program pc : ℕ) → Running → Option ℕ → Bool
@@ -34,10 +28,14 @@ abbrev pub is_store_due : World → Mark → Bool
 is_store_due w (At program address) = false
 is_store_due w (Store address) = is_storing address w
 
--- A process is gone by a fault; or an instruction was done, of which it is told whether it was such a store; or the process that runs stands at one of the marks
-abbrev pub meets_with : List Mark → (due : Bool) → Outcome → Running → Bool
-meets_with marks due o r = (faults o || (due && is_done o)) || list_any (is_at_mark r) marks
+-- one of them does
+abbrev pub is_any_due : List Mark → World → Bool
+is_any_due marks w = list_any (is_store_due w) marks
 
--- An event of which this came led from the one to the other, and meets one of the marks, or is a fault
+-- an instruction was done, of which it is told whether it was such a store; or the process that runs stands at one of the marks
+abbrev pub meets_with : List Mark → (due : Bool) → Outcome → Running → Bool
+meets_with marks due o r = (due && is_done o) || list_any (is_at_mark r) marks
+
+-- an event of which this came led from the one to the other, and meets one of the marks
 abbrev pub meets_marks : List Mark → Running → Outcome → Running → Bool
-meets_marks marks before o after = meets_with marks (list_any (is_store_due before.machine.world) marks) o after
+meets_marks marks before o after = meets_with marks (is_any_due marks before.machine.world) o after

@@ -1,5 +1,5 @@
 -- Where nobody may run.
-use Rattle.std.specs.Prelude.{◌≡◌, ℕ, None, IsSome}
+use Rattle.std.specs.Prelude.{◌≡◌, ℕ, [], None, IsSome}
 use Rattle.kernel_spec.specs.runs.Run.{World}
 use Rattle.kernel_spec.specs.waking.Wakes.{IsRunnable}
 use Rattle.xv_debug.specs.declared.motion.journey.Stop.{Stop}
@@ -20,3 +20,12 @@ abbrev pub RestsIf : Stop → World → Type 0
 RestsIf Halted w = RestsBy Halted w
 RestsIf Asleep w = RestsBy Asleep w
 RestsIf _ w = Unit {0}
+
+-- and no byte waits in the console
+abbrev pub RestsQuiet : Stop → World → Type 0
+RestsQuiet stop w = RestsBy stop w × (w.state.console.to_send ≡ [])
+
+abbrev pub RestsQuietIf : Stop → World → Type 0
+RestsQuietIf Halted w = RestsQuiet Halted w
+RestsQuietIf Asleep w = RestsQuiet Asleep w
+RestsQuietIf _ w = Unit {0}

@@ -25,7 +25,7 @@ pub struct Journey {
     /// How many events.
     pub sent: u64,
     pub stop: Stop,
-    /// What came of the last of them; `None` where none was sent, and behind rounds.
+    /// What came of the last of them; `None` where none was sent, and after rounds.
     pub last: Option<Outcome>,
 }
 

@@ -35,7 +35,7 @@ impl Output {
         Ok(Output { last, count: 0 })
     }
 
-    /// These came behind the others.
+    /// These came after the others.
     pub(crate) fn add(&mut self, shown: &[u8])
         ensures { KeepsShown shown.now self.old self.new }
     {

@@ -77,7 +77,7 @@ fn play_round(
     play_parts(session, &parts, output)
 }
 
-/// Plays so many rounds, and none more behind a round in which a process faulted, or where the machine has halted.
+/// Plays so many rounds, and none more after a round in which a process faulted, or where the machine has halted.
 pub(crate) fn play_rounds(
     session: &mut Session,
     quantum: u32,

@@ -12,7 +12,7 @@ returns-in-Ok-clause-told c =
     let after = string_bytes c.tell_back.new.answer in
     on_ok_weaker c.tell_back.result (λ wrote. inl (
       c.in-Ok.ensures.back,
-      subst (λ (n : ℕ). Writes before after (IsBackText c.args.self.now.last c.go_back.new.session n)) c.in-Ok.ensures.count wrote,
+      subst (λ (n : ℕ). Writes before after (IsBackText c.go_back.new.session n)) c.in-Ok.ensures.count wrote,
     )) c.tell_back.ensures
 
 pub returns-in-Err-clause-told : goal.returns-in-Err-clause-told

@@ -1,37 +1,12 @@
-use Rattle.std.proofs.Common.{option_map}
-use Rattle.xv_machine.specs.Events.{outcome_of}
-use Rattle.std.proofs.lemmas.Result.{on_ok_weaker}
-use Rattle.xv_debug.specs.Effects.{Searches}
-use Rattle.xv_debug.specs.motion.Marks.{meets_marks}
+use Rattle.std.proofs.Common.{List, OnOk, string_bytes, subst}
+use Rattle.xv_session.specs.declared.until.Condition.TheVariants.{Fault}
+use Rattle.debug_words.specs.declared.vocabulary.Mark.{Mark}
+use Rattle.xv_debug.specs.AnswerText.{SearchTells}
+use Rattle.xv_debug.specs.motion.Reaching.{meets_one}
+use Rattle.xv_debug.specs.declared.motion.aiming.Aim.TheVariants.{On}
 use Rattle.xv_debug.proofs.debugger.Debugger.go_on.Goals as goal
-
-pub returns-clause-done : goal.returns-clause-done
-returns-clause-done c =
-    let j = c.to_mark-journey in
-    record {
-      stop = j.result.stop;
-      sent = j.result.sent;
-      last = option_map outcome_of j.result.last;
-      added = j.ensures.added;
-      within = j.ensures.within;
-      all = j.ensures.all;
-      reaches = j.ensures.reaches;
-      rests = j.ensures.rests;
-      reason = j.ensures.refused;
-    }
 
 pub returns-clause-told : goal.returns-clause-told
 returns-clause-told c =
-    let j = c.to_mark-journey in
-    let d : Searches (meets_marks c.args.marks.now.items) c.args.session.now j.new.session = record {
-      stop = j.result.stop;
-      sent = j.result.sent;
-      last = option_map outcome_of j.result.last;
-      added = j.ensures.added;
-      within = j.ensures.within;
-      all = j.ensures.all;
-      reaches = j.ensures.reaches;
-      rests = j.ensures.rests;
-      reason = j.ensures.refused;
-    } in
-    on_ok_weaker c.tell.result (λ wrote. (d, wrote)) c.tell.ensures
+    subst (λ (marks : List Mark). OnOk c.search.result (SearchTells c.args.word.now (meets_one (On Fault) marks) c.args.session.now c.search.new.session (string_bytes c.args.answer.now) (string_bytes c.search.new.answer)))
+    c.as_slice.ensures.value c.search.ensures.told

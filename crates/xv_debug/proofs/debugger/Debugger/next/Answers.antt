@@ -1,38 +1,12 @@
-use Rattle.std.proofs.Common.{option_map}
-use Rattle.xv_machine.specs.Events.{outcome_of}
-use Rattle.std.proofs.lemmas.Result.{on_ok_weaker}
-use Rattle.xv_debug.specs.Effects.{Searches}
+use Rattle.std.proofs.Common.{◌∙◌, [], OnOk, ap, string_bytes, subst}
+use Rattle.xv_machine.specs.Meaning.{Meaning}
+use Rattle.xv_debug.specs.AnswerText.{SearchTells}
 use Rattle.xv_debug.specs.motion.Aims.{aim_in}
-use Rattle.xv_debug.specs.motion.Reaching.{meets_aim}
+use Rattle.xv_debug.specs.motion.Reaching.{meets_one}
+use Rattle.xv_debug.specs.declared.motion.aiming.Aim.{Aim}
 use Rattle.xv_debug.proofs.debugger.Debugger.next.Goals as goal
-
-pub returns-clause-done : goal.returns-clause-done
-returns-clause-done c =
-    let j = c.next-journey in
-    record {
-      stop = j.result.stop;
-      sent = j.result.sent;
-      last = option_map outcome_of j.result.last;
-      added = j.ensures.added;
-      within = j.ensures.within;
-      all = j.ensures.all;
-      reaches = j.ensures.reaches;
-      rests = j.ensures.rests;
-      reason = j.ensures.refused;
-    }
 
 pub returns-clause-told : goal.returns-clause-told
 returns-clause-told c =
-    let j = c.next-journey in
-    let d : Searches (meets_aim (aim_in c.args.session.now.machine.world)) c.args.session.now j.new.session = record {
-      stop = j.result.stop;
-      sent = j.result.sent;
-      last = option_map outcome_of j.result.last;
-      added = j.ensures.added;
-      within = j.ensures.within;
-      all = j.ensures.all;
-      reaches = j.ensures.reaches;
-      rests = j.ensures.rests;
-      reason = j.ensures.refused;
-    } in
-    on_ok_weaker c.tell.result (λ wrote. (d, wrote)) c.tell.ensures
+    subst (λ (aim : Aim). OnOk c.search.result (SearchTells c.args.word.now (meets_one aim []) c.args.session.now c.search.new.session (string_bytes c.args.answer.now) (string_bytes c.search.new.answer)))
+    (c.aim_in-aim.ensures ∙ ap (λ (m : Meaning). aim_in m.world) c.machine.ensures.machine) c.search.ensures.told

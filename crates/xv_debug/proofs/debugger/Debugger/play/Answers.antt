@@ -33,6 +33,6 @@ returns-clause-told c =
       (c.in_ok-output.ensures.kept, c.in_ok-output.ensures.none),
       (
         o,
-        subst (λ (n : ℕ). Writes before after (IsSentText c.args.self.now.last c.tell_shown.new.self.last c.args.word.now new n j.result.stop o (output_text j.new.output))) j.ensures.sent wrote,
+        subst (λ (n : ℕ). Writes before after (IsSentText c.args.word.now new n j.result.stop o (output_text j.new.output))) j.ensures.sent wrote,
       ),
     )) c.tell_shown.ensures

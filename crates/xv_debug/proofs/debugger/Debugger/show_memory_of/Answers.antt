@@ -8,11 +8,11 @@ returns c =
     let s = c.args.session.now in
     let p = c.in-Some.pid in
     let from = unwrap_or c.args.address c.args.self.now.shown in
-    of-some c.show_memory.result c.args.self.now.last s c.args.named c.focus.result p (λ p text. text ≡ memory_shown s p from c.args.count) _ _ (memory_shown s p c.unwrap_or-from.result c.args.count) c.focus.ensures c.in-Some.is
+    of-some c.show_memory.result s c.args.named c.focus.result p (λ p text. text ≡ memory_shown s p from c.args.count) _ _ (memory_shown s p c.unwrap_or-from.result c.args.count) c.focus.ensures c.in-Some.is
     (ap (λ a. memory_shown s p a c.args.count) c.unwrap_or-from.ensures) c.show_memory.ensures
 
 pub returns-in_default : goal.returns-in_default
 returns-in_default c =
     let s = c.args.session.now in
     let from = unwrap_or c.args.address c.args.self.now.shown in
-    of-none c.show_nobody.result c.args.self.now.last s c.args.named c.focus.result (λ p text. text ≡ memory_shown s p from c.args.count) _ _ c.focus.ensures c.in_default.is c.show_nobody.ensures
+    of-none c.show_nobody.result s c.args.named c.focus.result (λ p text. text ≡ memory_shown s p from c.args.count) _ _ c.focus.ensures c.in_default.is c.show_nobody.ensures

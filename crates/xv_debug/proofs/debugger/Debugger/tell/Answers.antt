@@ -10,6 +10,5 @@ pub returns : goal.returns
 returns c =
     let s = c.args.session.now in
     let j = c.args.journey.now in
-    let seen = c.last_seen-self.result in
-    shows-behind c.show_focus.result (IsWhereOf seen s None) (IsSentText c.args.self.now.last seen c.args.word.now s j.sent j.stop (option_map outcome_of j.last) []) _ _ _
-    (told_journey c.args.word.now j) c.in_ok-show_sent.ensures (λ rest is. (rest, c.last_seen-self.ensures, is, refl)) c.show_focus.ensures
+    shows-behind c.show_focus.result (IsWhereOf s None) (IsSentText c.args.word.now s j.sent j.stop (option_map outcome_of j.last) []) _ _ _
+    (told_journey c.args.word.now j) c.in_ok-show_sent.ensures (λ rest is. (rest, is, refl)) c.show_focus.ensures

@@ -8,5 +8,4 @@ use Rattle.xv_debug.proofs.debugger.Debugger.tell_back.Goals as goal
 pub returns : goal.returns
 returns c =
     let s = c.args.session.now in
-    let last = c.args.self.now.last in
-    shows-behind c.show_focus.result (IsWhereOf last s None) (IsBackText last s c.args.taken) _ _ _ (back_text c.args.taken) c.in_ok-writeln.ensures.bytes (λ rest is. (rest, is, refl)) c.show_focus.ensures
+    shows-behind c.show_focus.result (IsWhereOf s None) (IsBackText s c.args.taken) _ _ _ (back_text c.args.taken) c.in_ok-writeln.ensures.bytes (λ rest is. (rest, is, refl)) c.show_focus.ensures

@@ -12,12 +12,11 @@ pub returns : goal.returns
 returns c =
     let s = c.args.session.now in
     let j = c.args.journey.now in
-    let seen = c.last_seen-self.result in
     let sent = told_journey c.args.word.now j in
     let shown = output_text c.args.output.now in
     let old = string_bytes c.args.answer.now in
     let mid = string_bytes c.show_sent.new.answer in
     let next = string_bytes c.show_output.new.answer in
-    shows-behind c.show_focus.result (IsWhereOf seen s None) (IsSentText c.args.self.now.last seen c.args.word.now s j.sent j.stop (option_map outcome_of j.last) shown) old next _
+    shows-behind c.show_focus.result (IsWhereOf s None) (IsSentText c.args.word.now s j.sent j.stop (option_map outcome_of j.last) shown) old next _
     (sent ++ shown) (two_behind old mid next sent shown c.in_ok-show_sent.ensures c.in_ok-show_output.ensures)
-    (λ rest is. (rest, c.last_seen-self.ensures, is, append_assoc sent shown rest)) c.show_focus.ensures
+    (λ rest is. (rest, is, append_assoc sent shown rest)) c.show_focus.ensures

@@ -66,5 +66,5 @@ returns-clause-told c =
     } in
     let before = string_bytes c.args.answer.now in
     let after = string_bytes c.tell_shown.new.answer in
-    subst (λ (ks : List ℕ). OnOk c.tell_shown.result (SendsTell c.args.self.now.last c.tell_shown.new.self.last c.args.word.now (λ n. map Key (take n ks)) (length ks) old new before after)) c.as_slice.ensures.value
+    subst (λ (ks : List ℕ). OnOk c.tell_shown.result (SendsTell c.args.word.now (λ n. map Key (take n ks)) (length ks) old new before after)) c.as_slice.ensures.value
     (on_ok_weaker c.tell_shown.result (λ wrote. (p, (c.in_ok-output.ensures.kept, c.in_ok-output.ensures.none), wrote)) c.tell_shown.ensures)

@@ -1,0 +1,12 @@
+use Rattle.std.proofs.Common.{ℕ, Option, Some, inl, inr, subst}
+use Rattle.std.proofs.lemmas.Result.{on_ok_weaker}
+use Rattle.xv_debug.specs.motion.Backwards.{GoesBackUntil}
+use Rattle.xv_debug.proofs.debugger.Debugger.go_back_until.Goals as goal
+
+pub returns-in-Ok-Some-clause-done : goal.returns-in-Ok-Some-clause-done
+returns-in-Ok-Some-clause-done c = inr (c.in-Ok-Some.field-0, c.in-Ok-Some.ensures.back)
+
+pub returns-in-Ok-Some-clause-told : goal.returns-in-Ok-Some-clause-told
+returns-in-Ok-Some-clause-told c =
+    let back = subst (λ (taken : Option ℕ). GoesBackUntil c.args.aim.now taken c.args.session.now c.back_until.new.session) c.in-Ok-Some.field-0-is c.in-Ok-Some.ensures.back in
+    on_ok_weaker c.tell_back.result (λ wrote. inl (Some c.in-Ok-Some.taken, back, wrote)) c.tell_back.ensures

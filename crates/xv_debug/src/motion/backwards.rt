@@ -1,0 +1,153 @@
+//! Going back to the last Run that was what is waited for.
+ghost use Rattle.std.specs.Prelude.{◌≡◌, ◌+◌, ◌-◌, ◌^◌, ◌≤◌, ◌<◌, IfOk, IfErr, drop, length, replicate, take};
+ghost use Rattle.xv_machine.specs.Events.{event_of};
+ghost use Rattle.xv_debug.specs.motion.Backwards.{GoesBackUntil, IsLast, Looked, LookedAt, LooksFrom, is_run, later};
+
+use crate::motion::aiming::{Aim, is_due, is_met};
+use std::alloc::Global;
+use xv_machine::{Event, Machine};
+use xv_session::{Session, SessionError};
+
+/// How many events are looked at first.
+const FIRST_WINDOW: u64 = 1024;
+
+/// How many times as many each time.
+const WINDOW_GROWTH: u64 = 16;
+
+/// How often, before all events are looked at.
+const WINDOWS: u32 = 8;
+
+/// Whether an event is a Run.
+fn is_run(event: Event) -> bool
+    ensures { result ≡ is_run (event_of event) }
+{
+    match event {
+        Event::Run => true,
+        _ => false,
+    }
+}
+
+/// The place, if a Run that is what is waited for led there, and else what was found before.
+fn later(hit: bool, place: u64, found: Option<u64>) -> Option<u64>
+    ensures { result ≡ later hit place found }
+{
+    if hit { Some(place) } else { found }
+}
+
+/// Sends the machine an event, by which the run comes to a place, and tells whether it is a Run that is the aim.
+fn look(machine: &mut Machine, event: Event, aim: &Aim) -> bool
+    ensures { LookedAt aim.now (event_of event) machine.old machine.new result }
+{
+    let due = is_due(aim, machine);
+    let outcome = machine.event(event);
+    is_run(event) & is_met(aim, due, &outcome, machine)
+}
+
+/// Sends the machine an event so often, from a place of the run on.
+fn look_often(
+    machine: &mut Machine,
+    event: Event,
+    count: u64,
+    place: u64,
+    aim: &Aim,
+    found: Option<u64>,
+) -> Option<u64>
+    requires { place + count < 2 ^ 64 }
+    ensures { Looked aim.now (replicate count (event_of event)) place found machine.old machine.new result }
+{
+    let mut last = found;
+    for done in 0..count {
+        let hit = look(machine, event, aim);
+        last = later(hit, place + done + 1, last);
+    }
+    last
+}
+
+/// So many equal events.
+#[derive(Clone, Copy)]
+struct Equal {
+    event: Event,
+    count: u64,
+}
+
+/// Equal events from a place on, before another one.
+fn equal_from(session: &Session, place: u64, end: u64) -> Equal
+    requires before { place < end }
+    requires there { end ≤ length session.now.events }
+    ensures some { 0 < result.count }
+    ensures within { place + result.count ≤ end }
+    ensures those { take result.count (drop place session.now.events) ≡ replicate result.count (event_of result.event) }
+{
+    let Some((event, equal)) = session.events_from(place) else {
+        unreachable!();
+    };
+    Equal {
+        event,
+        count: equal.min(end - place),
+    }
+}
+
+/// The last place before `end` to which a Run led that is the aim, from a place on.
+fn last_from(
+    alloc: Global,
+    session: &Session,
+    aim: &Aim,
+    begin: u64,
+    end: u64,
+) -> Result<Option<u64>, SessionError>
+    requires begins { begin ≤ end }
+    requires ends { end ≡ length session.now.events - 1 }
+    ensures looks { IfOk result (LooksFrom aim.now begin session.now) }
+    ensures memory { IfErr result (λ e. e ≡ SessionError.Memory) }
+{
+    let mut machine = session.machine_at(alloc, begin)?;
+    let mut place = begin;
+    let mut found = None;
+    'spans: while place < end {
+        let next = equal_from(session, place, end);
+        found = look_often(&mut machine, next.event, next.count, place, aim, found);
+        place += next.count;
+    }
+    Ok(found)
+}
+
+/// The last place before here to which a Run led that is the aim. It is looked for from ever further back on.
+fn last_place(alloc: Global, session: &Session, aim: &Aim) -> Result<Option<u64>, SessionError>
+    ensures last { IfOk result (IsLast aim.now session.now) }
+    ensures memory { IfErr result (λ e. e ≡ SessionError.Memory) }
+{
+    let end = session.at().saturating_sub(1);
+    let mut window = FIRST_WINDOW;
+    for _ in 0..WINDOWS {
+        let begin = end.saturating_sub(window);
+        let found = last_from(alloc, session, aim, begin, end)?;
+        if found.is_some() || begin == 0 {
+            return Ok(found);
+        }
+        window = window.saturating_mul(WINDOW_GROWTH);
+    }
+    last_from(alloc, session, aim, 0, end)
+}
+
+/// Goes back to the last place before here to which a Run led that is the aim. The answer is how many events that took
+/// back; `None` if there is no such place: nothing is changed.
+///
+/// # Errors
+///
+/// [`SessionError::Memory`] if the host has too little memory for a second machine: nothing is changed.
+pub(crate) fn back_until(
+    alloc: Global,
+    session: &mut Session,
+    aim: &Aim,
+) -> Result<Option<u64>, SessionError>
+    ensures back { IfOk result (λ taken. GoesBackUntil aim.now taken session.old session.new) }
+    ensures refused { IfErr result (λ _. session.new ≡ session.old) }
+    ensures memory { IfErr result (λ e. e ≡ SessionError.Memory) }
+{
+    let Some(place) = last_place(alloc, session, aim)? else {
+        return Ok(None);
+    };
+    let taken = session.at().saturating_sub(place);
+    session.back_to(alloc, place)?;
+    Ok(Some(taken))
+}
