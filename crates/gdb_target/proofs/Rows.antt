@@ -1,7 +1,7 @@
 -- Runs that lead to no stop are so many stretches, at none of whose ends a process of the program stands at a breakpoint.
 use Rattle.std.proofs.Common.{◌≡◌, ◌∙◌, ℕ, zero, suc, ◌+◌, ◌<◌, ◌≤◌, inl, Bool, true, false, List, [], ◌∷◌, ◌++◌, refl, sym, ap, subst, arith, length, length-append, Option, None, Some}
 use Rattle.std.specs.Prelude.{replicate, ◌&&◌, ◌||◌, not, is_some}
-use Rattle.std.proofs.lemmas.Bool.{and_parts}
+use Rattle.std.proofs.lemmas.Bool.{and_parts, or_parts, not-true}
 use Rattle.std.proofs.lemmas.List.{length-replicate}
 use Rattle.kernel_spec.specs.runs.Run.{Run, Outcome, Step_of, Turn, Idle, Ticked, Typed, Sent, Halted}
 use Rattle.kcall_core.specs.Observers.{registers_of}
@@ -34,10 +34,6 @@ use Rattle.gdb_target.proofs.PlayedOn.{played_send, run_of_true}
 
 -- ---- a place that is before no stop
 
-or-none : (a b : Bool) → (a || b) ≡ false → a ≡ false
-or-none true b h = h
-or-none false b h = refl
-
 among-none : (addresses : List ℕ) (o : Option Registers) → pc_is_one addresses o ≡ false → is_among addresses o ≡ false
 among-none addresses None h = refl
 among-none addresses (Some regs) h = h
@@ -54,7 +50,7 @@ nobody-stands run program addresses bytes free = by run.session.machine.world.tu
     by None free = refl
     by (Some p) free =
         let s = run.session.machine.world.state in
-        at p (begins run p) (among-none addresses (registers_of s p) (or-none (is_at_one addresses s p) (stores_to_one bytes s p) free))
+        at p (begins run p) (among-none addresses (registers_of s p) (or_parts (is_at_one addresses s p) (stores_to_one bytes s p) free).0)
 
 no-step : (o : Outcome) → is_step Point o ≡ false
 no-step (Step_of p a) = by (is_done a)
@@ -197,10 +193,6 @@ module _ (t : Target) (bytes : List ℕ) (count : ℕ) (free : is_before_stop t.
       }
 
 -- ---- where it may start
-
-not-true : (b : Bool) → not b ≡ true → b ≡ false
-not-true true h = sym h
-not-true false h = refl
 
 row-free : (t to : Target) (bytes : List ℕ) (o : Outcome) → is_free bytes t ≡ true → RunsToStop t.points.breakpoints.items bytes t.run o to.run → IsRow t o to
 row-free t to bytes o starts ran =

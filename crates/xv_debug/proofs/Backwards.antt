@@ -1,6 +1,8 @@
 -- A run that is played again, to find the last place that was what is waited for.
-use Rattle.std.proofs.Common.{◌≡◌, ◌∙◌, ◌+◌, ◌-◌, ◌<◌, ◌≤◌, ℕ, zero, suc, Bool, List, [], ◌∷◌, ◌++◌, length, drop, take, Option, None, Some, min, replicate, refl, sym, ap, ap₂, subst, append_assoc, append-nil, arith}
-use Rattle.std.proofs.lemmas.List.{length-append, length-replicate, length-take-le, replicate-append-replicate, take-take, take-append-drop, take-replicate, drop-take}
+use Rattle.std.proofs.Common.{◌≡◌, ◌∙◌, ◌+◌, ◌-◌, ◌<◌, ◌≤◌, ℕ, zero, suc, Bool, List, [], ◌∷◌, ◌++◌, length, drop, take, Option, None, Some, min, replicate}
+use Rattle.std.proofs.Common.{refl, sym, ap, ap₂, subst, append_assoc, append-nil, arith}
+use Rattle.std.proofs.Math.Seq.{take-add}
+use Rattle.std.proofs.lemmas.List.{length-append, length-replicate, length-take-le, replicate-append-replicate, take-take, take-replicate}
 use Rattle.kernel_spec.specs.runs.Run.{Event}
 use Rattle.xv_machine.specs.Meaning.{Meaning}
 use Rattle.xv_session.specs.Recorded.{Recorded, IsPlayed}
@@ -27,10 +29,6 @@ looked-more aim e n place found mid answer hit a b c so_far one is =
     subst (λ (es : List Event). Looked aim es place found a c answer) (replicate-append-replicate n 1 e)
     (looked-join aim (replicate n e) (e ∷ []) place found mid answer a b c so_far (c, hit, one, (refl, next)))
 
-take-add : (n m : ℕ) (xs : List Event) → take n xs ++ take m (drop n xs) ≡ take (n + m) xs
-take-add n m xs =
-    sym (ap₂ (λ (us vs : List Event). us ++ vs) (take-take n (n + m) xs (omega arith)) (drop-take n m xs)) ∙ take-append-drop n (take (n + m) xs)
-
 -- the next of equal events, so many
 pub looked-to-more : (aim : Aim) (begin place count : ℕ) (e : Event) (s : Recorded) (m n : Meaning) (found answer : Option ℕ) → begin ≤ place → place ≤ length s.events
     → take count (drop place s.events) ≡ replicate count e → LookedTo aim begin place s m found → Looked aim (replicate count e) place found m n answer → LookedTo aim begin (place + count) s n answer
@@ -45,7 +43,7 @@ looked-to-more aim begin place count e s m n found answer from within next p mor
       list = p.list ++ replicate count e;
       played = p.played;
       those = sym (append_assoc (take begin all) p.list (replicate count e)) ∙ ap (λ (es : List Event). es ++ replicate count e) p.those
-          ∙ ap (λ (es : List Event). take place all ++ es) (sym next) ∙ take-add place count all;
+          ∙ ap (λ (es : List Event). take place all ++ es) (sym next) ∙ sym (take-add place count all);
       looked = looked-join aim p.list (replicate count e) begin None found answer p.from m n p.looked (subst (λ (k : ℕ). Looked aim (replicate count e) k found m n answer) (sym here) more);
     }
 

@@ -1,5 +1,6 @@
 -- Events that are sent up to a Run that is what is waited for.
-use Rattle.std.proofs.Common.{◌≡◌, ◌≢◌, ◌||◌, ◌<◌, ◌≤◌, ◌+◌, ◌∙◌, ℕ, zero, suc, Bool, true, false, List, [], ◌∷◌, ◌++◌, length, Option, None, Some, replicate, refl, sym, ap, ap₂, subst, append_assoc, append-nil, add-one, arith, slice_get, is_some, option_map, Result, Ok, Err, IfOk, IfSome}
+use Rattle.std.proofs.Common.{◌≡◌, ◌≢◌, ◌||◌, ◌<◌, ◌≤◌, ◌+◌, ◌∙◌, ℕ, zero, suc, Bool, true, false, List, [], ◌∷◌, ◌++◌, length, Option, None, Some}
+use Rattle.std.proofs.Common.{replicate, refl, sym, ap, ap₂, subst, append_assoc, append-nil, add-one, arith, slice_get, is_some, option_map, Result, Ok, Err, IfOk, IfSome}
 use Rattle.std.proofs.lemmas.List.{map-append, length-append}
 use Rattle.std.proofs.lemmas.Grind.{flat_map-append}
 use Rattle.std.proofs.lemmas.Option.{same_Some}
@@ -73,7 +74,8 @@ goes-join test met n m before last a b c i j k some p q =
 
 -- ---- one event
 
-pub goes-byte : (test : Test) (o : Outcome) (old new : Recorded) (had has : Output) → waiting (running_of old) ≢ [] → Sent old runs.Send o new → KeepsShown (bytes_out o) had has → Goes test false 1 (Some o) old new had has
+pub goes-byte : (test : Test) (o : Outcome) (old new : Recorded) (had has : Output) → waiting (running_of old) ≢ []
+    → Sent old runs.Send o new → KeepsShown (bytes_out o) had has → Goes test false 1 (Some o) old new had has
 goes-byte test o old new had has waits (one, same) shown = record {
   list = (runs.Send, o) ∷ [];
   adds = same;
@@ -152,7 +154,8 @@ module _ (aim : Aim) (marks : List Mark) (pcs bs : List ℕ) (far : IsFar aim) (
       }
 
   -- and the last of them is, or isn't
-  pub goes-often : (most sent : ℕ) (stopped met : Bool) (told : Option Outcome) (o : Outcome) (old new : Recorded) (had has : Output) → 0 < most → waiting (running_of old) ≡ [] → AreUndue aim marks old.machine
+  pub goes-often : (most sent : ℕ) (stopped met : Bool) (told : Option Outcome) (o : Outcome) (old new : Recorded) (had has : Output) → 0 < most
+    → waiting (running_of old) ≡ [] → AreUndue aim marks old.machine
       → length had.last.items ≤ had.last.capacity → Stopped pcs bs most sent stopped told old new → told ≡ Some o → KeepsShown (bytes_out o) had has
       → ((aims.meets_with aim false o new.machine || marked.meets_with marks false o (running_of new)) ≡ met) → Goes (meets_one aim marks) met sent (Some o) old new had has
   goes-often most zero stopped met told o old new had has some quiet before fits ((none, a, b, d), same) is shown was = let bad : ⊥ = omega (arith, some, none) in absurd bad
@@ -167,9 +170,11 @@ module _ (aim : Aim) (marks : List Mark) (pcs bs : List ℕ) (far : IsFar aim) (
         list = list;
         adds = subst (λ (es : List Event). Adds es old new) (sym those) same;
         count = length-append p.list ((Run, o) ∷ []) ∙ ap (λ (k : ℕ). k + 1) p.count ∙ add-one n;
-        reaches = reaches-join met (meets_one aim marks) p.list ((Run, o) ∷ []) (running_of old) mid (running_of new) p.none (reaches-run met (meets_one aim marks) o mid (running_of new) p.quiet last_one met_is);
+        reaches = reaches-join met (meets_one aim marks) p.list ((Run, o) ∷ []) (running_of old) mid (running_of new) p.none
+            (reaches-run met (meets_one aim marks) o mid (running_of new) p.quiet last_one met_is);
         last_is = sym (last-one p.list Run o);
-        shown = subst (λ (bs : List ℕ). KeepsShown bs had has) (sym (flat_map-append (λ (e : Event × Outcome). bytes_out e.1) p.list ((Run, o) ∷ []) ∙ ap₂ (λ (us vs : List ℕ). us ++ vs) p.silent (append-nil (bytes_out o)))) shown;
+        shown = subst (λ (bs : List ℕ). KeepsShown bs had has) (sym (flat_map-append (λ (e : Event × Outcome). bytes_out e.1) p.list ((Run, o) ∷ [])
+            ∙ ap₂ (λ (us vs : List ℕ). us ++ vs) p.silent (append-nil (bytes_out o)))) shown;
       }
 
 -- ---- whether a byte waits
@@ -209,11 +214,13 @@ one_forth (Err e) one = tt
 
 -- ---- the last is what is waited for
 
-pub reaches_met : (test : Test) (most n : ℕ) (last : Option Outcome) (old new : Recorded) (had has : Output) → n ≤ most → Goes test true n last old new had has → Reaches test most Met n last old new had has
+pub reaches_met : (test : Test) (most n : ℕ) (last : Option Outcome) (old new : Recorded) (had has : Output) → n ≤ most
+    → Goes test true n last old new had has → Reaches test most Met n last old new had has
 reaches_met test most n last old new had has within goes = record { goes = goes; within = within; all = λ is. let bad : ⊥ = cc in absurd bad; rests = tt; reason = tt }
 
 -- as a word's journey tells it
-pub reaches_told : (test : Test) (most : ℕ) (j : Journey) (n m : ℕ) (stop : Stop) (last : Option declared.Outcome) (old new : Recorded) (had has : Output) → j ≡ record { sent = m; stop = stop; last = last } → m ≡ n
+pub reaches_told : (test : Test) (most : ℕ) (j : Journey) (n m : ℕ) (stop : Stop) (last : Option declared.Outcome) (old new : Recorded) (had has : Output)
+    → j ≡ record { sent = m; stop = stop; last = last } → m ≡ n
     → Reaches test most stop n (option_map outcome_of last) old new had has → Reaches test most j.stop j.sent (option_map outcome_of j.last) old new had has
 reaches_told test most j n m stop last old new had has is same reaches =
     subst (λ (k : Journey). Reaches test most k.stop k.sent (option_map outcome_of k.last) old new had has) (sym is)

@@ -6,6 +6,7 @@ use Rattle.std.proofs.lemmas.Bool.{or_parts, or_from, and_left, and_right, ne_eq
 use Rattle.std.proofs.lemmas.List.Folds.{list_any-append}
 use Rattle.rv64i_core.specs.Registers.{Registers, reg}
 use Rattle.kernel_spec.specs.runs.Run as runs
+use Rattle.kernel_spec.proofs.Common.{or_false}
 use Rattle.kernel_spec.specs.runs.Run.{Outcome, Step_of, World}
 use Rattle.kernel_spec.specs.steps.Own as answers
 use Rattle.kernel_spec.specs.views.State.{State}
@@ -48,17 +49,13 @@ each-one f g (x ∷ xs) same none =
     let parts = or_parts (f x) (list_any f xs) none in
     or_from (g x) (list_any g xs) (sym (same x) ∙ parts.0) (each-one f g xs same parts.1)
 
-or-none : (b : Bool) → b ≡ (b || false)
-or-none true = refl
-or-none false = refl
-
 not-at : (pcs bs : List ℕ) (s : State) (current : Option ℕ) → stops_for pcs bs s current ≡ false → list_any (at_in s current) pcs ≡ false
 not-at pcs bs s None none = never-one pcs
 not-at pcs bs s (Some p) none = by (registers_of s p) (or_parts (pc_is_one pcs (registers_of s p)) _ none).0
   where
     by : (r : Option Registers) → pc_is_one pcs r ≡ false → list_any (λ a. pc_is_one (a ∷ []) r) pcs ≡ false
     by None e = never-one pcs
-    by (Some regs) e = each-one (λ a. nat_eq a regs.pc) (λ a. nat_eq a regs.pc || false) pcs (λ a. or-none (nat_eq a regs.pc)) e
+    by (Some regs) e = each-one (λ a. nat_eq a regs.pc) (λ a. nat_eq a regs.pc || false) pcs (λ a. or_false (nat_eq a regs.pc)) e
 
 not-stored : (pcs bs : List ℕ) (s : State) (current : Option ℕ) → stops_for pcs bs s current ≡ false → list_any (λ a. storing_in a s current) bs ≡ false
 not-stored pcs bs s None none = never-one bs
