@@ -16,6 +16,6 @@ end:
   li a7, 2            # exit(0)
   ecall
 .data
-count: .zero 8
+count: .dword 0
 console: .asciz "console"
-text: .ascii "a line of more bytes than the console has\nand another\n"
+text: .asciz "a line of more bytes than the console has\nand another\n"
