@@ -155,7 +155,7 @@ module _ (aim : Aim) (marks : List Mark) (pcs bs : List ℕ) (far : IsFar aim) (
 
   -- and the last of them is, or isn't
   pub goes-often : (most sent : ℕ) (stopped met : Bool) (told : Option Outcome) (o : Outcome) (old new : Recorded) (had has : Output) → 0 < most
-    → waiting (running_of old) ≡ [] → AreUndue aim marks old.machine
+      → waiting (running_of old) ≡ [] → AreUndue aim marks old.machine
       → length had.last.items ≤ had.last.capacity → Stopped pcs bs most sent stopped told old new → told ≡ Some o → KeepsShown (bytes_out o) had has
       → ((aims.meets_with aim false o new.machine || marked.meets_with marks false o (running_of new)) ≡ met) → Goes (meets_one aim marks) met sent (Some o) old new had has
   goes-often most zero stopped met told o old new had has some quiet before fits ((none, a, b, d), same) is shown was = let bad : ⊥ = omega (arith, some, none) in absurd bad

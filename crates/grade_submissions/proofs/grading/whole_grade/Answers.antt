@@ -15,8 +15,8 @@ returns g c =
     let read : map (λ line. line.now) c.as_slice-2.result.now ≡ lines c.args.refused.now =
     ap (λ list. map (λ line. line.now) list) c.as_slice-2.ensures.value ∙ c.in_ok-lines.ensures in
     let all = subst (λ (runs : List Run).
-        AreResultsOf reads (record { exercise = exercise; handing = record { folder = folder; refused = map (λ line. line.now) c.as_slice-2.result.now } }) runs results)
+    AreResultsOf reads (record { exercise = exercise; handing = record { folder = folder; refused = map (λ line. line.now) c.as_slice-2.result.now } }) runs results)
     c.as_slice.ensures.value c.in_ok-runs.ensures in
     let here = subst (λ (said : List (List ℕ)).
-        AreResultsOf reads (record { exercise = exercise; handing = record { folder = folder; refused = said } }) c.args.exercise.now.runs.items results) read all in
+    AreResultsOf reads (record { exercise = exercise; handing = record { folder = folder; refused = said } }) c.args.exercise.now.runs.items results) read all in
     whole reads (places_in exercise folder c.args.refused.now) c.args.exercise.now results c.in_ok-of.field-0 here (rw (of.runs) refl) of.points of.asked of.standing of.reason

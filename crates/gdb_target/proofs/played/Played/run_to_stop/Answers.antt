@@ -20,7 +20,7 @@ invariant_of-self c =
           (λ f sent.
           let few : f.sent ≤ c.min.result = went-within _ _ c.min.result f.met (option_map outcome_of f.last) (running_of s.session) (running_of c.run_to_stop.new.self) f.sent sent.0 in
           played_runs s.rounds.keys.items s.rounds.quantum s.session.events c.run_to_stop.new.self.events f.sent n.result.count s.played
-            (omega (arith, few, c.min.ensures)) (λ k h. n.ensures.equal k h ∙ runs_next)
+          (omega (arith, few, c.min.ensures)) (λ k h. n.ensures.equal k h ∙ runs_next)
           (ap (λ (x : Recorded). x.events) sent.1))
           (λ e same. played_still s.rounds.keys.items s.rounds.quantum s.session.events c.run_to_stop.new.self.events s.played (ap (λ (x : Recorded). x.events) same));
     }
@@ -43,7 +43,7 @@ returns-clause-row c =
     let runs_next : event_of n.result.event ≡ Run = sym n.ensures.event ∙ c.requires.runs in
     let few : f.sent ≤ c.min.result =
     went-within c.args.addresses.now c.args.bytes.now c.min.result f.met (option_map outcome_of f.last) (running_of s.session)
-        (running_of c.run_to_stop.new.self) f.sent c.in_ok-found.ensures.stopped.0 in
+    (running_of c.run_to_stop.new.self) f.sent c.in_ok-found.ensures.stopped.0 in
     let some : 0 < c.min.result = omega (arith, c.min.ensures, c.requires.some, c.next-next.ensures.some) in
     let (o, is) = something-came c.args.addresses.now c.args.bytes.now c.min.result f.met (option_map outcome_of f.last) (running_of s.session) (running_of c.run_to_stop.new.self) f.sent
     c.in_ok-found.ensures.stopped.0 some in

@@ -30,4 +30,4 @@ returns-clause-goes c =
     let row = row-of t mid c.args.bytes.now o c.requires.watched starts.1 c.in_ok-row.ensures.row in
     subst (λ (u : Until). IfOk c.judged.result (λ p. GoesBy u t p c.judged.new.self)) (sym starts.0)
     (IfOk-weaker c.judged.result _ _ (λ p judged.
-      row-goes t mid c.judged.new.self o p row (subst (λ (u : Until). IsJudged (is_step u o) mid p c.judged.new.self) starts.0 judged)) c.judged.ensures.judged)
+    row-goes t mid c.judged.new.self o p row (subst (λ (u : Until). IsJudged (is_step u o) mid p c.judged.new.self) starts.0 judged)) c.judged.ensures.judged)
