@@ -84,7 +84,8 @@ def open_functions(text, home):
         crate, *path = name.split("::")
         own = re.escape(f"Rattle.{crate}.proofs.{'.'.join(path)}.")
         goals = re.findall(f"`{own}\\w+\\.([^`]*)`", verdict)
-        goals += re.findall(r"`([^`\s]+)`", verdict.partition("did not prove ")[2].partition(";")[0])
+        for words in ("did not prove ", "`#[tactic(none)]` leaves "):
+            goals += re.findall(r"`([^`\s]+)`", verdict.partition(words)[2].partition(";")[0])
         if "::laws::" in name:
             goals += clauses_on(home, f"proofs/{'/'.join(path)}/Answers.antt", refused)
         yield Open(name, tuple(dict.fromkeys(goals)), verdict)
