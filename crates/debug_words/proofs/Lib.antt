@@ -1,2 +1,3 @@
 pub mod Appends
 mod WorkedTexts
+mod WorkedTokens

@@ -12,7 +12,7 @@ fn show_all(answer: &mut String) -> Result<(), AllocError> {
     Ok(())
 }
 
-/// Writes what a word does, or a line for each.
+/// Writes what a word does, or a line for each. What its text says, no contract tells.
 pub fn show_help(topic: Option<Topic>, answer: &mut String) -> Result<(), AllocError> {
     let Some(topic) = topic else {
         return show_all(answer);

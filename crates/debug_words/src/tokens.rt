@@ -1,4 +1,7 @@
 //! The words of a line, one behind another.
+ghost use Rattle.std.specs.Prelude.{◌≡◌, IfErr, IfOk, option_map};
+ghost use Rattle.debug_words.specs.Tokens.{IsTooMuch, word_at};
+
 use crate::fault::WordErrorKind;
 
 /// The most words that a line may have.
@@ -13,7 +16,7 @@ pub(crate) struct Tokens<'a> {
 
 impl<'a> Tokens<'a> {
     /// Those of a line.
-    pub fn of(line: &'a str) -> Tokens<'a> {
+    pub(crate) fn of(line: &'a str) -> Tokens<'a> {
         let mut tokens = [""; TOKENS_MOST];
         let mut count: usize = 0;
         for token in line.split_whitespace() {
@@ -26,7 +29,9 @@ impl<'a> Tokens<'a> {
     }
 
     /// The one at a place; `None` where there are fewer.
-    pub fn get(&self, place: usize) -> Option<&'a str> {
+    pub fn get(&self, place: usize) -> Option<&'a str>
+        ensures { option_map (λ w. w.now) result ≡ word_at self.now place }
+    {
         if place < self.count && place < TOKENS_MOST {
             Some(self.tokens[place])
         } else {
@@ -35,7 +40,10 @@ impl<'a> Tokens<'a> {
     }
 
     /// That there is none at a place.
-    pub fn end(&self, place: usize) -> Result<(), WordErrorKind<'a>> {
+    pub fn end(&self, place: usize) -> Result<(), WordErrorKind<'a>>
+        ensures none { IfOk result (λ _. word_at self.now place ≡ None) }
+        ensures told { IfErr result (IsTooMuch (word_at self.now place)) }
+    {
         match self.get(place) {
             None => Ok(()),
             Some(token) => Err(WordErrorKind::TooMuch(token)),

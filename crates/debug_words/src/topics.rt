@@ -83,7 +83,7 @@ fn parted(text: &'static str, by: char) -> (&'static str, &'static str) {
 
 impl Topic {
     /// The topic of this name, long or short.
-    pub fn named(name: &str) -> Option<Topic> {
+    pub(crate) fn named(name: &str) -> Option<Topic> {
         for topic in TOPICS {
             if topic.is_named(name) {
                 return Some(topic);

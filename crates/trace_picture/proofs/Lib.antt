@@ -1,3 +1,5 @@
 mod Phases
 mod Named
+mod Told
 mod WorkedNames
+mod WorkedRemarks

@@ -1,5 +1,5 @@
 //! A trace by processes.
-ghost use Rattle.std.specs.Prelude.{◌≡◌, ◌++◌, IfOk, OnOk, All};
+ghost use Rattle.std.specs.Prelude.{◌≡◌, ◌++◌, ◌==◌, position, IfOk, OnOk, All};
 ghost use Rattle.std.specs.Option.{option_to_list};
 ghost use Rattle.trace_picture.specs.Row.{actor, answered_pid, newborn, AreNamed, IsRowOf, pids_of};
 
@@ -111,7 +111,9 @@ impl Chart {
     }
 
     /// The place of the row of a process; `None` where it has no row.
-    pub fn place_of(&self, pid: u32) -> Option<usize> {
+    pub fn place_of(&self, pid: u32) -> Option<usize>
+        ensures { result ≡ position (λ row. row.pid == pid) self.now.rows.items }
+    {
         self.rows.iter().position(|row| row.pid == pid)
     }
 }

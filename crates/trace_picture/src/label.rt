@@ -1,4 +1,7 @@
 //! How processes are named in a picture.
+ghost use Rattle.std.specs.Prelude.{◌≡◌, option_map};
+ghost use Rattle.trace_picture.specs.Remarks.{program_at, wait_in};
+
 use crate::chart::Chart;
 use crate::remark::{Remarks, last_told};
 use std::fmt::{self, Display};
@@ -106,7 +109,10 @@ impl<'a> Display for RowName<'a> {
 }
 
 /// A process, with the program that it runs behind the first events, so many.
-pub fn who_at<'a>(remarks: &'a Remarks, pid: u32, events: usize) -> Who<'a> {
+pub fn who_at<'a>(remarks: &'a Remarks, pid: u32, events: usize) -> Who<'a>
+    ensures pid { result.pid ≡ pid }
+    ensures program { option_map (λ p. p.now) result.program ≡ program_at remarks.now pid events }
+{
     let program = match last_told(remarks.names.as_slice(), pid, events) {
         Some(remark) => Some(remark.text.as_str()),
         None => None,
@@ -115,7 +121,9 @@ pub fn who_at<'a>(remarks: &'a Remarks, pid: u32, events: usize) -> Who<'a> {
 }
 
 /// What a process waits for that sleeps from the event `first` on, up to the first `behind` events.
-pub fn wait_in<'a>(remarks: &'a Remarks, pid: u32, first: usize, behind: usize) -> Option<&'a str> {
+pub fn wait_in<'a>(remarks: &'a Remarks, pid: u32, first: usize, behind: usize) -> Option<&'a str>
+    ensures { option_map (λ t. t.now) result ≡ wait_in remarks.now pid first behind }
+{
     let remark = last_told(remarks.waits.as_slice(), pid, behind)?;
     if remark.place > first {
         Some(remark.text.as_str())

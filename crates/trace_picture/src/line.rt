@@ -1,6 +1,7 @@
 //! The lines of a trace, and those that tell more of a run than its trace.
-ghost use Rattle.std.specs.Prelude.{◌≡◌, ◌++◌, OnOk, length};
-ghost use Rattle.trace_picture.specs.Remarks.{events_of, names_of, waits_of};
+ghost use Rattle.std.specs.Prelude.{◌≡◌, ◌++◌, IfOk, OnOk, [], length};
+ghost use Rattle.std.specs.Str.Lines.{lines};
+ghost use Rattle.trace_picture.specs.Remarks.{IsToldBy, events_of, names_of, waits_of};
 
 use crate::note::{Note, note_of_line};
 use crate::remark::{Remark, Remarks};
@@ -58,7 +59,11 @@ pub fn line_of(alloc: Global, line: &str) -> Result<Line, AllocError> {
 
 impl Told {
     /// No line was read yet.
-    fn new(alloc: Global) -> Told {
+    fn new(alloc: Global) -> Told
+        ensures notes { result.notes.items ≡ [] }
+        ensures names { result.remarks.names.items ≡ [] }
+        ensures waits { result.remarks.waits.items ≡ [] }
+    {
         Told {
             notes: Vec::new(alloc),
             remarks: Remarks {
@@ -90,7 +95,9 @@ impl Told {
 /// # Errors
 ///
 /// [`AllocError`] where the host has too little memory.
-pub fn lines_of(alloc: Global, text: &str) -> Result<Told, AllocError> {
+pub fn lines_of(alloc: Global, text: &str) -> Result<Told, AllocError>
+    ensures { IfOk result (IsToldBy (length (lines text.now))) }
+{
     let mut told = Told::new(alloc);
     for line in text.lines() {
         told.add(line_of(alloc, line)?)?;

@@ -5,3 +5,4 @@ pub mod Finding
 pub mod Faulting
 pub mod CallNames
 mod WorkedHints
+mod WorkedPlaces

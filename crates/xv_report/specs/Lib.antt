@@ -8,3 +8,4 @@ pub mod Jumps
 pub mod Callers
 pub mod Reports
 pub mod Lines
+pub mod Locations

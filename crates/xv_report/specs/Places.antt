@@ -1,9 +1,16 @@
 -- Which addresses names and lines of sources have.
-use Rattle.std.specs.Prelude.{ℕ, ◌&&◌, Bool, false, nat_eq, nat_le, bytes_eq, find, List, slice_get, string_bytes, Option, None, Some, option_map, String}
+use Rattle.std.specs.Prelude.{ℕ, ◌-◌, ◌&&◌, Bool, false, codes, if◌then◌else◌, length, take, nat_eq, nat_le, bytes_eq, find, List, [], slice_get, string_bytes, Option, None, Some, option_map, String}
+use Rattle.std.specs.List.{ends_with}
 use Rattle.std.specs.declared.alloc.Global.{Global}
+use Rattle.elf_symbols.specs.Symbols.{address_of}
+use Rattle.uasm_core.specs.LineTable.{or_else}
 use Rattle.uasm_core.specs.declared.source_lines.CodeLine.{CodeLine}
 use Rattle.uasm_core.specs.declared.source_lines.LabelAddress.{LabelAddress}
 use Rattle.xv_report.specs.declared.lines.LineRow.{LineRow}
+use Rattle.xv_report.specs.declared.places.LineNamed.{LineNamed}
+use Rattle.xv_report.specs.declared.sources.ProgramLines.{ProgramLines}
+use Rattle.xv_report.specs.declared.sources.ProgramLines.TheVariants.{Unknown, Table, Source}
+use Rattle.xv_report.specs.declared.sources.ProgramSource.{ProgramSource}
 
 -- the address of the first label of this name
 abbrev pub label_named : (name : List ℕ) → List LabelAddress → Option ℕ
@@ -25,3 +32,30 @@ is_told texts program text row = nat_eq row.program program && is_text text (sli
 -- where the first row begins of which this text is told
 abbrev pub line_told : List (String Global) → (program : ℕ) → (text : List ℕ) → List LineRow → Option ℕ
 line_told texts program text rows = option_map (λ (row : LineRow). row.address) (find (is_told texts program text) rows)
+
+-- ---- by what is known of a program
+
+-- the labels of a program, if it was assembled
+abbrev pub labels_in : ProgramLines → List LabelAddress
+labels_in (Source lines name) = lines.now.labels.items
+labels_in _ = []
+
+-- the address of the first label of this name, or else of the first symbol
+abbrev pub address_named : ProgramSource → (name : List ℕ) → Option ℕ
+address_named source name = or_else (label_named name (labels_in source.lines)) (address_of source.symbols.now name)
+
+-- the name of the program that was assembled of a file: the file's without `.s`
+abbrev pub assembled_name : (file : List ℕ) → Option (List ℕ)
+assembled_name file = if ends_with nat_eq file (codes ".s") then Some (take (length file - 2) file) else None
+
+-- it is there, and is this name
+abbrev pub is_name : (name : List ℕ) → Option (List ℕ) → Bool
+is_name name None = false
+is_name name (Some own) = bytes_eq own name
+
+-- where the instructions of a line begin, if it is one of the program's: of a table the row of which its text is told, of an assembled source by its number
+abbrev pub line_begins : ProgramLines → LineNamed → Option ℕ
+line_begins Unknown line = None
+line_begins (Table lines place) line = line_told lines.now.texts.items place line.text.now lines.now.rows.items
+line_begins (Source lines name) line =
+    if is_name name.now (assembled_name line.file.now) then line_start line.number lines.now.code.items else None

@@ -1,7 +1,8 @@
 //! The lines of sources, by a table of rows.
-ghost use Rattle.std.specs.Prelude.{◌≡◌, ◌+◌, ◌<◌, length};
+ghost use Rattle.std.specs.Prelude.{◌≡◌, ◌+◌, ◌<◌, ◌++◌, ◌∷◌, [], OnOk, length, map, option_map, string_bytes};
 ghost use Rattle.xv_report.specs.Places.{is_told, line_told};
 ghost use Rattle.xv_report.specs.Lines.{IsNearest, IsNearestBelow, begins_before};
+ghost use Rattle.xv_report.specs.Locations.{IsTextOf, row_kept};
 
 use std::alloc::{AllocError, Global};
 
@@ -110,7 +111,10 @@ fn first_told(rows: &[LineRow], texts: &[String], program: u64, text: &str) -> O
 
 impl Lines {
     /// A table that has no row.
-    pub fn new(alloc: Global) -> Lines {
+    pub fn new(alloc: Global) -> Lines
+        ensures rows { result.rows.items ≡ [] }
+        ensures texts { result.texts.items ≡ [] }
+    {
         Lines {
             rows: Vec::new(alloc),
             texts: Vec::new(alloc),
@@ -135,7 +139,10 @@ impl Lines {
     }
 
     /// Adds a row.
-    fn add(&mut self, alloc: Global, row: &RowText<'_>) -> Result<(), AllocError> {
+    fn add(&mut self, alloc: Global, row: &RowText<'_>) -> Result<(), AllocError>
+        ensures rows { OnOk result (self.new.rows.items ≡ self.old.rows.items ++ row_kept row.now (length self.old.texts.items) ∷ []) }
+        ensures texts { OnOk result (map string_bytes self.new.texts.items ≡ map string_bytes self.old.texts.items ++ row.now.line.now ∷ []) }
+    {
         let text = String::from_str(alloc, row.line)?;
         self.rows.push(LineRow {
             program: row.program,
@@ -147,7 +154,9 @@ impl Lines {
     }
 
     /// Where the instructions begin of the line of the program at a place of which this is told.
-    pub(crate) fn start(&self, program: usize, text: &str) -> Option<u64> {
+    pub(crate) fn start(&self, program: usize, text: &str) -> Option<u64>
+        ensures { result ≡ line_told self.now.texts.items program text.now self.now.rows.items }
+    {
         first_told(
             self.rows.as_slice(),
             self.texts.as_slice(),
@@ -157,7 +166,9 @@ impl Lines {
     }
 
     /// What is told of the line of an address of the program at a place; `None` if no line is known.
-    pub(crate) fn text(&self, program: usize, address: u64) -> Option<&str> {
+    pub(crate) fn text(&self, program: usize, address: u64) -> Option<&str>
+        ensures { IsTextOf self.now program address (option_map (λ t. t.now) result) }
+    {
         let place = nearest(self.rows.as_slice(), program as u64, address)?;
         let row = self.rows.get(place)?;
         let text = self.texts.get(row.text)?;

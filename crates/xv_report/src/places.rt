@@ -1,6 +1,6 @@
 //! From names and lines to addresses.
 ghost use Rattle.std.specs.Prelude.{◌≡◌};
-ghost use Rattle.xv_report.specs.Places.{label_named, line_start};
+ghost use Rattle.xv_report.specs.Places.{address_named, assembled_name, is_name, label_named, line_begins, line_start};
 
 use crate::sources::{ProgramLines, ProgramSource};
 use elf_symbols::address_of;
@@ -39,9 +39,11 @@ impl<'a> LineNamed<'a> {
     }
 
     /// Whether it is of the source that the program of this name was assembled of.
-    fn is_of(&self, program: &[u8]) -> bool {
-        match self.file.strip_suffix(".s") {
-            Some(name) => name.as_bytes() == program,
+    fn is_of(&self, program: &[u8]) -> bool
+        ensures { result ≡ is_name program.now (assembled_name self.now.file.now) }
+    {
+        match self.file.as_bytes().strip_suffix(b".s".as_slice()) {
+            Some(name) => name == program,
             None => false,
         }
     }
@@ -49,7 +51,9 @@ impl<'a> LineNamed<'a> {
 
 impl<'a> ProgramSource<'a> {
     /// The address of a label or a symbol of this name, if the program has one.
-    pub fn address_named(&self, name: &[u8]) -> Option<u64> {
+    pub fn address_named(&self, name: &[u8]) -> Option<u64>
+        ensures { result ≡ address_named self.now name.now }
+    {
         if let ProgramLines::Source { lines, .. } = self.lines {
             return match label_named(lines.labels.as_slice(), name) {
                 Some(address) => Some(address),
@@ -60,7 +64,9 @@ impl<'a> ProgramSource<'a> {
     }
 
     /// Where the instructions of a line begin, if it is one of the program's.
-    pub fn line_start(&self, line: &LineNamed<'_>) -> Option<u64> {
+    pub fn line_start(&self, line: &LineNamed<'_>) -> Option<u64>
+        ensures { result ≡ line_begins self.now.lines line.now }
+    {
         match self.lines {
             ProgramLines::Unknown => None,
             ProgramLines::Table { lines, place } => lines.start(place, line.text),

@@ -1,5 +1,8 @@
 //! What is known of the sources of programs: their functions, and their lines.
-ghost use Rattle.std.specs.Prelude.{◌≡◌, IfOk, length};
+ghost use Rattle.std.specs.Prelude.{◌≡◌, IfNone, IfOk, IfSome, None, Some, is_some, length, true, map, option_map};
+ghost use Rattle.kernel_spec.specs.views.State.{named_file};
+ghost use Rattle.uasm_core.specs.LineTable.{line_in};
+ghost use Rattle.xv_report.specs.Locations.{AreLinesOf, IsLineBy, IsLineByTable, IsSourceBy, IsSourceOf, IsUnknown, assembled_at, beside, function_in, function_of, function_seen, label_in, line_by_source, line_seen, or_own};
 
 use crate::lines::Lines;
 use crate::symbols::symbols_of_files;
@@ -8,6 +11,7 @@ use elf_symbols::{function_at, function_start};
 use std::alloc::AllocError;
 use std::rt::Files;
 use uasm_core::SourceLines;
+use xk_base::Program;
 use xv_session::Session;
 
 /// What is known of the sources of a machine's programs.
@@ -47,7 +51,9 @@ pub struct ProgramSource<'a> {
 }
 
 /// The function of an address by the symbols, if they have one.
-fn function_of(symbols: &[u8], address: u64) -> Option<Function<'_>> {
+fn function_of(symbols: &[u8], address: u64) -> Option<Function<'_>>
+    ensures { option_map function_seen result ≡ function_in symbols.now address }
+{
     let name = function_at(symbols, address)?;
     let start = function_start(symbols, address)?;
     Some(Function {
@@ -57,7 +63,9 @@ fn function_of(symbols: &[u8], address: u64) -> Option<Function<'_>> {
 }
 
 /// The label behind which an address stands, if there is one.
-fn label_of(lines: &SourceLines, address: u64) -> Option<Function<'_>> {
+fn label_of(lines: &SourceLines, address: u64) -> Option<Function<'_>>
+    ensures { option_map function_seen result ≡ label_in lines.now address }
+{
     let label = lines.label_before(address)?;
     Some(Function {
         name: label.name.as_slice(),
@@ -66,7 +74,12 @@ fn label_of(lines: &SourceLines, address: u64) -> Option<Function<'_>> {
 }
 
 /// Where an address stands in a source; `None` if no instruction of it stands there.
-fn in_source<'a>(lines: &'a SourceLines, name: &'a [u8], address: u64) -> Option<Location<'a>> {
+fn in_source<'a>(lines: &'a SourceLines, name: &'a [u8], address: u64) -> Option<Location<'a>>
+    ensures none { IfNone result (line_in lines.now.code.items address ≡ None) }
+    ensures there { IfSome result (λ _. is_some (line_in lines.now.code.items address) ≡ true) }
+    ensures function { IfSome result (λ l. option_map function_seen l.function ≡ label_in lines.now address) }
+    ensures line { IfSome result (λ l. option_map line_seen l.line ≡ line_by_source lines.now name.now address) }
+{
     let line = lines.line_at(address)?;
     Some(Location {
         function: label_of(lines, address),
@@ -78,14 +91,19 @@ fn in_source<'a>(lines: &'a SourceLines, name: &'a [u8], address: u64) -> Option
 }
 
 /// The line of an address by a table, if the table has one.
-fn in_table<'a>(lines: &'a Lines, place: usize, address: u64) -> Option<Line<'a>> {
+fn in_table<'a>(lines: &'a Lines, place: usize, address: u64) -> Option<Line<'a>>
+    ensures { IsLineByTable lines.now place address (option_map line_seen result) }
+{
     let text = lines.text(place, address)?;
     Some(Line::Told(text))
 }
 
 impl<'a> ProgramSource<'a> {
     /// Where an address of the program stands in it.
-    pub fn location(&self, address: u64) -> Location<'a> {
+    pub fn location(&self, address: u64) -> Location<'a>
+        ensures function { option_map function_seen result.function ≡ function_of self.now address }
+        ensures line { IsLineBy self.now.lines address (option_map line_seen result.line) }
+    {
         let function = function_of(self.symbols, address);
         match self.lines {
             ProgramLines::Unknown => Location {
@@ -132,7 +150,9 @@ impl Sources {
     }
 
     /// The bytes of an ELF file that stands beside the program at a place for its symbols: none if there is no such file.
-    fn symbols_beside(&self, place: usize) -> &[u8] {
+    fn symbols_beside(&self, place: usize) -> &[u8]
+        ensures { result.now ≡ beside self.now place }
+    {
         match self.symbols.get(place) {
             Some(bytes) => bytes.as_slice(),
             None => &[],
@@ -140,7 +160,9 @@ impl Sources {
     }
 
     /// The lines of the program of this name at a place.
-    fn lines_of<'a>(&'a self, place: usize, name: &'a [u8]) -> ProgramLines<'a> {
+    fn lines_of<'a>(&'a self, place: usize, name: &'a [u8]) -> ProgramLines<'a>
+        ensures { AreLinesOf (assembled_at self.now place) self.now.lines place name.now result }
+    {
         match self.assembled.get(place) {
             Some(Some(lines)) => ProgramLines::Source { lines, name },
             _ => ProgramLines::Table {
@@ -151,23 +173,31 @@ impl Sources {
     }
 }
 
-/// What is known of the source of the program at a place among those of a session, by what is known of all of them: its
-/// symbols are those that stand beside it, or else its own.
-pub fn source_of<'a>(
-    sources: Option<&'a Sources>,
-    session: &'a Session,
-    place: Option<usize>,
-) -> ProgramSource<'a> {
-    let unknown = ProgramSource {
+/// What stands beside a program for its symbols, or else its own bytes.
+fn or_own<'a>(beside: &'a [u8], own: &'a [u8]) -> &'a [u8]
+    ensures { result.now ≡ or_own beside.now own.now }
+{
+    if beside.is_empty() { own } else { beside }
+}
+
+/// What is known of a source of which nothing is known.
+fn unknown<'a>() -> ProgramSource<'a>
+    ensures { IsUnknown result }
+{
+    ProgramSource {
         symbols: &[],
         lines: ProgramLines::Unknown,
-    };
-    let Some(place) = place else {
-        return unknown;
-    };
-    let Some(program) = session.machine().programs().get(place) else {
-        return unknown;
-    };
+    }
+}
+
+/// What is known of the source of a program at a place, by what is known of all.
+fn known_by<'a>(
+    sources: Option<&'a Sources>,
+    place: usize,
+    program: &'a Program,
+) -> ProgramSource<'a>
+    ensures { IsSourceBy (option_map (λ s. s.now) sources.entry) place (Some (named_file program.now)) result }
+{
     let own = program.bytes.as_slice();
     let Some(sources) = sources else {
         return ProgramSource {
@@ -175,9 +205,37 @@ pub fn source_of<'a>(
             lines: ProgramLines::Unknown,
         };
     };
-    let beside = sources.symbols_beside(place);
     ProgramSource {
-        symbols: if beside.is_empty() { own } else { beside },
+        symbols: or_own(sources.symbols_beside(place), own),
         lines: sources.lines_of(place, program.name.as_slice()),
     }
+}
+
+/// What is known of the source of the program at a place among these.
+fn source_in<'a>(
+    sources: Option<&'a Sources>,
+    programs: &'a [Program],
+    place: Option<usize>,
+) -> ProgramSource<'a>
+    ensures { IsSourceOf (option_map (λ s. s.now) sources.entry) (map named_file programs.now) place result }
+{
+    let Some(place) = place else {
+        return unknown();
+    };
+    match programs.get(place) {
+        Some(program) => known_by(sources, place, program),
+        None => unknown(),
+    }
+}
+
+/// What is known of the source of the program at a place among those of a session, by what is known of all of them: its
+/// symbols are those that stand beside it, or else its own.
+pub fn source_of<'a>(
+    sources: Option<&'a Sources>,
+    session: &'a Session,
+    place: Option<usize>,
+) -> ProgramSource<'a>
+    ensures { IsSourceOf (option_map (λ s. s.now) sources.entry) session.now.machine.world.state.programs place result }
+{
+    source_in(sources, session.machine().programs(), place)
 }

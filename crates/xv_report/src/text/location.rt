@@ -1,4 +1,6 @@
 //! Where addresses stand in the sources of programs.
+ghost use Rattle.std.specs.Prelude.{◌≡◌, ◌||◌, is_some};
+
 use crate::text::place::Name;
 use std::fmt;
 
@@ -39,7 +41,9 @@ pub struct Location<'a> {
 
 impl<'a> Location<'a> {
     /// Whether its function or its line is known.
-    pub fn is_known(&self) -> bool {
+    pub fn is_known(&self) -> bool
+        ensures { result ≡ (is_some self.now.function || is_some self.now.line) }
+    {
         self.function.is_some() || self.line.is_some()
     }
 }
