@@ -202,7 +202,7 @@ until store PLACE        an instruction has stored to this address, of whatever 
 until fault              a process is gone by a fault
 until exit               a process is gone, by a call, a kill or a fault
 until [line]             the process stands in another line of its source, also of a function that it calls
-help print tells what a PLACE may be.
+help print tells what a PLACE may be. One of another program is met by whichever process runs that.
 The bytes that wait in the console are taken before each Run, and told. 100000000 events are sent at most.
 It stops early where all processes sleep.",
             Topic::Finish => "\
