@@ -20,7 +20,7 @@ function words_of(command, args) {
   const { stdout } = spawnSync(command, plain, { input: "help\nhelp until\n", stdio: ["pipe", "pipe", "ignore"] });
   const lines = (stdout?.toString() ?? "").split("\n").filter((line) => /^[a-z]/.test(line));
   const goals = lines.flatMap((line) => /^until \[?([a-z]+)/.exec(line)?.[1] ?? []);
-  return { words: [...new Set(lines.map((line) => line.split(" ")[0]))], goals };
+  return { words: [...new Set(lines.map((line) => line.split(" ")[0]).filter((word) => !word.includes("/")))], goals };
 }
 
 /** The labels of a source, or the functions of an ELF file. */
@@ -77,24 +77,66 @@ function shown() {
   return output;
 }
 
-/** The lines that were typed, and whether the program asks for one. */
+/** What a program writes, line by line, but for its prompt, by which it asks. */
+function hand_on(child, show, ask) {
+  let held = Buffer.alloc(0);
+  child.stdout.on("data", (bytes) => {
+    held = Buffer.concat([held, bytes]);
+    const end = held.lastIndexOf(10) + 1;
+    show(held.subarray(0, end));
+    held = held.subarray(end);
+    if (held.toString("latin1") !== PROMPT) return;
+    held = Buffer.alloc(0);
+    ask();
+  });
+  return () => show(held);
+}
+
+/**
+ * The lines that were typed, and the program that is given them, each as it asks for one. The program is determined by its lines: if
+ * Ctrl-C breaks off one on which it is busy, another program is begun, and given those before.
+ */
 class Asked {
-  constructor(rl, output, child) {
-    Object.assign(this, { rl, output, child, lines: [], is_asking: false, has_ended: false });
+  constructor(command, args, rl, output) {
+    Object.assign(this, { command, args, rl, output, typed: [], is_asking: false, has_ended: false, given: [], busy_on: null, again: null });
     rl.on("line", (line) => {
       this.output.is_open = false;
-      this.lines.push(line);
+      this.typed.push(line);
       if (this.is_asking) this.answer(true);
     });
     rl.on("SIGINT", () => this.drop());
     rl.on("SIGCONT", () => rl.resume()); // readline pauses behind Ctrl-Z
     rl.on("close", () => this.end());
+    this.over = new Promise((give, refuse) => Object.assign(this, { give, refuse }));
+    this.begin();
+  }
+
+  /** Begins the program. While it is given lines again, nothing that it writes is shown. */
+  begin() {
+    const child = spawn(this.command, this.args, { stdio: ["pipe", "pipe", this.again === null ? "inherit" : "pipe"] }), is_shown = () => this.again === null;
+    const flush = hand_on(child, (bytes) => { if (is_shown()) write_all(1, bytes); }, () => { if (child === this.child) this.ask(); });
+    child.stderr?.on("data", (bytes) => { if (is_shown()) write_all(2, bytes); });
+    child.stdin.on("error", () => {}); // it has ended, and tells so by its status
+    child.on("error", (error) => this.refuse(error));
+    child.on("close", (code, signal) => {
+      if (child !== this.child) return;
+      this.is_asking = false;
+      this.rl.close();
+      process.stdin.pause();
+      flush();
+      this.give(code ?? 128 + (constants.signals[signal] ?? 0));
+    });
+    this.child = child;
   }
 
   /** The program asks for a line. */
   ask() {
+    if (this.again !== null && this.again < this.given.length) return void this.child.stdin.write(`${this.given[this.again++]}\n`);
+    if (this.again !== null) this.stand_again();
+    else if (this.busy_on !== null) this.given.push(this.busy_on);
+    this.busy_on = null;
     this.is_asking = true;
-    if (this.lines.length > 0) return this.answer(false);
+    if (this.typed.length > 0) return this.answer(false);
     if (this.has_ended) return this.close();
     this.output.is_open = true;
     this.rl.setPrompt(PROMPT);
@@ -103,24 +145,42 @@ class Asked {
 
   /** Gives the program the oldest line. One that was typed before it was asked for is shown now. */
   answer(is_shown) {
-    const line = this.lines.shift();
+    const line = this.typed.shift();
     this.is_asking = false;
     if (!is_shown) write_all(1, `${PROMPT}${line}\n`);
+    this.busy_on = line;
     this.child.stdin.write(`${line}\n`);
   }
 
-  /** Ctrl-C drops the line; while the program is busy, it ends it. */
+  /** Ctrl-C drops the line; while the program is busy on one, it breaks that off. */
   drop() {
-    if (!this.is_asking) return void this.child.kill("SIGINT");
+    if (this.again !== null) return;
+    if (!this.is_asking) return this.break_off();
     write_all(1, "^C\n");
     Object.assign(this.rl, { line: "", cursor: 0 });
     this.rl.prompt();
   }
 
+  /** Ends the program that is busy, with all lines that were typed meanwhile, and begins one that comes to where it was before. */
+  break_off() {
+    const { child } = this;
+    if (this.busy_on === null) return void child.kill("SIGINT"); // it hasn't asked for a line yet
+    write_all(1, "^C\n");
+    Object.assign(this, { typed: [], again: 0 });
+    this.begin();
+    child.kill("SIGKILL");
+  }
+
+  /** The new program stands where the other one was. */
+  stand_again() {
+    this.again = null;
+    write_all(1, `\`${this.busy_on}\` is broken off: nothing of it is done\n`);
+  }
+
   /** No line comes any more. */
   end() {
     this.has_ended = true;
-    if (this.is_asking && this.lines.length === 0) this.close();
+    if (this.is_asking && this.typed.length === 0) this.close();
   }
 
   close() {
@@ -130,39 +190,11 @@ class Asked {
   }
 }
 
-/** Hands on what a program writes, line by line, but for its prompt, by which it asks. */
-function hand_on(child, ask) {
-  let held = Buffer.alloc(0);
-  child.stdout.on("data", (bytes) => {
-    held = Buffer.concat([held, bytes]);
-    const end = held.lastIndexOf(10) + 1;
-    write_all(1, held.subarray(0, end));
-    held = held.subarray(end);
-    if (held.toString("latin1") !== PROMPT) return;
-    held = Buffer.alloc(0);
-    ask();
-  });
-  return () => write_all(1, held);
-}
-
 /** Runs a command that asks for lines, at a terminal, and gives its exit status. */
 export function edited(command, args) {
-  const child = spawn(command, args, { stdio: ["pipe", "pipe", "inherit"] });
   const output = shown();
   const rl = createInterface({ input: single_keys(process.stdin), output, terminal: true, historySize: 1000, completer: completer_of(command, args) });
-  const asked = new Asked(rl, output, child);
-  const flush = hand_on(child, () => asked.ask());
-  child.stdin.on("error", () => {}); // it has ended, and tells so by its status
-  return new Promise((give, refuse) => {
-    child.on("error", refuse);
-    child.on("close", (code, signal) => {
-      asked.is_asking = false;
-      rl.close();
-      process.stdin.pause();
-      flush();
-      give(code ?? 128 + (constants.signals[signal] ?? 0));
-    });
-  });
+  return new Asked(command, args, rl, output).over;
 }
 
 /** Runs the command of this process's words. */

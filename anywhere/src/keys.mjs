@@ -29,7 +29,8 @@ export class Keys {
     const taken = Atomics.load(this.counters, TAKEN);
     this.seen = Atomics.load(this.counters, PUT);
     const count = Math.min(most, (this.seen - taken) >>> 0);
-    const keys = Uint8Array.from({ length: count }, (_, k) => this.bytes[(taken + k) & (ROOM - 1)]);
+    const keys = new Uint8Array(count);
+    for (let k = 0; k < count; k++) keys[k] = this.bytes[(taken + k) & (ROOM - 1)];
     Atomics.store(this.counters, TAKEN, taken + count);
     return keys;
   }

@@ -4,6 +4,7 @@
 speed  a program that computes, by both programs in turn: the ratio of the least processor times, which is to be 0.8 at least
 echo   how long a key takes to be echoed while a program computes, and while one forks, the median and the worst of 100 keys:
        20 milliseconds at most, if a processor is free; and how much of that is processor time of xv_terminal's own
+paste  how long Ctrl-C takes that comes after 100 KB of pasted lines, of which the machine's program reads none: 200 ms at most
 idle   the processor time that is taken while all sleep: 1 hundredth at most
 
 The programs are those that are built, unless they are given. The status is 0 if all are as they should be.
@@ -170,6 +171,26 @@ def echo(init, what):
     return waits[-1] <= 0.02
 
 
+def paste(init):
+    """Pastes as fast as the program takes it, and types Ctrl-C."""
+    pid, fd = at_terminal(init)
+    time.sleep(1)
+    left = (b"a line that is pasted\n" * 5000)[:100_000] + b"\x03"
+    while left:
+        select.select([], [fd], [], 5)
+        left = left[os.write(fd, left[:4096]):]
+        while select.select([fd], [], [], 0)[0]:
+            os.read(fd, 65536)
+    begun, told = time.monotonic(), b""
+    while b"(xv) " not in told and time.monotonic() < begun + 20:
+        if select.select([fd], [], [], 0.1)[0]:
+            told += os.read(fd, 65536)
+    took = time.monotonic() - begun
+    end(pid, fd)
+    print(f"paste: Ctrl-C after 100 KB takes {1000 * took:.1f} ms")
+    return took <= 0.2
+
+
 def spent(pid):
     with open(f"/proc/{pid}/stat") as file:
         fields = file.read().rsplit(")", 1)[1].split()
@@ -192,6 +213,7 @@ with tempfile.TemporaryDirectory() as room:
         speed(source(room + "/computes", COMPUTES)),
         echo(source(room + "/hangs", HANGS), "computes"),
         echo(source(room + "/forks", FORKS), "forks"),
+        paste(source(room + "/pasted", HANGS)),
         idle(source(room + "/reads", READS)),
     ]
 sys.exit(0 if all(results) else 1)

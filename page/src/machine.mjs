@@ -312,6 +312,12 @@ export class Machine {
   /** Why the step that is next can't be made, by the cause of its fault: its first line, then registers, then calls. */
   fault_text(cause) { return this.told_text(this.calls.xv_page_fault(this.session, this.sources, whole(cause), this.told, this.room, BigInt(ROOM))); }
 
+  /** That a process was killed by another, by its call at an address. It stands right after that call. */
+  kill_text(victim, killer, address) { return this.told_text(this.calls.xv_page_kill(this.session, this.sources, whole(victim), whole(killer), BigInt.asUintN(64, address), this.told, this.room, BigInt(ROOM))); }
+
+  /** That a process was refused a growth, by its call of this number at an address. It stands right after that call. */
+  refused_text(pid, number, address) { return this.told_text(this.calls.xv_page_refused(this.session, this.sources, whole(pid), whole(number), BigInt.asUintN(64, address), this.told, this.room, BigInt(ROOM))); }
+
   /** Tells the module what is known of the source of the program at a place: {table, symbols, source}. The host puts the memory back then. */
   know(place, { table = "", symbols = NO_BYTES, source = "" }) {
     const texts = new TextEncoder(), rows = table.split("\n").filter((it) => it).map((it) => `${place} ${it}\n`).join("");

@@ -56,6 +56,7 @@ function take_view(view) {
   take_names(view.names);
   take_text(view.text);
   if (view.faults) app.faults = view.faults;
+  if (view.kills) app.kills = view.kills;
   is_whole ||= view.whole !== undefined;
   // What only a whole view has is that of the last one.
   const whole = view.whole ?? app.view?.whole;
@@ -79,7 +80,7 @@ function take_view(view) {
 /** Another machine: nothing of the one before is drawn any more. */
 function take_boot({ id, took }) {
   app.booted = { ...programs.booting(id), id, took };
-  Object.assign(app, { view: null, line: new Listed(), events: new EventsText(), names: new LastNames(), text: text_room.subarray(0, 0), faults: [], chosen: 0 });
+  Object.assign(app, { view: null, line: new Listed(), events: new EventsText(), names: new LastNames(), text: text_room.subarray(0, 0), faults: [], kills: [], chosen: 0 });
   tell("booted");
   look();
 }

@@ -33,6 +33,7 @@ export class Run {
     this.shown = new Shown();
     this.names = new Names();
     this.faults = []; // {at, pid, cause}, in their order
+    this.kills = new Map(); // by the pids of those who were killed: {call, by, pid, at}, `call` the place of the call, `at` that of the end
     this.told = 0; // up to which place the page knows the record
     this.name(1);
     this.edits = 0;
@@ -53,14 +54,25 @@ export class Run {
     this.at += count;
     if (told.kind === KIND.CALL && told.value >= 0) this.heard_call(this.machine.kernel_calls.get(told.number), told);
     if (told.kind === KIND.FAULT) this.faults.push({ at: this.at - 1, pid: told.pid, cause: told.number });
+    if (told.kind === KIND.EXIT && this.kills.has(told.pid)) this.kills.get(told.pid).at = this.at - 1;
     if (told.kind === KIND.HALTED || (told.pid === 1 && (told.kind === KIND.EXIT || told.kind === KIND.FAULT))) this.halted = true;
   }
 
-  /** A call that has changed which program a process runs: that of the child of a fork, or of an exec's own process. */
+  /** A call that has changed which program a process runs, that of the child of a fork, or of an exec's own process; or that has killed one. */
   heard_call(call, { pid, value }) {
     if (call === "fork" && value > 0) this.name(value);
     else if (call === "exec") this.name(pid);
+    else if (call === "kill") this.heard_kill(pid);
   }
+
+  /** Notes whom the last call has killed: who is marked from then on. */
+  heard_kill(by) {
+    const pid = this.machine.pids().find((it) => !this.kills.has(it) && this.machine.process(it).marked);
+    if (pid) this.kills.set(pid, { call: this.at - 1, by, pid, at: Infinity });
+  }
+
+  /** The processes that are gone since they were killed, in the order of the kills. */
+  get killed() { return [...this.kills.values()].filter(({ at }) => at < Infinity); }
 
   /** Notes which program a process runs from here on. */
   name(pid) {
@@ -80,10 +92,18 @@ export class Run {
     this.events.cut(this.at);
     this.names.cut(this.at);
     this.faults = this.faults.filter((it) => it.at < this.at);
+    this.cut_kills();
     this.told = Math.min(this.told, this.at);
     this.copies.cut(this.at);
     this.edits++;
     this.halted = this.machine.facts().halted;
+  }
+
+  cut_kills() {
+    for (const kill of this.kills.values()) {
+      if (kill.call >= this.at) this.kills.delete(kill.pid);
+      else if (kill.at >= this.at) kill.at = Infinity;
+    }
   }
 
   /** The program that a process runs at this place, by its place in the list of files; null where it isn't known. */

@@ -9,6 +9,7 @@ import { store_width } from "./words.mjs";
 import { calls_of, line_step } from "./line_steps.mjs";
 import { learn_calls } from "./calls.mjs";
 import { told_event } from "./happenings.mjs";
+import { fault_in_words, kill_in_words } from "./ends.mjs";
 import { seek } from "./seeking.mjs";
 import { last_trap, translation } from "./translation.mjs";
 import { Reach } from "./reach.mjs";
@@ -28,7 +29,7 @@ const ROUND = 2000, MOST_OF_PART = 16384; // stretches round a place of which th
 let machine = null, run = null, plan = null;
 let settings = { rounds: false, quantum: 1000, speed: 0 };
 let playing = false, timer = 0, turn = 0, next_tick = 0, owed = 0, slice_from = 0;
-let wanted = { pid: 1, panels: {}, memory: null, translate: 0n, named: 0, shown: 0, text: 0, faults: -1, edits: -1 };
+let wanted = { pid: 1, panels: {}, memory: null, translate: 0n, named: 0, shown: 0, text: 0, faults: -1, killed: -1, edits: -1 };
 let breaks = [];
 let next_whole = 0;
 let stopped = "";
@@ -48,7 +49,7 @@ function processes() {
     process.program = run.program_of(pid);
     process.size = Number(machine.size(pid) ?? 0n);
     process.made = made.of(pid);
-    if (process.lives && process.asleep) process.wait = machine.wait_text(pid);
+    if (!process.lives || process.asleep) process.wait = machine.wait_text(pid);
     return process;
   });
 }
@@ -124,7 +125,7 @@ function new_stretches(block) {
 /** What came of the run since the last view: stretches, events, names of programs, and bytes that the console has shown. */
 function news() {
   const { line, names, events } = run, anew = wanted.edits !== run.edits, shown = run.shown_count();
-  if (anew) Object.assign(wanted, { named: 0, shown: 0, text: 0, faults: -1, edits: run.edits });
+  if (anew) Object.assign(wanted, { named: 0, shown: 0, text: 0, faults: -1, killed: -1, edits: run.edits });
   const text_from = Math.min(wanted.shown, shown), list = [];
   for (let k = wanted.named; k < names.length; k++) list.push({ pid: names.pid[k], place: names.place[k] });
   const told = { anew, shown, line: new_stretches(line.last), stretches: line.length, events: events.part(wanted.text), names: { from: wanted.named, list }, text: { from: text_from, bytes: run.shown.bytes.slice(text_from, shown) } };
@@ -207,6 +208,9 @@ function view() {
     told.whole = whole(facts.current);
     if (run.faults.length !== wanted.faults) told.faults = why_of_faults();
     wanted.faults = run.faults.length;
+    const { killed } = run;
+    if (killed.length !== wanted.killed) told.kills = why_of_kills(killed);
+    wanted.killed = killed.length;
     const took = performance.now() - began;
     next_whole = began + took + Math.max(WHOLE, WHOLE_REST * took);
   }
@@ -223,6 +227,15 @@ function why_of_faults() {
     });
   }
   return run.faults;
+}
+
+/** Those who were killed, each with the program of the one that did it. */
+function why_of_kills(killed) {
+  for (const kill of killed) {
+    const k = run.names.last_of(kill.by, kill.call);
+    kill.told ??= { program: k < 0 ? null : run.names.place[k] };
+  }
+  return killed;
 }
 
 // ---- play
@@ -566,11 +579,11 @@ const obey = {
   stretches({ name, key, from, to }) {
     if (run?.booted) postMessage({ part: { name, key, part: run.line.part(from, to, name === "place" ? ROUND : 0, MOST_OF_PART) } });
   },
-  /** Tells a fault in the words of the report, with what is known of its program's source. */
+  /** Tells a fault or a kill, by the place of the end, in the words of the report, with what is known of its program's source. */
   explain({ at, known }) {
     if (!run?.booted || at >= run.end) return;
-    const fault = run.faults.find((it) => it.at === at);
-    if (fault?.told) postMessage({ explained: { at, edits: run.edits, text: run.look(at, () => { machine.know(fault.told.program, known); return machine.fault_text(fault.cause); }) } });
+    const fault = run.faults.find((it) => it.at === at), kill = run.killed.find((it) => it.at === at), it = fault ?? kill;
+    if (it?.told) postMessage({ explained: { at, edits: run.edits, text: (fault ? fault_in_words : kill_in_words)(run, it, { program: it.told.program, known }) } });
   },
   /** Tells the calls that led to where a process stands. */
   calls({ key, pid, frames }) { postMessage({ calls_told: { key, list: playing || !run?.booted ? [] : calls_of(machine, pid, frames) } }); },

@@ -1,7 +1,7 @@
 // asked.mjs PAGE.html FOLDER [NAME..]: whether links lead to the places that they name, and what is told of events, addresses and traps is
 // so; the first minute, and the manual inside the page. It takes pictures: desktop and phone, light and dark. With names only these
 // checks are made. The status is 1 if something isn't as it should be. With BROWSER=firefox in Firefox.
-import { mkdirSync } from "node:fs";
+import { mkdirSync, readFileSync } from "node:fs";
 import { pathToFileURL } from "node:url";
 import { boot, comes, example, files, message, pause, source, text_of, type } from "./hand.mjs";
 const { open } = await import(process.env.BROWSER === "firefox" ? "./firefox.mjs" : "./browser.mjs");
@@ -276,6 +276,39 @@ async function translate(page) {
   holds(/scause\s*15/.test(await translated(page)) && /stval\s*0x5008/.test(await translated(page)), "and its trap: scause 15, stval the address");
 }
 
+// ---- why processes are gone
+
+const ZOMBIE = "  li a7, 1\n  ecall\n  beq a0, x0, child\n  li a0, 100000\n  li a7, 13\n  ecall\nchild:\n" + EXIT;
+/** A source of checks/why. */
+const reported = (name) => readFileSync(new URL(`../../checks/why/${name}.s`, import.meta.url), "utf8");
+/** Runs a source as `init`, and opens the report. */
+const report = async (page, text) => {
+  await files(page, [{ name: "init.s", text }], "{ rounds: true, quantum: 1000 }");
+  await boot(page);
+  await page.eval("show_tab('why')");
+};
+const why_tells = (page, words) => comes(page, `document.getElementById('why-told').textContent.includes(${JSON.stringify(words)})`);
+const press = (page, words) => page.eval(`[...document.querySelectorAll('#why-told button')].find((it) => it.textContent === ${JSON.stringify(words)}).click()`);
+
+async function ends(page) {
+  await report(page, reported("killed"));
+  holds(await why_tells(page, "process 2 (init) was killed by process 1 (init), at 0x24 <stop+0x8>, init.s:13"), "a kill is told with its line");
+  await page.picture(`${folder}/killed.png`);
+  holds(!(await text_of(page, "why-told")).includes("has not waited for it"), "of a machine that has halted nobody is told who wasn't waited for");
+  const end = await at(page);
+  await press(page, "Go to the call");
+  await page.sleep(500);
+  holds((await at(page)) < end && (await text_of(page, "why-told")).includes("No process has faulted or was killed"), "a click goes before the kill, where nobody is killed yet");
+  holds(await page.eval("page.app.view.registers[0] === 0x24n"), "and to its instruction");
+  await report(page, ZOMBIE);
+  holds(await why_tells(page, "process 2 has ended with status 7, and process 1, its parent, has not waited for it"), "who hasn't been waited for is told");
+  await page.picture(`${folder}/zombie.png`);
+  await report(page, reported("grow"));
+  holds(await why_tells(page, "its sbrk at 0xc <more+0x4>, init.s:6 was refused before"), "a growth that was refused stands below a null store");
+  holds((await text_of(page, "why-told")).includes("a null pointer, it seems"), "and what may be wrong");
+  await page.picture(`${folder}/grow.png`);
+}
+
 // ---- the first minute, the manual
 
 async function first(page) {
@@ -357,7 +390,7 @@ async function dark() {
   holds(page.logs.length === 0, `dark: no errors of the page: ${page.logs.join("; ")}`);
 }
 
-const CHECKS = { slides, links, own_work, shared_place, lecture, embed, happened, words_of_calls, who_stored, who_opened, reverse, translate, first, manual }, ALONE = { phone, dark };
+const CHECKS = { slides, links, own_work, shared_place, lecture, embed, happened, words_of_calls, who_stored, who_opened, reverse, translate, ends, first, manual }, ALONE = { phone, dark };
 for (const [name, check] of Object.entries({ ...CHECKS, ...ALONE })) {
   if (names.length && !names.includes(name)) continue;
   if (ALONE[name]) { await check().catch((error) => holds(false, `${name}: ${error.stack}`)); continue; }

@@ -1,32 +1,32 @@
 // why.mjs MODULE.wasm PROGRAMS REPORTS: whether the page's module tells the very words of xv_why: of each program of the folder REPORTS
-// (checks/why) the report of its fault and of who sleeps, as they are stored beside it. Growths that were refused before, kills, and who
-// hasn't been waited for are left out: xv_why tells them of the whole run, and the module of one place. Those in C are left out if there is
-// no compiler of the version with which they were stored. The status is 1 if a report is another.
+// (checks/why) the report of its faults and kills, of who sleeps and who hasn't been waited for, as they are stored beside it. Those in C
+// are left out if there is no compiler of the version with which they were stored. The status is 1 if a report is another.
 import { spawnSync } from "node:child_process";
 import { copyFileSync, mkdtempSync, readFileSync, readdirSync, rmSync } from "node:fs";
 import { tmpdir } from "node:os";
 import { Machine, KIND } from "../src/machine.mjs";
 import { learn_calls } from "../src/calls.mjs";
+import { fault_in_words, kill_in_words } from "../src/ends.mjs";
 import { Plan, Run } from "../src/run.mjs";
 import { elf_of, read_table, rows_of } from "../src/tables.mjs";
 
 const [module, folder, reports] = process.argv.slice(2), machine = new Machine(new WebAssembly.Module(readFileSync(module))), run = new Run(machine);
 const QUANTUM = 1000, ROUNDS = 2000;
-const OF_THE_RUN = /^(  its sbrk at .* was refused before: .*|process \d+ \(.*\) was killed by .*|process \d+ has ended with status .* has not waited for it)\n/gm;
 learn_calls([...machine.kernel_calls]);
 let bad = 0, count = 0;
 
 /** Plays a program from the shell, and compares what is told of it. `known`: what the module is told of its source. */
 function compare(name, bytes, known, stored_in) {
   run.boot({ frames: 4096, trace: 0 }, [...["init", "sh"].map((it) => ({ name: it, bytes: new Uint8Array(readFileSync(`${folder}/${it}`)) })), { name, bytes }]);
-  const plan = new Plan(run, { rounds: true, quantum: QUANTUM }, [...new TextEncoder().encode(`${name}\n`)]), told = [];
+  const plan = new Plan(run, { rounds: true, quantum: QUANTUM }, [...new TextEncoder().encode(`${name}\n`)]), told = [], source = { program: 2, known };
   for (let ticks = 0; ticks < ROUNDS && !run.halted; ) {
     const it = plan.next(QUANTUM);
     if (it.kind === KIND.TICK) ticks++;
-    if (it.kind === KIND.FAULT) told.push(run.look(run.at - 1, () => { machine.know(2, known); return machine.fault_text(it.number); }));
+    if (it.kind === KIND.FAULT) told.push(fault_in_words(run, run.faults.at(-1), source));
+    if (it.kind === KIND.EXIT && run.kills.has(it.pid)) told.push(kill_in_words(run, run.kills.get(it.pid), source));
   }
-  for (const pid of machine.pids()) if (machine.process(pid).lives) told.push(machine.wait_text(pid));
-  const stored = readFileSync(stored_in, "utf8").replace(/xv_why: .*\n$/, "").replace(OF_THE_RUN, ""), is = `${told.join("\n")}\n` === stored;
+  for (const pid of machine.pids().sort((a, b) => a - b)) told.push(machine.wait_text(pid));
+  const stored = readFileSync(stored_in, "utf8").replace(/xv_why: .*\n$/, ""), is = `${told.join("\n")}\n` === stored;
   count++;
   if (!is) { console.log(`NOT ${name}: the module tells\n${told.join("\n")}\nand xv_why\n${stored}`); bad++; }
 }

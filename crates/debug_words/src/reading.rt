@@ -11,8 +11,8 @@ use crate::numbers::{number_in, number_of};
 use crate::tokens::Tokens;
 use crate::topics::Topic;
 use crate::vocabulary::{
-    BYTES_MOST, EVENTS_MOST, Goal, LISTED_MOST, Mark, NOTES_MOST, OFTEN_MOST, ROUNDS_MOST, Size,
-    Word,
+    BYTES_MOST, EVENTS_MOST, Goal, LISTED_MOST, Mark, Marks, NOTES_MOST, OFTEN_MOST, ROUNDS_MOST,
+    Size, Word,
 };
 use kernel_calls::KernelCall;
 use xk_base::limits::{FRAMES_MAX, PID_MAX};
@@ -665,10 +665,39 @@ fn ended<'a>(tokens: &Tokens<'a>, place: usize, word: Word) -> Result<Word, Word
     }
 }
 
-/// What `until` asks for.
+/// A PLACE that stands alone at a place of the line, if it is of another program than the one which words look at.
+fn elsewhere<'a, N: Names>(tokens: &Tokens<'a>, place: usize, names: &N) -> Option<Mark> {
+    let spot = named_spot(tokens.get(place)?, names)?;
+    let program = spot.program;
+    if names.program() == Some(program) || tokens.end(place.saturating_add(1)).is_err() {
+        return None;
+    }
+    Some(Mark::At {
+        program,
+        address: spot.address,
+    })
+}
+
+/// Up to this mark, as a word.
+fn to_mark(mark: Mark) -> Word
+    ensures { IsInRange result }
+{
+    let mut marks = Marks::new();
+    let _ = marks.try_push(mark);
+    Word::ToMark(marks)
+}
+
+/// What `until` asks for. A PLACE of another program is met by whichever process runs that.
 fn until<'a, N: Names>(tokens: &Tokens<'a>, names: &N) -> Result<Word, WordErrorKind<'a>>
     ensures { IfOk result IsInRange }
 {
+    let place = match tokens.get(1) {
+        Some("pc") => 2,
+        _ => 1,
+    };
+    if let Some(mark) = elsewhere(tokens, place, names) {
+        return Ok(to_mark(mark));
+    }
     match goal(tokens, 1, names) {
         Ok(goal) => Ok(Word::Until(goal)),
         Err(kind) => Err(kind),

@@ -202,7 +202,7 @@ until store PLACE        an instruction has stored to this address, of whatever 
 until fault              a process is gone by a fault
 until exit               a process is gone, by a call, a kill or a fault
 until [line]             the process stands in another line of its source, also of a function that it calls
-help print tells what a PLACE may be.
+help print tells what a PLACE may be. One of another program is met by whichever process runs that.
 The bytes that wait in the console are taken before each Run, and told. 100000000 events are sent at most.
 It stops early where all processes sleep.",
             Topic::Finish => "\
@@ -365,11 +365,11 @@ pid; without it, the words look at the process that runs, or, where nobody runs,
 one that made the last step.",
             Topic::Continue => "\
 c
-go on to the next mark; without a mark leave
+go on to the next mark or fault
 send Runs up to the first that meets a mark, or by which a process is gone by a fault.
 Also: continue.
-100000000 at most. It stops early where all processes sleep. If there is no mark, it leaves the
-debugger: the machine goes on at the prompt that Ctrl-C opened; a debugger that stands alone ends.",
+100000000 at most. It stops early where all processes sleep. At the prompt that Ctrl-C opened it
+leaves the debugger, if there is no mark: the machine goes on.",
             Topic::Quit => "\
 quit
 end the debugger and the machine

@@ -107,8 +107,12 @@ acted (kind ∷ rest) (Some thread) =
 abbrev pub action : List ℕ → Command
 action text = acted (before 59 text) (acting (behind 58 (before 59 text)))
 
+-- vKill and vRun: the program ends, or begins anew, and GDB stays
+abbrev pub anew : List ℕ → Command
+anew text = if begins text (codes "Kill;") then on.EndProgram else (if begins text (codes "Run;") then on.Restart else on.Unknown)
+
 abbrev pub long_named : List ℕ → Command
-long_named text = if is_text text (codes "Cont?") then on.ResumeKinds else (if begins text (codes "Cont;") then action (drop 5 text) else on.Unknown)
+long_named text = if is_text text (codes "Cont?") then on.ResumeKinds else (if begins text (codes "Cont;") then action (drop 5 text) else anew text)
 
 -- Z and z: types 0 and 1 are breakpoints, type 2 is bytes that are watched
 abbrev pub point_of : List ℕ → Option Point
@@ -181,7 +185,7 @@ going name text =
     else (if name == 83 then by_signal (number text) (Step Any)
     else (if name == 98 then backwards text else on.Unknown)))))
 
--- Z and z are points, H and T threads, q and Q general queries, k and D the end
+-- Z and z are points, H and T threads, q and Q general queries, k and D the end, ! lets the program be begun anew
 abbrev pub others : (name : ℕ) → List ℕ → Command
 others name text =
     if name == 90 then point true text
@@ -191,7 +195,8 @@ others name text =
     else (if name == 113 then query text
     else (if name == 81 then setting text
     else (if name == 107 then on.Kill
-    else (if name == 68 then on.Detach else going name text)))))))
+    else (if name == 33 then on.Extended
+    else (if name == 68 then on.Detach else going name text))))))))
 
 -- what a packet asks for, by the first byte of its payload and what stands behind it
 abbrev pub asked_by : (name : ℕ) → List ℕ → Command

@@ -102,6 +102,12 @@ pub enum Command {
     NoAcks,
     /// `k`: the end of the program.
     Kill,
+    /// `!`: from now on the program may be begun anew, and GDB stays at its end.
+    Extended,
+    /// `vKill`: the end of the program, after which GDB stays.
+    EndProgram,
+    /// `vRun`: the program is begun anew.
+    Restart,
     /// `D`: the end of the debugging.
     Detach,
     /// One of these, whose text isn't right.
@@ -230,6 +236,19 @@ fn action(text: &[u8]) -> Command
     }
 }
 
+/// What a packet asks for by which the program ends or begins anew, and GDB stays.
+fn anew(text: &[u8]) -> Command
+    ensures { result ≡ meant.anew text.now }
+{
+    if let Some(_pid) = text.strip_prefix(b"Kill;".as_slice()) {
+        return Command::EndProgram;
+    }
+    match text.strip_prefix(b"Run;".as_slice()) {
+        Some(_file) => Command::Restart,
+        None => Command::Unknown,
+    }
+}
+
 /// What a packet asks for that begins with `v`.
 fn long_named(text: &[u8]) -> Command
     ensures { result ≡ meant.long_named text.now }
@@ -239,7 +258,7 @@ fn long_named(text: &[u8]) -> Command
     }
     match text.strip_prefix(b"Cont;".as_slice()) {
         Some(actions) => action(actions),
-        None => Command::Unknown,
+        None => anew(text),
     }
 }
 
@@ -337,6 +356,7 @@ fn other(name: u8, text: &[u8]) -> Command
         b'q' => query(text),
         b'Q' => setting(text),
         b'k' => Command::Kill,
+        b'!' => Command::Extended,
         b'D' => Command::Detach,
         _ => going(name, text),
     }

@@ -7,18 +7,19 @@ use Rattle.gdb_packets.specs.Answers.{exited, refusal}
 use Rattle.gdb_packets.specs.Commands.{asked}
 use Rattle.gdb_packets.specs.Packets.{packet}
 use Rattle.gdb_packets.specs.declared.answers.StopReason.{StopReason}
-use Rattle.gdb_packets.specs.declared.answers.StopReason.TheVariants.{Interrupt}
+use Rattle.gdb_packets.specs.declared.answers.StopReason.TheVariants.{Interrupt, Trap}
 use Rattle.gdb_packets.specs.declared.command.Command.{Command}
 use Rattle.gdb_packets.specs.declared.command.Command.TheVariants as on
 use Rattle.gdb_packets.specs.declared.command.Thread.TheVariants.{Any}
 use Rattle.gdb_packets.specs.declared.reader.Piece.{Piece}
 use Rattle.gdb_packets.specs.declared.reader.Piece.TheVariants as pieces
 use Rattle.gdb_packets.specs.declared.reader.Piece.TheVariants.{Ack, Nak, Packet, Damaged}
-use Rattle.gdb_target.specs.Choices.{StopsAt}
+use Rattle.gdb_target.specs.Choices.{StopsAt, choices}
 use Rattle.gdb_target.specs.Chosen.{IsStepped, IsUntil}
 use Rattle.gdb_target.specs.Found.{StandsFor}
 use Rattle.gdb_target.specs.Forth.{GoesBy}
 use Rattle.gdb_target.specs.LastHit.{GoesBackToLast}
+use Rattle.gdb_target.specs.SameRun.{beginning}
 use Rattle.gdb_target.specs.Sent.{IsAnswered, Sends, acknowledgement, stop_told}
 use Rattle.gdb_target.specs.declared.reverse.Back.{Back}
 use Rattle.gdb_target.specs.declared.reverse.Back.TheVariants.{StepOf, Point}
@@ -51,6 +52,17 @@ ReversesStep (Some p) old new before after = IsReversed (StepOf p) old new befor
 -- the step back is of the process that was chosen for steps
 abbrev pub IsStepBack : (old new : Target) (before after : Option (List ℕ)) → Type 0
 IsStepBack old new before after = (p : Option ℕ) × IsStepped old Any p × ReversesStep p old new before after
+
+-- ---- anew
+
+-- The run is at its boot again, before its first event; that stop is the last one from now on, and is sent
+pub record IsRestarted (old new : Target) (before after : Option (List ℕ)) : Type 0 where
+  pub to : Target
+  pub boot : length to.run.session.events ≡ 0
+  pub same : beginning to.run ≡ beginning old.run
+  pub chosen : choices to ≡ choices old
+  pub stops : StopsAt to Trap 1 new
+  pub sent : Sends before after (stop_told new)
 
 -- ---- what the console shows
 
@@ -139,6 +151,7 @@ abbrev pub Performs : Command → (old new : Target) (before after : Option (Lis
 Performs (on.Resume resume) old new before after = (until : Option Until) × IsUntil old resume until × ResumesUntil until old new before after
 Performs on.ReverseContinue old new before after = IsReversed Point old new before after
 Performs on.ReverseStep old new before after = IsStepBack old new before after
+Performs on.Restart old new before after = IsRestarted old new before after
 Performs on.Kill old new before after = (new ≡ old) × (after ≡ before)
 Performs command old new before after = IsAnswered command old new before after
 

@@ -68,5 +68,7 @@ IsTold t on.Offsets text = text ≡ codes "Text=0;Data=0;Bss=0"
 IsTold t on.Attached text = text ≡ codes "1"
 IsTold t on.NoAcks text = text ≡ codes "OK"
 IsTold t on.Detach text = text ≡ codes "OK"
+IsTold t on.Extended text = text ≡ codes "OK"
+IsTold t on.EndProgram text = text ≡ codes "OK"
 IsTold t on.Unknown text = text ≡ []
 IsTold t _ text = Unit {0}

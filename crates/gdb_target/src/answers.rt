@@ -318,7 +318,9 @@ impl Target {
             Command::Supported => text(alloc, SUPPORTED),
             Command::Offsets => text(alloc, b"Text=0;Data=0;Bss=0"),
             Command::Attached => text(alloc, b"1"),
-            Command::NoAcks | Command::Detach => text(alloc, b"OK"),
+            Command::NoAcks | Command::Detach | Command::Extended | Command::EndProgram => {
+                text(alloc, b"OK")
+            }
             _ => text(alloc, b""),
         }
     }

@@ -233,6 +233,18 @@ impl Target {
         std::mem::replace(&mut self.shown, Vec::new(alloc))
     }
 
+    /// The run begins anew. What the console shows is told once more.
+    pub fn reboot(&mut self, alloc: Global) -> Result<(), SessionError>
+        ensures boot { IfOk result (λ _. length self.new.run.session.events ≡ 0) }
+        ensures same { beginning self.new.run ≡ beginning self.old.run }
+        ensures choices { choices self.new ≡ choices self.old }
+    {
+        self.run.back_to(alloc, 0)?;
+        self.noted = 0;
+        self.told = None;
+        Ok(())
+    }
+
     /// A fault or the end that was told may be told again.
     pub(crate) fn forget_told(&mut self)
         ensures run { self.new.run ≡ self.old.run }

@@ -2,6 +2,7 @@
 use crate::NAME;
 use crate::conversing::{live, replay};
 use crate::first_screen::FirstScreen;
+use crate::history::History;
 use crate::host::Desk;
 use crate::line::Settings;
 use crate::notes::{Notes, OpenLine};
@@ -97,6 +98,7 @@ fn go_through<'a>(
         apart: settings.apart,
         alloc: rt.alloc(),
         plays_left: PLAYED_AGAIN,
+        history: History::new(rt.alloc()),
     };
     let mut screen = Screen {
         sink: Counted::new(rt.stdout()),

@@ -12,11 +12,14 @@
 
 mod beginning;
 mod command_line;
+mod completing;
 mod conversing;
 mod debugging;
 mod ending;
 mod first_screen;
+mod history;
 mod host;
+mod keys;
 mod line;
 mod line_editor;
 mod notes;

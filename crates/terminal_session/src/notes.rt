@@ -1,4 +1,5 @@
 //! Notes beside the screen, which don't tear what it shows.
+use crate::history::History;
 use arrayvec::ArrayVec;
 use std::alloc::Global;
 use std::fmt::Display;
@@ -63,6 +64,8 @@ pub struct Notes<E> {
     pub alloc: Global,
     /// How many events may still be played again for notes.
     pub plays_left: u64,
+    /// The lines that were typed at the prompt.
+    pub history: History,
 }
 
 impl<E: Write> Notes<E> {

@@ -1,10 +1,14 @@
 //! The prompt at which the machine is stopped, and the debugger is asked.
 ghost use Rattle.xv_debug.specs.Conversations.{Converses, MovesByWord};
 
+use crate::completing::rest_of_word;
+use crate::history::History;
+use crate::keys::{Key, Keys};
 use crate::line_editor::{Edit, LineEditor};
 use crate::notes::Notes;
 use crate::telling::tell_waits;
 use program_files::Failure;
+use std::alloc::Global;
 use std::io::Write;
 use xv_debug::{Debugger, Next};
 use xv_live::{Host, Look};
@@ -26,30 +30,102 @@ enum Line {
     Ends,
 }
 
-// Shows what a key did to the line.
-fn show_edit<E: Write>(edit: Edit, notes: &mut E) {
+// Moves the cursor so many places to the left.
+fn step_left<E: Write>(count: usize, notes: &mut E) {
+    for _ in 0..count {
+        let _ = notes.write_all(b"\x08");
+    }
+}
+
+// Shows the line from a place on, at which the cursor stands, up to its end, and puts the cursor at its own place.
+fn show_from<E: Write>(editor: &LineEditor, place: usize, notes: &mut E) {
+    let behind = editor.bytes().get(place..).unwrap_or(b"");
+    let _ = notes.write_all(behind);
+    let _ = notes.write_all(b"\x1b[K");
+    step_left(editor.bytes().len().saturating_sub(editor.place()), notes);
+}
+
+// Shows the whole line, if the cursor stands so many places behind its beginning.
+fn show_line<E: Write>(editor: &LineEditor, before: usize, notes: &mut E) {
+    step_left(before, notes);
+    show_from(editor, 0, notes);
+}
+
+// Shows that the cursor has gone from one place to another.
+fn show_move<E: Write>(editor: &LineEditor, before: usize, notes: &mut E) {
+    let place = editor.place();
+    step_left(before.saturating_sub(place), notes);
+    let passed = editor.bytes().get(before..place).unwrap_or(b"");
+    let _ = notes.write_all(passed);
+}
+
+// Shows what a key did to the line, in which the cursor stood at a place before it.
+fn show_edit<E: Write>(edit: Edit, editor: &LineEditor, before: usize, notes: &mut E) {
     match edit {
-        Edit::Adds(byte) => {
-            let _ = notes.write_all(&[byte]);
+        Edit::Adds(_) if editor.place() == editor.bytes().len() => {
+            let _ = notes.write_all(editor.bytes().get(before..).unwrap_or(b""));
         }
-        Edit::Takes(count) => {
-            for _ in 0..count {
-                let _ = notes.write_all(b"\x08 \x08");
-            }
+        Edit::Adds(_) => show_from(editor, before, notes),
+        Edit::Cuts { from, to } if from == to => {}
+        Edit::Cuts { from, .. } => {
+            step_left(before.saturating_sub(from), notes);
+            show_from(editor, from, notes);
         }
+        Edit::Moves(_) => show_move(editor, before, notes),
         Edit::Over | Edit::GoesOn | Edit::Ends => {
+            show_move(editor, before, notes);
             let _ = notes.write_all(b"\n");
         }
+        Edit::Older | Edit::Newer | Edit::Completes => show_line(editor, before, notes),
+        Edit::Stays => {}
     }
     let _ = notes.flush();
 }
 
+// Puts a line that was typed before or after in place of this one, if the key asks for it.
+fn recall(edit: Edit, editor: &mut LineEditor, history: &mut History) {
+    let line = match edit {
+        Edit::Older => history.older(),
+        Edit::Newer => history.newer(),
+        _ => None,
+    };
+    if let Some(line) = line {
+        editor.take_over(line);
+    }
+}
+
+// Writes out what was begun, if the key asks for it. Without memory nothing is written out.
+fn complete(edit: Edit, editor: &mut LineEditor, session: &Session, alloc: Global) {
+    if let Edit::Completes = edit {
+        if let Ok(rest) = rest_of_word(alloc, session, editor.begun()) {
+            editor.add_all(rest.as_bytes());
+        }
+    }
+}
+
+// What a key does to the line, and shows.
+fn take_key<E: Write>(
+    session: &Session,
+    editor: &mut LineEditor,
+    key: Key,
+    notes: &mut Notes<E>,
+) -> Edit {
+    let before = editor.place();
+    let edit = editor.key(key);
+    recall(edit, editor, &mut notes.history);
+    complete(edit, editor, session, notes.alloc);
+    show_edit(edit, editor, before, &mut notes.errors);
+    edit
+}
+
 // Reads a line of the keyboard. At its end the machine ends, since nobody is there to let it go on.
 fn read_line<H: Host, E: Write>(
+    session: &Session,
     host: &mut H,
     editor: &mut LineEditor,
-    notes: &mut E,
+    notes: &mut Notes<E>,
 ) -> Result<Line, Failure<'static>> {
+    let mut keys = Keys::new();
     for _ in 0..u64::MAX {
         let byte = match host.look()? {
             Look::Came(byte) => byte,
@@ -59,13 +135,14 @@ fn read_line<H: Host, E: Write>(
             }
             Look::Ended => return Ok(Line::Ends),
         };
-        let edit = editor.key(byte);
-        show_edit(edit, notes);
-        match edit {
+        let Some(key) = keys.next(byte) else {
+            continue;
+        };
+        match take_key(session, editor, key, notes) {
             Edit::Over => return Ok(Line::Typed),
             Edit::GoesOn => return Ok(Line::GoesOn),
             Edit::Ends => return Ok(Line::Ends),
-            Edit::Adds(_) | Edit::Takes(_) => {}
+            _ => {}
         }
     }
     Ok(Line::Ends)
@@ -100,7 +177,9 @@ fn exchange<H: Host, E: Write>(
 {
     notes.write_text(PROMPT);
     let mut editor = LineEditor::new();
-    match read_line(host, &mut editor, &mut notes.errors)? {
+    let line = read_line(session, host, &mut editor, notes)?;
+    notes.history.keep(editor.bytes());
+    match line {
         Line::Typed => answer(session, editor.bytes(), debugger, notes),
         Line::GoesOn => Ok(Next::Continues),
         Line::Ends => Ok(Next::Ends),

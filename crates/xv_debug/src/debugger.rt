@@ -18,7 +18,9 @@ use crate::shown_output::show_output;
 use crate::stops::{show_refusal, show_sent};
 use debug_views::{show_console, show_events, show_frames, show_memory, show_trace, show_value};
 use debug_words::texts::Many;
-use debug_words::{EVENTS_MOST, Goal, Keys, Mark, Marks, Word, WordError, show_help};
+use debug_words::{
+    EVENTS_MOST, Goal, Keys, Mark, Marks, Word, WordError, WordErrorKind, show_help,
+};
 use std::alloc::{AllocError, Global};
 use xk_base::Pid;
 use xv_machine::Event;
@@ -51,6 +53,8 @@ pub struct Debugger {
     sources: Option<Sources>,
     /// The marks at which `c` stops.
     marks: KeptMarks,
+    /// Whether nobody lets the machine go on after it: then `c` goes on without a mark too, up to a fault.
+    alone: bool,
 }
 
 /// What comes after the answer to a word.
@@ -106,8 +110,30 @@ fn show_never(answer: &mut String) -> Result<(), AllocError>
     answer.push_str("it never came before this place, and nothing is changed\n")
 }
 
+/// Whether a process lives that a word looks at: whose registers and names are known.
+fn has_names(session: &Session) -> bool {
+    match focus(session, None) {
+        Some(pid) => session.machine().registers(pid).is_some(),
+        None => false,
+    }
+}
+
+/// Writes why a register or a name isn't known, if it is since nobody lives.
+fn show_nameless(
+    session: &Session,
+    error: &WordError<'_>,
+    answer: &mut String,
+) -> Result<(), AllocError> {
+    match error.kind {
+        WordErrorKind::NotANumber(_) if !has_names(session) => answer.push_str(
+            "no process lives that could have it: back goes back, or name it PROGRAM:NAME\n",
+        ),
+        _ => Ok(()),
+    }
+}
+
 impl Debugger {
-    ghost use Rattle.std.specs.Prelude.{◌≡◌, ◌⊎◌, ℕ, [], IfOk, IfErr, OnOk, Option, length, map, option_map, replicate, string_bytes, take, unwrap_or};
+    ghost use Rattle.std.specs.Prelude.{◌≡◌, ◌⊎◌, ℕ, [], true, IfOk, IfErr, OnOk, Option, length, map, option_map, replicate, string_bytes, take, unwrap_or};
     ghost use Rattle.kernel_spec.specs.runs.Run as runs;
     ghost use Rattle.xv_machine.specs.Events.{event_of, outcome_of};
     ghost use Rattle.xv_debug.specs.motion.Aims.{aim_in};
@@ -136,6 +162,7 @@ impl Debugger {
             shown: 0,
             sources: None,
             marks: KeptMarks::new(),
+            alone: false,
         }
     }
 
@@ -148,6 +175,21 @@ impl Debugger {
             shown: 0,
             sources: Some(sources),
             marks: KeptMarks::new(),
+            alone: false,
+        }
+    }
+
+    /// The same, of a machine that nobody lets go on after it: so `c` goes on up to a fault, if there is no mark.
+    pub fn alone(sources: Sources) -> Debugger
+        ensures shown { result.shown ≡ 0 }
+        ensures sources { result.sources ≡ Some sources }
+        ensures alone { result.alone ≡ true }
+    {
+        Debugger {
+            shown: 0,
+            sources: Some(sources),
+            marks: KeptMarks::new(),
+            alone: true,
         }
     }
 
@@ -187,6 +229,7 @@ impl Debugger {
             Ok(word) => self.answer_marked(alloc, session, word, answer),
             Err(error) => {
                 writeln!(answer, "{error}")?;
+                show_nameless(session, &error, answer)?;
                 Ok(Next::Stays)
             }
         }
@@ -205,12 +248,13 @@ impl Debugger {
         Word::of(line, &known)
     }
 
-    /// The word, with the marks to which `c` goes on, if there are some.
+    /// The word, with the marks to which `c` goes on, if there are some, or if nothing else lets the machine go on.
     fn with_marks(&self, word: Word) -> Word
         requires { IsInRange word }
         ensures { IsInRange result }
     {
-        if self.marks.is_empty() || !goes_on(&word) {
+        let leaves = self.marks.is_empty() && !self.alone;
+        if leaves || !goes_on(&word) {
             return word;
         }
         Word::ToMark(self.marks.marks())

@@ -22,8 +22,11 @@ const STRETCH: u32 = 200_000;
 /// The most Runs among these that do something else than an instruction: a kernel call takes some microseconds.
 const CALLS_IN_STRETCH: u32 = 1_000;
 
-/// The most keys that are looked at, and typed, in one turn.
+/// The most keys that are typed in one turn.
 const KEYS_IN_TURN: usize = 64;
+
+/// The most keys that are looked at in one turn: so Ctrl-C is soon seen that comes after much pasted text.
+const LOOKS_IN_TURN: usize = 4_096;
 
 /// What is asked for beside the machine.
 #[derive(Clone, Copy, PartialEq, Eq)]
@@ -63,7 +66,7 @@ fn take_key<W: ByteSink, T: Teller>(
 // run and no key waits: so each of its keys is typed when it is waited for.
 fn looks_now<H: Host>(session: &Session, host: &H, pending: &Pending) -> usize {
     if host.is_terminal() {
-        KEYS_IN_TURN
+        LOOKS_IN_TURN
     } else if pending.is_empty() && !may_run(session.machine()) {
         1
     } else {

@@ -88,11 +88,11 @@ TextTold NotBooted before after = ⊥
 TextTold Full before after = ⊥
 TextTold Unknown before after = ⊥
 
--- a text is told of what the host's number names
-abbrev pub TellsOf : (named : Option ℕ) → Option Recorded → Answer → (before after : ℕ × List ℕ) → Type 0
+-- a text is told of what the host's numbers name
+abbrev pub TellsOf : {A : Type 0} → (named : Option A) → Option Recorded → Answer → (before after : ℕ × List ℕ) → Type 0
 TellsOf named None answer before after = (answer ≡ NotBooted) × (after ≡ before)
 TellsOf None (Some s) answer before after = (answer ≡ Unknown) × (after ≡ before)
-TellsOf (Some p) (Some s) answer before after = TextTold answer before after
+TellsOf (Some named) (Some s) answer before after = TextTold answer before after
 
 -- the step that process p is about to make, with this cause of its fault, the calls that led to it, and what may be wrong; none if it isn't live
 abbrev pub ReportOf : Cause → World → (p : ℕ) → Option FaultReport → Type 0

@@ -5,7 +5,7 @@
 ghost use Rattle.std.specs.Prelude.{◌≡◌, IfOk, [], option_map};
 ghost use Rattle.uasm_core.specs.LineTable.{table_seen};
 ghost use Rattle.xv_page.specs.Booting.{held};
-ghost use Rattle.xv_page.specs.Named.{pid_named, cause_named};
+ghost use Rattle.xv_page.specs.Named.{both, pid_named, cause_named};
 ghost use Rattle.xv_page.specs.Reports.{known, symbols_in, tables_in, IsAssembledOf, IsLinesOf, Begins, Adds, AddedTo, SourceAdded};
 ghost use Rattle.xv_page.specs.Reports.{TextTold, TellsOf, ReportNow, FaultTold};
 
@@ -15,8 +15,10 @@ use std::alloc::{AllocError, Global};
 use std::str;
 use uasm_core::{AsmError, SourceLines, assemble_with_lines};
 use xk_base::{Cause, Pid};
-use xv_report::text::{FaultText, WaitLine};
-use xv_report::{FaultReport, Lines, Sources, callers_of, hint_of, program_name, source_of};
+use xv_report::text::{FaultText, KillText, Place, RefusedText, WaitLine};
+use xv_report::{
+    FaultReport, Lines, Sources, call_name, callers_of, hint_of, program_name, source_of,
+};
 use xv_session::{Fault, Session, next_step};
 
 /// A table of lines, and of no program more.
@@ -242,6 +244,119 @@ pub fn xv_page_fault(
     };
     laid(
         fault_text(alloc, session, known(sources), &report),
+        told,
+        room,
+    )
+}
+
+/// The processes of these numbers, if there can be both.
+fn both_named(first: u32, second: u32) -> Option<(Pid, Pid)>
+    ensures { result ≡ both (pid_named first) (pid_named second) }
+{
+    let first = pid_named(first)?;
+    let second = pid_named(second)?;
+    Some((first, second))
+}
+
+/// An address of the program that a process runs.
+fn place_of<'a>(
+    session: &'a Session,
+    sources: Option<&'a Sources>,
+    pid: Pid,
+    address: u64,
+) -> Place<'a> {
+    Place {
+        address,
+        source: source_of(sources, session, session.program_of(pid)),
+    }
+}
+
+/// That a process was killed by another, at this address, as text.
+fn kill_text<'a>(
+    alloc: Global,
+    session: &'a Session,
+    sources: Option<&'a Sources>,
+    pids: (Pid, Pid),
+    at: u64,
+) -> Result<String, AllocError> {
+    let (victim, killer) = pids;
+    let text = KillText {
+        victim,
+        program: program_name(session, victim),
+        killer,
+        killer_program: program_name(session, killer),
+        place: place_of(session, sources, killer, at),
+    };
+    text.to_string(alloc)
+}
+
+/// Tells in words that a process was killed by another, by its call at this address. The host says who was killed by whom, and
+/// where: it stands right after the call then.
+#[inline(never)]
+pub fn xv_page_kill(
+    alloc: Global,
+    session: &Option<Box<Session>>,
+    sources: &Option<Box<Sources>>,
+    victim: u32,
+    killer: u32,
+    at: u64,
+    told: &mut u64,
+    room: &mut [u8],
+) -> Answer
+    ensures { TellsOf (both (pid_named victim) (pid_named killer)) (held session.now) result (told.old, room.old) (told.new, room.new) }
+{
+    let Some(session) = session else {
+        return Answer::NotBooted;
+    };
+    let Some(pids) = both_named(victim, killer) else {
+        return Answer::Unknown;
+    };
+    laid(
+        kill_text(alloc, session, known(sources), pids, at),
+        told,
+        room,
+    )
+}
+
+/// That a growth was refused which a process has asked for at this address, as text.
+fn refused_text<'a>(
+    alloc: Global,
+    session: &'a Session,
+    sources: Option<&'a Sources>,
+    pid: Pid,
+    number: u32,
+    at: u64,
+) -> Result<String, AllocError> {
+    let text = RefusedText {
+        call: call_name(number as i32).unwrap_or("call"),
+        place: place_of(session, sources, pid, at),
+    };
+    text.to_string(alloc)
+}
+
+/// Tells in words that a process was refused a growth: its call of this number, at this address. The host says so: it stands
+/// right after the call then.
+#[inline(never)]
+pub fn xv_page_refused(
+    alloc: Global,
+    session: &Option<Box<Session>>,
+    sources: &Option<Box<Sources>>,
+    pid: u32,
+    number: u32,
+    at: u64,
+    told: &mut u64,
+    room: &mut [u8],
+) -> Answer
+    ensures { TellsOf (pid_named pid) (held session.now) result (told.old, room.old) (told.new, room.new) }
+{
+    let Some(session) = session else {
+        return Answer::NotBooted;
+    };
+    let Some(pid) = pid_named(pid) else {
+        return Answer::Unknown;
+    };
+    laid(
+        refused_text(alloc, session, known(sources), pid, number, at),
         told,
         room,
     )

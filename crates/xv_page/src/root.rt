@@ -8,7 +8,9 @@ use crate::reading::{
     xv_page_frame, xv_page_note, xv_page_pipe, xv_page_pipe_byte, xv_page_process, xv_page_program,
     xv_page_register, xv_page_rights, xv_page_size, xv_page_slot, xv_page_use,
 };
-use crate::reports::{xv_page_fault, xv_page_know, xv_page_source, xv_page_wait};
+use crate::reports::{
+    xv_page_fault, xv_page_kill, xv_page_know, xv_page_refused, xv_page_source, xv_page_wait,
+};
 use crate::texts::{Assembled, xv_page_assemble, xv_page_instruction};
 use crate::views::{Facts, descriptor_told, pipe_told, process_told, use_told, word_told};
 use crate::writing::{
@@ -125,6 +127,12 @@ fn explain(
     xv_page_source(alloc, &mut sources, block, block);
     xv_page_wait(alloc, session, &sources, number, &mut told, bytes);
     xv_page_fault(alloc, session, &sources, number, &mut told, bytes);
+    xv_page_kill(
+        alloc, session, &sources, number, number, 7, &mut told, bytes,
+    );
+    xv_page_refused(
+        alloc, session, &sources, number, number, 7, &mut told, bytes,
+    );
 }
 
 /// Makes each call once: so the library has them all. The host calls them by themselves, and never this one.

@@ -4,20 +4,21 @@ ghost use Rattle.std.specs.Io.KnownBytes.{Appends};
 ghost use Rattle.gdb_packets.specs.Answers as packets;
 ghost use Rattle.gdb_target.specs.Forth.{shows};
 ghost use Rattle.gdb_target.specs.Sent.{IsAnswered, Sends, stop_told};
-ghost use Rattle.gdb_target.specs.Served.{ButTold, GoesAndTells, IsOver, IsPauseTold, IsReversed, IsStepBack};
+ghost use Rattle.gdb_target.specs.Served.{ButTold, GoesAndTells, IsOver, IsPauseTold, IsRestarted, IsReversed, IsStepBack};
 ghost use Rattle.gdb_target.specs.Served.{Pauses, Performs, Resumes, Takes, damaged_told, low_byte, shown_told};
 ghost use Rattle.gdb_target.specs.Serving.{more_after};
 
 use crate::answers::{malformed, no_such_process};
 use crate::reverse::Back;
 use crate::service::link::Link;
-use crate::target::{Going, Pause, Target, Until};
+use crate::target::{Going, Pause, Stopped, Target, Until};
 use gdb_packets::{
     Command, PacketReader, Piece, Resume, StopReason, Thread, console, exited, parse, stop_reply,
 };
 use program_files::Failure;
 use std::alloc::Global;
 use std::io::{ErrorKind, Read, Write};
+use xk_base::Pid;
 
 /// How many bytes are read at once.
 const READ_BYTES: usize = 512;
@@ -240,6 +241,19 @@ impl Service {
         }
     }
 
+    /// Begins the run anew, and tells that it stands at its boot.
+    fn restart<W: Write>(&mut self, output: &mut W) -> Result<(), Failure<'static>>
+        ensures { OnOk result
+            (IsRestarted self.old.target self.new.target (W.contents output.old) (W.contents output.new)) }
+    {
+        self.target.reboot(self.alloc)?;
+        self.target.stop_at(&Stopped {
+            reason: StopReason::Trap,
+            pid: Pid::new(1),
+        });
+        self.tell_stop(output)
+    }
+
     /// From now on packets aren't acknowledged, if this command asks for it.
     fn note_acks(&mut self, command: Command)
         ensures { self.new.target ≡ self.old.target }
@@ -286,6 +300,10 @@ impl Service {
             }
             Command::ReverseStep => {
                 self.reverse_step(output)?;
+                Ok(After::GoesOn)
+            }
+            Command::Restart => {
+                self.restart(output)?;
                 Ok(After::GoesOn)
             }
             Command::Kill => Ok(After::Ends),

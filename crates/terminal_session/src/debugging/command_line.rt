@@ -29,7 +29,7 @@ if it is there, or else by FILE.
 
 Standard input has words, a line each: help lists them. Without --prompt each line is written
 before its answer, after a >, so that the words of a file and their answers read well. The end
-of the input ends the debugger, and so do quit and c.
+of the input ends the debugger, and so does quit.
 
 Example:
   printf 'until exit\\nback\\nwhere\\n' | xv_debugger init.s

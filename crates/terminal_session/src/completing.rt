@@ -1,0 +1,115 @@
+//! What Tab writes out at the prompt: the debugger's words, and after them the goals of `until` and the names of programs.
+use debug_words::{Topic, show_help};
+use std::alloc::{AllocError, Global};
+use std::str;
+use xv_session::Session;
+
+/// What is known of how a word goes on that was begun.
+#[derive(Drop)]
+struct Rest {
+    /// The bytes that each word has which begins so.
+    common: String,
+    /// How many there are.
+    count: usize,
+}
+
+// How many characters of two texts are alike, from their beginnings on.
+fn alike(one: &str, other: &str) -> usize {
+    let mut count = 0;
+    for (a, b) in one.as_bytes().iter().zip(other.as_bytes().iter()) {
+        if *a != *b {
+            return count;
+        }
+        count += 1;
+    }
+    count
+}
+
+impl Rest {
+    // Another word: if it begins so, what it has in common with those before is left.
+    fn add(&mut self, alloc: Global, begun: &str, word: &str) -> Result<(), AllocError> {
+        let Some(rest) = word.strip_prefix(begun) else {
+            return Ok(());
+        };
+        let kept = if self.count == 0 {
+            rest
+        } else {
+            rest.get(..alike(rest, self.common.as_str())).unwrap_or("")
+        };
+        self.common = String::from_str(alloc, kept)?;
+        self.count = self.count.saturating_add(1);
+        Ok(())
+    }
+
+    // Words at the heads of lines, but for one with a form.
+    fn add_heads(&mut self, alloc: Global, begun: &str, text: &str) -> Result<(), AllocError> {
+        for line in text.split('\n') {
+            let word = line.split_whitespace().next().unwrap_or("");
+            if !word.contains('/') {
+                self.add(alloc, begun, word)?;
+            }
+        }
+        Ok(())
+    }
+
+    // The goals that help tells of `until`: what stands behind that word in a line.
+    fn add_goals(&mut self, alloc: Global, begun: &str, text: &str) -> Result<(), AllocError> {
+        for line in text.split('\n') {
+            if let Some(behind) = line.strip_prefix("until ") {
+                let goal = behind.split_whitespace().next().unwrap_or("");
+                let goal = goal.strip_prefix('[').unwrap_or(goal);
+                self.add(alloc, begun, goal.strip_suffix(']').unwrap_or(goal))?;
+            }
+        }
+        Ok(())
+    }
+
+    // The names of programs.
+    fn add_programs(
+        &mut self,
+        alloc: Global,
+        begun: &str,
+        session: &Session,
+    ) -> Result<(), AllocError> {
+        for program in session.machine().programs() {
+            if let Ok(name) = str::from_utf8(program.name.as_slice()) {
+                self.add(alloc, begun, name)?;
+            }
+        }
+        Ok(())
+    }
+}
+
+// How a word goes on that was begun, at the head of a line or behind other words.
+fn found(
+    alloc: Global,
+    session: &Session,
+    begun: &str,
+    is_first: bool,
+) -> Result<Rest, AllocError> {
+    let mut rest = Rest {
+        common: String::new(alloc),
+        count: 0,
+    };
+    let mut text = String::new(alloc);
+    if is_first {
+        show_help(None, &mut text)?;
+        rest.add_heads(alloc, begun, text.as_str())?;
+    } else {
+        show_help(Some(Topic::Until), &mut text)?;
+        rest.add_goals(alloc, begun, text.as_str())?;
+        rest.add_programs(alloc, begun, session)?;
+    }
+    Ok(rest)
+}
+
+/// What is left of the word that a line ends with, as far as it is one alone; with a blank, if there is no other.
+pub fn rest_of_word(alloc: Global, session: &Session, line: &[u8]) -> Result<String, AllocError> {
+    let line = str::from_utf8(line).unwrap_or("");
+    let (before, begun) = line.rsplit_once(' ').unwrap_or(("", line));
+    let mut rest = found(alloc, session, begun, before.trim().is_empty())?;
+    if rest.count == 1 {
+        rest.common.push(' ')?;
+    }
+    Ok(rest.common)
+}
