@@ -1,6 +1,7 @@
 //! The debugger: a line goes in, its answer comes out.
 ghost use Rattle.std.specs.Prelude.{◌≡◌, ◌++◌, OnOk, string_bytes};
 ghost use Rattle.xv_debug.specs.Effects.{next_of};
+ghost use Rattle.xv_debug.specs.Kept.{goes_on, marks_after};
 ghost use Rattle.xv_debug.specs.StopText.{never, no_return};
 
 use crate::callers::told_calls;
@@ -71,7 +72,9 @@ fn see_to_marks<'a>(
     sources: Option<&'a Sources>,
     word: &Word,
     answer: &mut String,
-) -> Result<(), AllocError> {
+) -> Result<(), AllocError>
+    ensures { marks.new.kept.items ≡ marks_after word.now marks.old }
+{
     let known = Known {
         session,
         sources,
@@ -85,7 +88,9 @@ fn see_to_marks<'a>(
 }
 
 /// Whether it is the word that lets the machine go on.
-fn goes_on(word: &Word) -> bool {
+fn goes_on(word: &Word) -> bool
+    ensures { result ≡ goes_on word.now }
+{
     match word {
         Word::Continue => true,
         _ => false,
@@ -110,6 +115,7 @@ impl Debugger {
     ghost use Rattle.std.specs.Prelude.{◌≡◌, ◌⊎◌, ℕ, [], IfOk, IfErr, OnOk, Option, length, map, option_map, replicate, string_bytes, take, unwrap_or};
     ghost use Rattle.kernel_spec.specs.runs.Run as runs;
     ghost use Rattle.xv_machine.specs.Events.{event_of, outcome_of};
+    ghost use Rattle.xv_session.specs.Recorded.{running_of};
     ghost use Rattle.xv_debug.specs.motion.Aims.{aim_in};
     ghost use Rattle.kcall_core.specs.Observers.{process_at};
     ghost use Rattle.debug_words.specs.Ranges.{IsInRange};
@@ -122,6 +128,7 @@ impl Debugger {
     ghost use Rattle.xv_debug.specs.AnswerText.{Answers, BackTells, BackUntilTells, FinishTells, GoalTells, IsBackText};
     ghost use Rattle.xv_debug.specs.AnswerText.{IsSentText, RoundsTell, SearchTells, SeekBackTells, SendsTell, StepTells};
     ghost use Rattle.xv_debug.specs.Effects.{Does, DoesOrStays, DoesSome, Finishes, GoesBack, IsAimOf, Obeys, Plays, Searches, SearchesGoal, SeeksBack, SendsFirst, Steps, next_of};
+    ghost use Rattle.xv_debug.specs.Kept.{IsToMarks, goes_to_none, left_after, marks_of};
     ghost use Rattle.xv_debug.specs.LookText.{IsOfFocus, Shows};
     ghost use Rattle.xv_debug.specs.OutputText.{output_text};
     ghost use Rattle.xv_debug.specs.WhereText.{IsProcessText, IsWhereOf};
@@ -208,7 +215,9 @@ impl Debugger {
     /// The word, with the marks to which `c` goes on, if there are some.
     fn with_marks(&self, word: Word) -> Word
         requires { IsInRange word }
-        ensures { IsInRange result }
+        ensures range { IsInRange result }
+        ensures same { goes_to_none self.now.marks.kept.items word ≡ true → result ≡ word }
+        ensures marks { goes_to_none self.now.marks.kept.items word ≡ false → IsToMarks (marks_of self.now.marks.kept.items) result }
     {
         if self.marks.is_empty() || !goes_on(&word) {
             return word;
@@ -236,7 +245,9 @@ impl Debugger {
     }
 
     /// Forgets the marks for once that are met where the session is, after the word that goes on to them.
-    fn forget_met(&mut self, session: &Session, word: &Word) {
+    fn forget_met(&mut self, session: &Session, word: &Word)
+        ensures { self.new.marks.kept.items ≡ left_after (running_of session.now) word.now self.old.marks.kept.items }
+    {
         if let Word::ToMark(_) = word {
             self.marks.forget_met(session);
         }
