@@ -1,1 +1,2 @@
 pub mod Lived
+pub mod Outcomes

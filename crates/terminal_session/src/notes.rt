@@ -1,4 +1,5 @@
-//! Notes beside the screen, which don't tear what it shows.
+//! Notes beside the screen, which don't tear what it shows. They are written to the host alone, and no contract speaks of
+//! them.
 use crate::history::History;
 use arrayvec::ArrayVec;
 use std::alloc::Global;

@@ -1,4 +1,5 @@
-//! What is told of the processes, beside what the machine sends.
+//! What is told of the processes, beside what the machine sends. It is written to the host alone, and no contract speaks
+//! of it.
 use crate::notes::Notes;
 use std::alloc::Global;
 use std::fmt;

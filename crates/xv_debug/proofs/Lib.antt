@@ -14,3 +14,4 @@ pub mod ToldPipes
 pub mod ToldProcesses
 pub mod Unmet
 mod WorkedAnswers
+mod WorkedMarks

@@ -1,9 +1,73 @@
--- The marks that are kept.
-use Rattle.std.specs.Prelude.{◌||◌, Bool, not}
+-- The marks that are kept, and what words do to them.
+use Rattle.std.specs.Prelude.{◌≡◌, ℕ, ◌+◌, ◌-◌, ◌^◌, ◌==◌, ◌||◌, Bool, true, false, not, nat_lt, if◌then◌else◌, List, [], ◌∷◌, ◌++◌, length, map, filter, min, Option, None, Some}
+use Rattle.std.specs.List.{list_any}
 use Rattle.xv_session.specs.declared.running.Running.{Running}
+use Rattle.debug_words.specs.declared.vocabulary.Mark.{Mark}
+use Rattle.debug_words.specs.declared.vocabulary.TheConstants.{MARKS_MOST}
+use Rattle.debug_words.specs.declared.vocabulary.Word.{Word}
+use Rattle.debug_words.specs.declared.vocabulary.Word.TheVariants as words
 use Rattle.xv_debug.specs.motion.Marks.{is_at_mark}
 use Rattle.xv_debug.specs.declared.kept.Kept.{Kept}
+use Rattle.xv_debug.specs.declared.kept.KeptMarks.{KeptMarks}
 
 -- it isn't for once, or the process that runs doesn't stand there
 abbrev pub is_left : Running → Kept → Bool
 is_left r k = not k.once || not (is_at_mark r k.mark)
+
+-- those that are kept any longer
+abbrev pub left_at : Running → List Kept → List Kept
+left_at r marks = filter (is_left r) marks
+
+-- the next mark: its number is one more than that of the last that was made
+abbrev pub next_mark : KeptMarks → Mark → (once : Bool) → Kept
+next_mark marks mark once = record { number = min (marks.made + 1) (2 ^ 32 - 1); mark = mark; once = once }
+
+-- the marks after one more is kept, if there is room
+abbrev pub kept_after : KeptMarks → Mark → (once : Bool) → List Kept
+kept_after marks mark once =
+    if nat_lt (length marks.kept.items) MARKS_MOST then marks.kept.items ++ next_mark marks mark once ∷ [] else marks.kept.items
+
+-- it has this number
+abbrev pub is_numbered : (number : ℕ) → Kept → Bool
+is_numbered number k = k.number == number
+
+-- there is one of this number, or one at all
+abbrev pub has : Option ℕ → List Kept → Bool
+has None marks = not (length marks == 0)
+has (Some number) marks = list_any (is_numbered number) marks
+
+-- those that are left without the one of this number, or without any
+abbrev pub left_without : Option ℕ → List Kept → List Kept
+left_without None marks = []
+left_without (Some number) marks = filter (λ k. not (is_numbered number k)) marks
+
+-- without their numbers
+abbrev pub marks_of : List Kept → List Mark
+marks_of marks = map (λ k. k.mark) marks
+
+-- ---- what words do to them
+
+-- a word that keeps one, forgets some, or lists them
+abbrev pub marks_after : Word → KeptMarks → List Kept
+marks_after (words.Mark mark once) marks = kept_after marks mark once
+marks_after (words.Delete number) marks = left_without number marks.kept.items
+marks_after _ marks = marks.kept.items
+
+-- the word that goes on to marks: those for once that are met are forgotten after it
+abbrev pub left_after : Running → Word → List Kept → List Kept
+left_after r (words.ToMark own) marks = left_at r marks
+left_after r _ marks = marks
+
+-- it lets the machine go on
+abbrev pub goes_on : Word → Bool
+goes_on words.Continue = true
+goes_on _ = false
+
+-- there is no mark, or it is another word
+abbrev pub goes_to_none : List Kept → Word → Bool
+goes_to_none marks word = (length marks == 0) || not (goes_on word)
+
+-- it goes on to these marks
+abbrev pub IsToMarks : List Mark → Word → Type 0
+IsToMarks marks (words.ToMark own) = own.items ≡ marks
+IsToMarks marks _ = ⊥

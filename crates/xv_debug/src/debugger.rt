@@ -1,6 +1,7 @@
 //! The debugger: a line goes in, its answer comes out.
 ghost use Rattle.std.specs.Prelude.{◌≡◌, ◌++◌, OnOk, string_bytes};
 ghost use Rattle.xv_debug.specs.Effects.{next_of};
+ghost use Rattle.xv_debug.specs.Kept.{goes_on, marks_after};
 ghost use Rattle.xv_debug.specs.StopText.{never, no_return};
 
 use crate::callers::told_calls;
@@ -75,7 +76,9 @@ fn see_to_marks<'a>(
     sources: Option<&'a Sources>,
     word: &Word,
     answer: &mut String,
-) -> Result<(), AllocError> {
+) -> Result<(), AllocError>
+    ensures { marks.new.kept.items ≡ marks_after word.now marks.old }
+{
     let known = Known {
         session,
         sources,
@@ -89,7 +92,9 @@ fn see_to_marks<'a>(
 }
 
 /// Whether it is the word that lets the machine go on.
-fn goes_on(word: &Word) -> bool {
+fn goes_on(word: &Word) -> bool
+    ensures { result ≡ goes_on word.now }
+{
     match word {
         Word::Continue => true,
         _ => false,
@@ -136,6 +141,7 @@ impl Debugger {
     ghost use Rattle.std.specs.Prelude.{◌≡◌, ◌⊎◌, ℕ, [], true, IfOk, IfErr, OnOk, Option, length, map, option_map, replicate, string_bytes, take, unwrap_or};
     ghost use Rattle.kernel_spec.specs.runs.Run as runs;
     ghost use Rattle.xv_machine.specs.Events.{event_of, outcome_of};
+    ghost use Rattle.xv_session.specs.Recorded.{running_of};
     ghost use Rattle.xv_debug.specs.motion.Aims.{aim_in};
     ghost use Rattle.kcall_core.specs.Observers.{process_at};
     ghost use Rattle.debug_words.specs.Ranges.{IsInRange};
@@ -148,6 +154,7 @@ impl Debugger {
     ghost use Rattle.xv_debug.specs.AnswerText.{Answers, BackTells, BackUntilTells, FinishTells, GoalTells, IsBackText};
     ghost use Rattle.xv_debug.specs.AnswerText.{IsSentText, RoundsTell, SearchTells, SeekBackTells, SendsTell, StepTells};
     ghost use Rattle.xv_debug.specs.Effects.{Does, DoesOrStays, DoesSome, Finishes, GoesBack, IsAimOf, Obeys, Plays, Searches, SearchesGoal, SeeksBack, SendsFirst, Steps, next_of};
+    ghost use Rattle.xv_debug.specs.Kept.{IsToMarks, goes_to_none, left_after, marks_of};
     ghost use Rattle.xv_debug.specs.LookText.{IsOfFocus, Shows};
     ghost use Rattle.xv_debug.specs.OutputText.{output_text};
     ghost use Rattle.xv_debug.specs.WhereText.{IsProcessText, IsWhereOf};
@@ -251,7 +258,9 @@ impl Debugger {
     /// The word, with the marks to which `c` goes on, if there are some, or if nothing else lets the machine go on.
     fn with_marks(&self, word: Word) -> Word
         requires { IsInRange word }
-        ensures { IsInRange result }
+        ensures range { IsInRange result }
+        ensures same { goes_to_none self.now.marks.kept.items word ≡ true → result ≡ word }
+        ensures marks { goes_to_none self.now.marks.kept.items word ≡ false → IsToMarks (marks_of self.now.marks.kept.items) result }
     {
         let leaves = self.marks.is_empty() && !self.alone;
         if leaves || !goes_on(&word) {
@@ -280,7 +289,9 @@ impl Debugger {
     }
 
     /// Forgets the marks for once that are met where the session is, after the word that goes on to them.
-    fn forget_met(&mut self, session: &Session, word: &Word) {
+    fn forget_met(&mut self, session: &Session, word: &Word)
+        ensures { self.new.marks.kept.items ≡ left_after (running_of session.now) word.now self.old.marks.kept.items }
+    {
         if let Word::ToMark(_) = word {
             self.marks.forget_met(session);
         }

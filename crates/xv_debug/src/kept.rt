@@ -1,7 +1,8 @@
-//! The marks that are kept, at which `c` stops.
+//! The marks that are kept, at which `c` stops. How they are told, no contract says.
 ghost use Rattle.std.specs.Prelude.{◌≡◌};
+ghost use Rattle.std.specs.List.{list_any};
 ghost use Rattle.xv_session.specs.Recorded.{running_of};
-ghost use Rattle.xv_debug.specs.Kept.{is_left};
+ghost use Rattle.xv_debug.specs.Kept.{is_left, is_numbered};
 
 use crate::motion::is_at_mark;
 use crate::names::Known;
@@ -77,8 +78,17 @@ fn is_left(session: &Session, kept: &Kept) -> bool
     !kept.once || !is_at_mark(session, &kept.mark)
 }
 
+/// Whether one of them has this number.
+fn has_number(kept: &[Kept], number: u32) -> bool
+    ensures { result ≡ list_any (is_numbered number) kept.now }
+{
+    kept.iter().any(|kept| kept.number == number)
+}
+
 impl KeptMarks {
-    ghost use Rattle.std.specs.Prelude.{◌≡◌, ◌∷◌, [], ◌++◌, IfSome, IfNone};
+    ghost use Rattle.std.specs.Prelude.{◌≡◌, ◌==◌, ◌∷◌, [], ◌++◌, IfSome, IfNone, length};
+    ghost use Rattle.xv_session.specs.Recorded.{running_of};
+    ghost use Rattle.xv_debug.specs.Kept.{has, kept_after, left_at, left_without, marks_of};
 
     /// None yet.
     pub fn new() -> KeptMarks
@@ -91,7 +101,9 @@ impl KeptMarks {
     }
 
     /// Whether there is none.
-    pub fn is_empty(&self) -> bool {
+    pub fn is_empty(&self) -> bool
+        ensures { result ≡ (length self.now.kept.items == 0) }
+    {
         self.kept.is_empty()
     }
 
@@ -101,6 +113,8 @@ impl KeptMarks {
         ensures mark { IfSome result (λ kept. kept.mark ≡ mark) }
         ensures once { IfSome result (λ kept. kept.once ≡ once) }
         ensures full { IfNone result (self.new.kept.items ≡ self.old.kept.items) }
+        ensures kept { self.new.kept.items ≡ kept_after self.old mark once }
+        ensures made { IfSome result (λ kept. self.new.made ≡ kept.number) }
     {
         let kept = Kept {
             number: self.made.saturating_add(1),
@@ -121,7 +135,9 @@ impl KeptMarks {
         mark: Mark,
         once: bool,
         answer: &mut String,
-    ) -> Result<(), AllocError> {
+    ) -> Result<(), AllocError>
+        ensures { self.new.kept.items ≡ kept_after self.old mark once }
+    {
         match self.add(mark, once) {
             Some(kept) => show_kept(known, &kept, answer),
             None => answer.push_str("there are 16 marks, and no more: delete forgets them\n"),
@@ -129,27 +145,23 @@ impl KeptMarks {
     }
 
     /// Whether there is a mark of this number; of none, whether there is one.
-    fn has(&self, number: Option<u32>) -> bool {
-        let Some(number) = number else {
-            return !self.kept.is_empty();
-        };
-        self.kept
-            .as_slice()
-            .iter()
-            .any(|kept| kept.number == number)
+    fn has(&self, number: Option<u32>) -> bool
+        ensures { result ≡ has number self.now.kept.items }
+    {
+        match number {
+            Some(number) => has_number(self.kept.as_slice(), number),
+            None => !self.kept.is_empty(),
+        }
     }
 
     /// Forgets the mark of this number, or all.
-    fn forget(&mut self, number: Option<u32>) {
-        let mut left = KeptList::new();
-        if let Some(number) = number {
-            for kept in self.kept.as_slice() {
-                if kept.number != number {
-                    let _ = left.try_push(*kept);
-                }
-            }
+    fn forget(&mut self, number: Option<u32>)
+        ensures { self.new.kept.items ≡ left_without number self.old.kept.items }
+    {
+        match number {
+            Some(number) => self.kept.retain(|kept| kept.number != number),
+            None => self.kept.clear(),
         }
-        self.kept = left;
     }
 
     /// Forgets the mark of this number, or all, and tells which are left.
@@ -158,23 +170,23 @@ impl KeptMarks {
         known: &Known<'_>,
         number: Option<u32>,
         answer: &mut String,
-    ) -> Result<(), AllocError> {
-        if !self.has(number) {
-            return answer.push_str("there is no such mark: break lists them\n");
-        }
+    ) -> Result<(), AllocError>
+        ensures { self.new.kept.items ≡ left_without number self.old.kept.items }
+    {
+        let had = self.has(number);
         self.forget(number);
-        self.show(known, answer)
+        if had {
+            self.show(known, answer)
+        } else {
+            answer.push_str("there is no such mark: break lists them\n")
+        }
     }
 
     /// Forgets those for once that are met where the session is.
-    pub fn forget_met(&mut self, session: &Session) {
-        let mut left = KeptList::new();
-        for kept in self.kept.as_slice() {
-            if is_left(session, kept) {
-                let _ = left.try_push(*kept);
-            }
-        }
-        self.kept = left;
+    pub fn forget_met(&mut self, session: &Session)
+        ensures { self.new.kept.items ≡ left_at (running_of session.now) self.old.kept.items }
+    {
+        self.kept.retain(|kept| is_left(session, kept));
     }
 
     /// Writes all of them.
@@ -189,10 +201,12 @@ impl KeptMarks {
     }
 
     /// The marks, without their numbers.
-    pub fn marks(&self) -> Marks {
+    pub fn marks(&self) -> Marks
+        ensures { result.items ≡ marks_of self.now.kept.items }
+    {
         let mut marks = Marks::new();
         for kept in self.kept.as_slice() {
-            let _ = marks.try_push(kept.mark);
+            marks.push(kept.mark);
         }
         marks
     }
