@@ -13,9 +13,12 @@ pub pauses-preserved : goal.pauses-preserved
 pauses-preserved g c =
     let so_far = c.pauses.invariant in
     let goes = subst (λ (p : Option Pause). GoesBy c.args.going.now.until c.pauses.self.target p c.go.new.self)
-    (shows-is c.in_ok-pause.pause (sym c.shows.ensures ∙ c.if-not-shows.false)) c.in_ok-pause.ensures.goes in
-    (suc so_far.0, (c.pauses.self.target, c.go.new.self, so_far.1, goes, c.in_ok-show.ensures.told),
-        shows-more _ _ _ c.go.new.self.shown.items so_far.2 c.in_ok-show.ensures.sent, c.in_ok-show.ensures.acks ∙ so_far.3)
+    (shows-is c.in_ok-pause.pause (sym c.shows.ensures ∙ c.if-not-shows.false)) c.in_ok-pause.ensures.goes in (
+      suc so_far.0,
+      (c.pauses.self.target, c.go.new.self, so_far.1, goes, c.in_ok-show.ensures.told),
+      shows-more _ _ _ c.go.new.self.shown.items so_far.2 c.in_ok-show.ensures.sent,
+      c.in_ok-show.ensures.acks ∙ so_far.3,
+    )
 
 pub returns-clause-goes : goal.returns-clause-goes
 returns-clause-goes g c =

@@ -30,7 +30,7 @@ loop-byte-preserved g c =
     let k = g.W.Write.contents c.take.new.output in (
       serves-next bytes n c.loop-byte-test.true start r so_far.1 c.args.self.now c.loop-byte.self c.take.new.self (g.W.Write.contents c.args.output.now) i k so_far.0
           (fed-some (get_or bytes n 0) r now c.in-Some.piece c.payload.result.now c.loop-byte.self c.take.new.self i k _ (sym c.in_ok-piece.ensures.tells ∙ c.in-Some.is) c.payload.ensures
-            c.in_ok-piece.ensures.goes (record {
+          c.in_ok-piece.ensures.goes (record {
             takes = c.in_ok-take.ensures.takes;
             kept = c.in_ok-take.ensures.kept;
             acks = c.in_ok-take.ensures.acks;
@@ -52,7 +52,7 @@ returns-in-Ends-clause-serves g c =
     let k = g.W.Write.contents c.take.new.output in
     serves-last bytes n c.loop-byte-test.true start r so_far.1 c.args.self.now c.loop-byte.self c.take.new.self (g.W.Write.contents c.args.output.now) i k so_far.0
     (fed-some (get_or bytes n 0) r now c.in-Some.piece c.payload.result.now c.loop-byte.self c.take.new.self i k _ (sym c.in_ok-piece.ensures.tells ∙ c.in-Some.is) c.payload.ensures
-            c.in_ok-piece.ensures.goes (record {
+    c.in_ok-piece.ensures.goes (record {
       takes = c.in_ok-take.ensures.takes;
       kept = c.in_ok-take.ensures.kept;
       acks = c.in_ok-take.ensures.acks;
