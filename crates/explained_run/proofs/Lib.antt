@@ -1,2 +1,4 @@
 pub mod Joined
+pub mod Rows
 pub mod Texts
+mod WorkedCounts

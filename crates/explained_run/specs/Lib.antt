@@ -1,5 +1,6 @@
 pub mod Booted
 pub mod Chosen
+pub mod Counts
 pub mod Lines
 pub mod LiveFact
 pub mod Ranges

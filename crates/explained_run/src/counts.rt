@@ -1,5 +1,9 @@
 //! How many calls and instructions each process has done.
-use std::alloc::Global;
+ghost use Rattle.std.specs.Prelude.{◌≡◌, ◌<◌, [], true, OnOk, IfSome, IfNone, length, option_map, slice_get};
+ghost use Rattle.xv_machine.specs.Events.{outcome_of};
+ghost use Rattle.explained_run.specs.Counts as meant;
+
+use std::alloc::{AllocFailed, Global};
 use xk_base::Pid;
 use xv_machine::Outcome;
 
@@ -26,7 +30,9 @@ pub(crate) struct Counts {
 }
 
 // A process that has done nothing.
-fn nothing(pid: Pid, program: Option<usize>) -> Count {
+fn nothing(pid: Pid, program: Option<usize>) -> Count
+    ensures { result ≡ meant.row pid program 0 0 0 }
+{
     Count {
         pid,
         program,
@@ -36,9 +42,111 @@ fn nothing(pid: Pid, program: Option<usize>) -> Count {
     }
 }
 
+// Whether a row is there, and is of this process.
+fn is_of(pid: Pid, row: &Option<Count>) -> bool
+    ensures { result ≡ meant.is_of pid row.now }
+{
+    match row {
+        Some(row) => row.pid.number() == pid.number(),
+        None => false,
+    }
+}
+
+// The row of this place.
+fn row_at(counts: &[Count], place: usize) -> Option<Count>
+    ensures { result ≡ slice_get counts.now place }
+{
+    counts.get(place).copied()
+}
+
+// The place of the last row of a process, which is among the last ones.
+#[tactic(auto, using(crate::proofs::Rows::row_passed, crate::proofs::Rows::row_found))]
+fn place_of(counts: &[Count], pid: Pid) -> Option<usize>
+    ensures place { result ≡ meant.place_of counts.now pid }
+    ensures within { IfSome result (λ place. place < length counts.now) }
+{
+    let mut end = counts.len();
+    'rows: while end > 0 {
+        if is_of(pid, &row_at(counts, end - 1)) {
+            return Some(end - 1);
+        }
+        end -= 1;
+    }
+    None
+}
+
+// A row, once its process has done more.
+fn both(before: &Count, more: &Count) -> Count
+    ensures { result ≡ meant.both before.now more.now }
+{
+    Count {
+        pid: before.pid,
+        program: more.program.or(before.program),
+        calls: before.calls.saturating_add(more.calls),
+        failed: before.failed.saturating_add(more.failed),
+        instructions: before.instructions.saturating_add(more.instructions),
+    }
+}
+
+// A row that may be there, once its process has done more.
+fn with_more(before: &Option<Count>, more: &Count) -> Count
+    ensures { result ≡ meant.with_more before.now more.now }
+{
+    match before {
+        Some(before) => both(before, more),
+        None => *more,
+    }
+}
+
+// Adds what a process has done.
+fn add(counts: &mut Vec<Count>, more: &Count) -> Result<(), AllocFailed<Count>>
+    ensures { OnOk result (counts.new.items ≡ meant.added counts.old.items more.now) }
+{
+    let Some(place) = place_of(counts.as_slice(), more.pid) else {
+        return counts.push(*more);
+    };
+    let row = row_at(counts.as_slice(), place);
+    counts[place] = with_more(&row, more);
+    Ok(())
+}
+
+// Whether a call has failed, as a number.
+fn failed_of(value: i64) -> u64
+    ensures { result ≡ meant.failed_of value }
+{
+    if value < 0 { 1 } else { 0 }
+}
+
+// Whether a process ends by the call exit, as a number.
+fn exits_of(is_marked: bool) -> u64
+    ensures { result ≡ meant.exits_of is_marked }
+{
+    if is_marked { 0 } else { 1 }
+}
+
+// What a process has done if this came of its step.
+fn done_by(pid: Pid, program: Option<usize>, is_marked: bool, outcome: &Outcome) -> Count
+    ensures { result ≡ meant.done_by pid program is_marked (outcome_of outcome.now) }
+{
+    let mut count = nothing(pid, program);
+    match outcome {
+        Outcome::Called { value, .. } => {
+            count.calls = 1;
+            count.failed = failed_of(*value);
+        }
+        Outcome::Exited { .. } => count.calls = exits_of(is_marked),
+        Outcome::Stepped { .. } => count.instructions = 1,
+        _ => {}
+    }
+    count
+}
+
 impl Counts {
     /// Nothing is done.
-    pub fn new(alloc: Global) -> Counts {
+    pub fn new(alloc: Global) -> Counts
+        ensures counts { result.counts.items ≡ [] }
+        ensures complete { result.complete ≡ true }
+    {
         Counts {
             counts: Vec::new(alloc),
             complete: true,
@@ -46,7 +154,9 @@ impl Counts {
     }
 
     /// What each process has done; `None` if there was too little memory.
-    pub fn all(&self) -> Option<&[Count]> {
+    pub fn all(&self) -> Option<&[Count]>
+        ensures { option_map (λ counts. counts.now) result ≡ meant.if_complete self.now.complete self.now.counts.items }
+    {
         if self.complete {
             Some(self.counts.as_slice())
         } else {
@@ -54,33 +164,21 @@ impl Counts {
         }
     }
 
-    // The place of a process. It is among the last ones.
-    fn place_of(&self, pid: Pid) -> Option<usize> {
-        let number = pid.number();
-        self.counts
-            .as_slice()
-            .iter()
-            .rposition(|count| count.pid.number() == number)
-    }
-
     // Adds what a process has done.
-    fn add(&mut self, more: &Count) {
-        let Some(place) = self.place_of(more.pid) else {
-            if self.counts.push(*more).is_err() {
-                self.complete = false;
-            }
-            return;
-        };
-        if let Some(count) = self.counts.get_mut(place) {
-            count.calls = count.calls.saturating_add(more.calls);
-            count.failed = count.failed.saturating_add(more.failed);
-            count.instructions = count.instructions.saturating_add(more.instructions);
-            count.program = more.program.or(count.program);
+    fn add(&mut self, more: &Count)
+        ensures counts { self.new.complete ≡ true → self.new.counts.items ≡ meant.added self.old.counts.items more.now }
+        ensures complete { self.new.complete ≡ true → self.old.complete ≡ true }
+    {
+        if add(&mut self.counts, more).is_err() {
+            self.complete = false;
         }
     }
 
     /// A process has done so many instructions.
-    pub fn add_instructions(&mut self, pid: Pid, program: Option<usize>, made: u32) {
+    pub fn add_instructions(&mut self, pid: Pid, program: Option<usize>, made: u32)
+        ensures counts { self.new.complete ≡ true → self.new.counts.items ≡ meant.added self.old.counts.items (meant.row pid program 0 0 made) }
+        ensures complete { self.new.complete ≡ true → self.old.complete ≡ true }
+    {
         let mut count = nothing(pid, program);
         count.instructions = u64::from(made);
         self.add(&count);
@@ -93,17 +191,11 @@ impl Counts {
         program: Option<usize>,
         is_marked: bool,
         outcome: &Outcome,
-    ) {
-        let mut count = nothing(pid, program);
-        match outcome {
-            Outcome::Called { value, .. } => {
-                count.calls = 1;
-                count.failed = u64::from(*value < 0);
-            }
-            Outcome::Exited { .. } => count.calls = u64::from(!is_marked),
-            Outcome::Stepped { .. } => count.instructions = 1,
-            _ => {}
-        }
+    )
+        ensures counts { self.new.complete ≡ true → self.new.counts.items ≡ meant.added self.old.counts.items (meant.done_by pid program is_marked (outcome_of outcome.now)) }
+        ensures complete { self.new.complete ≡ true → self.old.complete ≡ true }
+    {
+        let count = done_by(pid, program, is_marked, outcome);
         self.add(&count);
     }
 }

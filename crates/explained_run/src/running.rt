@@ -1,7 +1,7 @@
 //! A run: from the words of the command line to the closing line.
-ghost use Rattle.std.specs.Prelude.{◌≡◌, ◌≢◌, map};
+ghost use Rattle.std.specs.Prelude.{◌≡◌, ◌≢◌, IfOk, map};
 ghost use Rattle.kernel_spec.specs.views.State.{named_file};
-ghost use Rattle.run_work.specs.Runs.{EndsSo, Says};
+ghost use Rattle.run_work.specs.Runs.{EndsSo, IsRunStatus, Says};
 
 use crate::NAME;
 use crate::choice::Choice;
@@ -100,7 +100,9 @@ fn choice_of(alloc: Global, settings: &Settings) -> Result<Choice, Failure<'stat
 }
 
 // Runs the programs that the settings name, and gives the exit status.
-fn run<'a>(rt: &HostRuntime, settings: &'a Settings) -> Result<u8, Failure<'a>> {
+fn run<'a>(rt: &HostRuntime, settings: &'a Settings) -> Result<u8, Failure<'a>>
+    ensures { IfOk result (λ status. IsRunStatus status) }
+{
     let choice = choice_of(rt.alloc(), settings)?;
     let made = programs(rt, settings.files.as_slice())?;
     let config = Config {
@@ -127,7 +129,9 @@ fn run<'a>(rt: &HostRuntime, settings: &'a Settings) -> Result<u8, Failure<'a>> 
 }
 
 /// Runs the programs that the words of a command line name, tells their calls as they come, and gives the exit status.
-pub fn explain_by_words<W: Env + AllocGlobal>(rt: &HostRuntime, words: &W) -> u8 {
+pub fn explain_by_words<W: Env + AllocGlobal>(rt: &HostRuntime, words: &W) -> u8
+    ensures { IsRunStatus result }
+{
     match settings(words) {
         Ok(settings) => match run(rt, &settings) {
             Ok(status) => status,

@@ -51,12 +51,17 @@ impl<E: Write> Watched<E> {
     }
 
     /// Whether there was memory for all lines.
-    pub fn is_complete(&self) -> bool {
+    pub fn is_complete(&self) -> bool
+        ensures { result ≡ self.now.explained.complete }
+    {
         self.explained.complete
     }
 
     /// Writes the table of what each process has done, if no lines are asked for.
-    pub fn write_counts(&mut self) {
+    pub fn write_counts(&mut self)
+        ensures explained { self.new.explained ≡ self.old.explained }
+        ensures work { self.new.work ≡ self.old.work }
+    {
         if !self.explained.choice.lines {
             write_table(&self.explained, &mut self.errors);
         }

@@ -7,6 +7,7 @@ pub mod Ways
 pub mod PlayedOn
 pub mod Rows
 pub mod Sending
+pub mod Serving
 pub mod Shows
 pub mod Stood
 pub mod Watching

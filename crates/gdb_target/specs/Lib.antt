@@ -3,6 +3,7 @@ pub mod Choices
 pub mod Chosen
 pub mod Forth
 pub mod Found
+pub mod Kept
 pub mod LastHit
 pub mod PlayedBy
 pub mod Rounds

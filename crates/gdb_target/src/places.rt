@@ -1,5 +1,6 @@
 //! What there is to see at a place of a run.
-ghost use Rattle.std.specs.Prelude.{◌≡◌, Some, None, IfSome};
+ghost use Rattle.std.specs.Prelude.{◌≡◌, Some, None, IfSome, is_some};
+ghost use Rattle.std.specs.List.{list_all};
 ghost use Rattle.kernel_spec.specs.views.Words.{is_this};
 ghost use Rattle.gdb_target.specs.Standing.{Starts, StandsAt, begins, does_instruction, goes_on, is_place};
 ghost use Rattle.gdb_target.specs.Standing.{stander, stands_at, starter};
@@ -107,7 +108,9 @@ pub(crate) struct Glimpse {
 
 impl Glimpse {
     /// Whether each of the bytes is there.
-    pub fn is_whole(&self) -> bool {
+    pub fn is_whole(&self) -> bool
+        ensures { result ≡ list_all (λ byte. is_some byte) self.now.bytes.items }
+    {
         self.bytes.iter().all(|byte| byte.is_some())
     }
 }

@@ -1,16 +1,32 @@
 -- Worked cases of the definitions.
-use Rattle.std.specs.Prelude.{◌≡◌, true, false, [], ◌∷◌, None, Some, String, string_bytes, codes, refl}
+use Rattle.std.proofs.Common.{◌≢◌, ℕ, zero, suc, ◌<◌, List, ap, arith, inl, inr}
+use Rattle.std.specs.Prelude.{◌≡◌, true, false, [], ◌∷◌, None, Some, String, length, slice_index, string_bytes, codes, refl}
 use Rattle.std.specs.declared.alloc.Global.{Global}
 use Rattle.grade_rules.specs.declared.ending.End.TheVariants as ends
 use Rattle.kernel_spec.specs.runs.Run.{Run, Tick, Sent, Idle}
 use Rattle.grade_submissions.specs.declared.disk.Found.TheVariants.{Nothing, NoFile}
 use Rattle.grade_submissions.specs.declared.submission.HandedIn.TheVariants.{Refused}
-use Rattle.grade_submissions.specs.Files.{path_in, without_mark, without_returns, speaks_of, no_file_text, IsFoundAs}
+use Rattle.grade_submissions.specs.Files.{path_in, without_mark, without_returns, speaks_of, no_file_text, IsFolderOf, IsFoundAs}
 use Rattle.grade_submissions.specs.Plays.{sending_after, runs_among, waiting}
 
 -- a file `b` in the folder `a`
 in_a_folder : path_in (codes "a") (codes "b") ≡ codes "a/b"
 in_a_folder = refl
+
+-- the folder of `a/b` is `a`, and no other
+no-slash : (place : ℕ) → place < length (codes "b") → slice_index (codes "b") place ≢ 47
+no-slash zero within is = absurd (omega (arith, is))
+no-slash (suc place) within is = absurd (omega (arith, within))
+
+its_folder : IsFolderOf (codes "a/b") (codes "a")
+its_folder = inl (codes "b", refl, no-slash)
+
+not_the_present_one : IsFolderOf (codes "a/b") (codes ".") → ⊥
+not_the_present_one (inl is) = absurd (omega (arith, ap (λ (path : List ℕ). slice_index path 0) is.1))
+not_the_present_one (inr is) = is.1 1 (omega arith) refl
+
+alone : IsFolderOf (codes "b") (codes ".")
+alone = inr (refl, no-slash)
 
 -- a byte order mark goes, if it stands first
 a_mark : without_mark (0xef ∷ 0xbb ∷ 0xbf ∷ 65 ∷ []) ≡ (65 ∷ [])

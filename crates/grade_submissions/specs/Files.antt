@@ -1,5 +1,5 @@
 -- Which files a run is made of, and what was handed in.
-use Rattle.std.specs.Prelude.{◌≡◌, ◌≢◌, ◌⊎◌, ◌==◌, ℕ, Bool, not, if◌then◌else◌, List, [], ◌∷◌, ◌++◌, map, filter, drop, eqb, codes, string_bytes, Option, None, Some, String}
+use Rattle.std.specs.Prelude.{◌≡◌, ◌≢◌, ◌⊎◌, ◌==◌, ℕ, ◌<◌, Bool, not, if◌then◌else◌, List, [], ◌∷◌, ◌++◌, length, slice_index, map, filter, drop, eqb, codes, string_bytes, Option, None, Some, String}
 use Rattle.std.specs.declared.alloc.Global.{Global}
 use Rattle.std.specs.List.{find, starts_with, concat}
 use Rattle.std.specs.Str.{IsUtf8}
@@ -19,9 +19,13 @@ use Rattle.grade_submissions.specs.declared.submission.Submission.{Submission}
 
 -- ---- paths
 
--- the folder of a path: what stands before a slash of it, or the present one
+-- no byte of a text is a slash
+abbrev pub HasNoSlash : List ℕ → Type 0
+HasNoSlash text = (place : ℕ) → place < length text → slice_index text place ≢ 47
+
+-- the folder of a path: what stands before its last slash; the present one, if it has no slash
 abbrev pub IsFolderOf : (path folder : List ℕ) → Type 0
-IsFolderOf path folder = ((rest : List ℕ) × (path ≡ folder ++ (codes "/" ++ rest))) ⊎ (folder ≡ codes ".")
+IsFolderOf path folder = ((name : List ℕ) × (path ≡ folder ++ (codes "/" ++ name)) × HasNoSlash name) ⊎ ((folder ≡ codes ".") × HasNoSlash path)
 
 -- a text ends with another one
 abbrev pub IsEnd : (text end : List ℕ) → Type 0

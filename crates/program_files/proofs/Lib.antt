@@ -2,3 +2,4 @@ pub mod Failures
 pub mod Statuses
 mod WorkedFailures
 mod WorkedPrograms
+pub mod Read

@@ -1,9 +1,9 @@
 //! Programs from the host's files, and the lines of those that are assembled.
-ghost use Rattle.std.specs.Prelude.{◌≡◌, ◌≢◌, ◌++◌, ℕ, List, IfOk, IfErr, MatchOption, Ok, codes, length};
+ghost use Rattle.std.specs.Prelude.{◌≡◌, ◌≢◌, ◌++◌, ℕ, List, IfOk, IfErr, MatchOption, MatchResult, Ok, codes, length};
 ghost use Rattle.std.specs.Str.{IsUtf8};
 ghost use Rattle.uasm_core.specs.FileFormat.{file_of};
 ghost use Rattle.program_files.specs.declared.refusal.FileRefusal.TheVariants.{OutOfMemory};
-ghost use Rattle.program_files.specs.Programs.{IsNameIn, IsProgramOf, IsUnassembled, IsUnmade};
+ghost use Rattle.program_files.specs.Programs.{AreProgramsIn, HasNoProgram, IsNameIn, IsProgramIn, IsProgramOf, IsRead, IsUnassembled, IsUnmade, IsUnopened, IsUnread};
 
 use crate::refusal::FileRefusal;
 use std::alloc::Global;
@@ -15,7 +15,9 @@ use xk_base::Program;
 use xk_base::limits::PROGRAM_BYTES;
 
 // What a failed call on the file of this path comes to.
-fn failed<'a>(error: &io::Error, path: &'a str) -> FileRefusal<'a> {
+fn failed<'a>(error: &io::Error, path: &'a str) -> FileRefusal<'a>
+    ensures { IsUnopened path.now result }
+{
     match error.kind() {
         ErrorKind::OutOfMemory => FileRefusal::OutOfMemory,
         _ => FileRefusal::CannotBeRead(path),
@@ -27,7 +29,10 @@ fn read_file<'a, F: Read + Drop>(
     alloc: Global,
     file: F,
     path: &'a str,
-) -> Result<Vec<u8>, FileRefusal<'a>> {
+) -> Result<Vec<u8>, FileRefusal<'a>>
+    ensures read { IfOk result (λ bytes. IsRead (F.remaining file) bytes.items) }
+    ensures refused { IfErr result (λ why. IsUnread path.now (F.remaining file) why) }
+{
     let mut bytes = Vec::new(alloc);
     match file.take(PROGRAM_BYTES as u64 + 1).read_to_end(&mut bytes) {
         Ok(count) if count <= PROGRAM_BYTES => Ok(bytes),
@@ -124,7 +129,10 @@ pub fn program<'a, F: Read + Drop>(
     alloc: Global,
     file: io::Result<F>,
     path: &'a str,
-) -> Result<SourcedProgram, FileRefusal<'a>> {
+) -> Result<SourcedProgram, FileRefusal<'a>>
+    ensures made { IfOk result (λ made. MatchResult file (λ f. IsProgramIn path.now (F.remaining f) made.program) (λ _. ⊥)) }
+    ensures refused { IfErr result (λ why. MatchResult file (λ f. HasNoProgram path.now (F.remaining f) why) (λ _. IsUnopened path.now why)) }
+{
     match file {
         Ok(file) => program_of_bytes(alloc, read_file(alloc, file, path)?, path),
         Err(error) => Err(failed(&error, path)),
@@ -138,6 +146,7 @@ pub fn programs<'a, R: Files + AllocGlobal>(
     paths: &'a [String],
 ) -> Result<SourcedPrograms, FileRefusal<'a>>
     ensures programs { IfOk result (λ made. length made.programs.items ≡ length paths.now) }
+    ensures made { IfOk result (λ made. AreProgramsIn paths.now made.programs.items) }
     ensures lines { IfOk result (λ made. length made.lines.items ≡ length paths.now) }
 {
     let mut programs = Vec::new(rt.alloc());

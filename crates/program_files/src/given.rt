@@ -1,5 +1,6 @@
 //! What the words of a command line give.
-ghost use Rattle.std.specs.Prelude.{◌≡◌, ◌≤◌, ◌<◌, IfOk, vec_len};
+ghost use Rattle.std.specs.Prelude.{◌≡◌, ◌≤◌, ◌<◌, IfOk, option_map, string_bytes, vec_len};
+ghost use Rattle.program_files.specs.Given.{first_of, is_set, text_of, texts_of, word_of};
 
 use crate::arguments::{SettingsError, WordsError, words};
 use crate::command_line::{CommandLine, FILE};
@@ -34,6 +35,23 @@ fn copies<S: AsStr>(alloc: Global, texts: &[S]) -> Result<Vec<String>, AllocErro
     Ok(copies)
 }
 
+// What is given for the word of this name.
+fn word_of<'a>(words: &'a [GivenWord], name: &str) -> Option<&'a GivenWord>
+    ensures { option_map (λ word. word.now) result ≡ word_of words.now name.now }
+{
+    words.iter().find(|word| word.name == name)
+}
+
+// The first of these texts.
+fn first_of(texts: &[String]) -> Option<&str>
+    ensures { option_map (λ text. text.now) result ≡ first_of texts.now }
+{
+    match texts.first() {
+        Some(text) => Some(text.as_str()),
+        None => None,
+    }
+}
+
 impl Given {
     /// Reads the words of a command line, the program's name first.
     ///
@@ -65,19 +83,20 @@ impl Given {
     }
 
     // The texts that are given for the word of this name.
-    fn texts(&self, name: &str) -> &[String] {
-        match self.words.iter().find(|word| word.name == name) {
+    fn texts(&self, name: &str) -> &[String]
+        ensures { result.now ≡ texts_of self.now.words.items name.now }
+    {
+        match word_of(self.words.as_slice(), name) {
             Some(word) => word.texts.as_slice(),
             None => &[],
         }
     }
 
     // The first text that is given for the word of this name.
-    fn first(&self, name: &str) -> Option<&str> {
-        match self.texts(name).first() {
-            Some(text) => Some(text.as_str()),
-            None => None,
-        }
+    fn first(&self, name: &str) -> Option<&str>
+        ensures { option_map (λ text. text.now) result ≡ text_of self.now.words.items name.now }
+    {
+        first_of(self.texts(name))
     }
 
     /// The number of an option. It lies in its range.
@@ -109,7 +128,9 @@ impl Given {
     /// # Errors
     ///
     /// [`SettingsError::Memory`] if the host has too little memory for it.
-    pub fn text(&self, name: &str) -> Result<Option<String>, SettingsError> {
+    pub fn text(&self, name: &str) -> Result<Option<String>, SettingsError>
+        ensures { IfOk result (λ text. option_map (λ t. string_bytes t) text ≡ text_of self.now.words.items name.now) }
+    {
         match self.first(name) {
             Some(text) => Ok(Some(String::from_str(self.alloc, text)?)),
             None => Ok(None),
@@ -117,7 +138,9 @@ impl Given {
     }
 
     /// Whether an option without a value is given.
-    pub fn flag(&self, name: &str) -> bool {
+    pub fn flag(&self, name: &str) -> bool
+        ensures { result ≡ is_set (text_of self.now.words.items name.now) }
+    {
         match self.first(name) {
             Some(text) => text == "true",
             None => false,

@@ -1,5 +1,5 @@
 //! Calls that are told once a process ends: kills, and growths that were refused.
-ghost use Rattle.std.specs.Prelude.{◌≡◌, true, OnOk};
+ghost use Rattle.std.specs.Prelude.{◌≡◌, [], true, OnOk};
 ghost use Rattle.kcall_core.specs.Observers.{process_at};
 ghost use Rattle.reported_run.specs.Ends as meant;
 
@@ -135,7 +135,11 @@ fn add_refused(calls: &mut Vec<CallMade>, call: &CallMade) -> Result<(), AllocFa
 
 impl Ends {
     /// None.
-    pub fn new(alloc: Global) -> Ends {
+    pub fn new(alloc: Global) -> Ends
+        ensures kills { result.kills.items ≡ [] }
+        ensures refused { result.refused.items ≡ [] }
+        ensures complete { result.complete ≡ true }
+    {
         Ends {
             kills: Vec::new(alloc),
             refused: Vec::new(alloc),

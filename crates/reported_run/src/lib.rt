@@ -7,6 +7,8 @@
 //! for `xv_picture`.
 #![tactic(auto)]
 
+ghost use Rattle.run_work.specs.Runs.{IsRunStatus};
+
 mod command_line;
 mod ends;
 mod letters;
@@ -52,7 +54,9 @@ fn known_programs<'a>(
 }
 
 /// Runs these programs, and gives the exit status.
-fn run(rt: &HostRuntime, settings: &Settings, known: KnownPrograms) -> u8 {
+fn run(rt: &HostRuntime, settings: &Settings, known: KnownPrograms) -> u8
+    ensures { IsRunStatus result }
+{
     let config = Config {
         frames: settings.frames,
         trace: settings.trace,
@@ -77,7 +81,9 @@ fn run(rt: &HostRuntime, settings: &Settings, known: KnownPrograms) -> u8 {
 }
 
 /// Runs the programs that the settings name, if they can be had, and gives the exit status.
-fn run_files(rt: &HostRuntime, settings: &Settings) -> u8 {
+fn run_files(rt: &HostRuntime, settings: &Settings) -> u8
+    ensures { IsRunStatus result }
+{
     match known_programs(rt, settings) {
         Ok(known) => run(rt, settings, known),
         Err(failure) => failure.close(NAME, &mut rt.stderr()),
@@ -85,7 +91,9 @@ fn run_files(rt: &HostRuntime, settings: &Settings) -> u8 {
 }
 
 /// Runs the programs that the words of a command line name, tells the run as it goes, and gives the exit status.
-pub fn run_and_tell<W: Env + AllocGlobal>(rt: &HostRuntime, words: &W) -> u8 {
+pub fn run_and_tell<W: Env + AllocGlobal>(rt: &HostRuntime, words: &W) -> u8
+    ensures { IsRunStatus result }
+{
     match settings(words) {
         Ok(settings) => run_files(rt, &settings),
         Err(error) => error.close(NAME, &mut rt.stdout(), &mut rt.stderr()),

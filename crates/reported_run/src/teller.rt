@@ -1,5 +1,5 @@
 //! What is told of a run while it goes on, and at its end.
-ghost use Rattle.std.specs.Prelude.{◌≡◌};
+ghost use Rattle.std.specs.Prelude.{◌≡◌, [], true, false};
 ghost use Rattle.program_files.specs.Failures.{failure_status};
 ghost use Rattle.program_files.specs.Statuses.{status_of};
 ghost use Rattle.reported_run.specs.Stops.{stop_status};
@@ -31,7 +31,7 @@ pub(crate) struct Runner {
     program: Option<usize>,
 }
 
-/// Tells of a run. What can't be written is left out.
+/// Tells of a run. What can't be written is left out, so no contract says what is told.
 #[derive(Drop)]
 pub(crate) struct Teller<E> {
     alloc: Global,
@@ -149,7 +149,15 @@ fn wait_text<'a>(
 
 impl<E: Write> Teller<E> {
     /// Nothing is told yet.
-    pub fn new(alloc: Global, errors: E, sources: Sources, telling: Telling) -> Teller<E> {
+    pub fn new(alloc: Global, errors: E, sources: Sources, telling: Telling) -> Teller<E>
+        ensures telling { result.telling ≡ telling }
+        ensures steps { result.steps ≡ 0 }
+        ensures idles { result.idles ≡ 0 }
+        ensures halted { result.halted ≡ false }
+        ensures kills { result.ends.kills.items ≡ [] }
+        ensures refused { result.ends.refused.items ≡ [] }
+        ensures complete { result.ends.complete ≡ true }
+    {
         Teller {
             alloc,
             errors,

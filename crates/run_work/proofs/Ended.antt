@@ -1,9 +1,11 @@
 -- How a run with a budget ends.
-use Rattle.std.proofs.Common.{◌≡◌, ◌⊎◌, ℕ, inl, inr, arith, refl}
-use Rattle.program_files.specs.Statuses.{Devices, Tells}
+use Rattle.std.proofs.Common.{◌≡◌, ◌⊎◌, ℕ, zero, suc, List, inl, inr, arith, refl}
+use Rattle.kernel_spec.specs.views.State.{ProgramFile}
+use Rattle.program_files.specs.Statuses.{Devices, IsPlainStatus, Tells}
 use Rattle.xv_machine.specs.declared.driving.RunPlan.{RunPlan}
+use Rattle.xv_machine.specs.declared.machine.Config.{Config}
 use Rattle.xv_machine.specs.Meaning.{Meaning}
-use Rattle.run_work.specs.Runs.{BrokenOff, EndsSo}
+use Rattle.run_work.specs.Runs.{BrokenOff, EndsSo, IsRunStatus, Says}
 
 -- no status of a run that was driven is 6
 not-over : (status : ℕ) → (status ≡ 0) ⊎ (status ≡ 3) ⊎ (status ≡ 4) ⊎ (status ≡ 5) → status ≡ 6 → ⊥
@@ -18,3 +20,38 @@ module _ (plan : RunPlan) (booted : Meaning) (before after : Devices) where
 
   pub ended-over : BrokenOff plan booted before after → EndsSo 6 plan booted before after
   ended-over broken = record { over = λ _. broken; driven = λ other. absurd (other refl) }
+
+-- ---- exit statuses
+
+-- no status of a run that was driven is above 6
+not-above : (n : ℕ) → (suc (suc (suc (suc (suc (suc (suc n)))))) ≡ 0) ⊎ (suc (suc (suc (suc (suc (suc (suc n)))))) ≡ 3)
+    ⊎ (suc (suc (suc (suc (suc (suc (suc n)))))) ≡ 4) ⊎ (suc (suc (suc (suc (suc (suc (suc n)))))) ≡ 5) → ⊥
+not-above n (inl a) = omega (arith, a)
+not-above n (inr (inl a)) = omega (arith, a)
+not-above n (inr (inr (inl a))) = omega (arith, a)
+not-above n (inr (inr (inr a))) = omega (arith, a)
+
+-- a run ends with 6 at most
+pub says-run : (status : ℕ) (config : Config) (plan : RunPlan) (programs : List ProgramFile) (before after : Devices)
+    → Says status config plan programs before after → IsRunStatus status
+says-run 0 config plan programs before after says = omega arith
+says-run 1 config plan programs before after says = omega arith
+says-run 2 config plan programs before after says = omega arith
+says-run 3 config plan programs before after says = omega arith
+says-run 4 config plan programs before after says = omega arith
+says-run 5 config plan programs before after says = omega arith
+says-run 6 config plan programs before after says = omega arith
+says-run (suc (suc (suc (suc (suc (suc (suc n))))))) config plan programs before after says =
+    let ends = (says (λ two. omega (arith, two))).2 in absurd (not-above n ((ends.driven (λ six. omega (arith, six))).no_other))
+
+-- so does a program whose words are refused
+pub plain-run : (status : ℕ) → IsPlainStatus status → IsRunStatus status
+plain-run status (inl a) = omega (arith, a)
+plain-run status (inr (inl a)) = omega (arith, a)
+plain-run status (inr (inr (inl a))) = omega (arith, a)
+plain-run status (inr (inr (inr a))) = omega (arith, a)
+
+-- and one that ends early
+pub early-run : (status : ℕ) → (status ≡ 2) ⊎ (status ≡ 5) → IsRunStatus status
+early-run status (inl a) = omega (arith, a)
+early-run status (inr a) = omega (arith, a)

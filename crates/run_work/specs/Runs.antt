@@ -1,5 +1,5 @@
 -- What a run with a budget of work comes to, by its exit status. Without a budget it is what a run of `xv_run` comes to, but for the host's memory, which may run out.
-use Rattle.std.specs.Prelude.{◌≡◌, ◌≢◌, ℕ, List, Ok}
+use Rattle.std.specs.Prelude.{◌≡◌, ◌≢◌, ℕ, ◌≤◌, List, Ok}
 use Rattle.kernel_spec.specs.runs.First.{first}
 use Rattle.kernel_spec.specs.views.State.{ProgramFile}
 use Rattle.program_files.specs.Statuses.{Devices, Tells}
@@ -24,3 +24,7 @@ pub record EndsSo (status : ℕ) (plan : RunPlan) (booted : Meaning) (before aft
 abbrev pub Says : (status : ℕ) (config : Config) (plan : RunPlan) (programs : List ProgramFile) (before after : Devices) → Type 0
 Says status config plan programs before after =
     status ≢ 2 → (booted : Meaning) × (first config.frames config.trace programs ≡ Ok booted.world) × EndsSo status plan booted before after
+
+-- the exit status of a program that runs others with a budget: help was shown or `init` exited with 0, the words are refused, or 2 to 6 as `Says` has them
+abbrev pub IsRunStatus : ℕ → Type 0
+IsRunStatus status = status ≤ 6

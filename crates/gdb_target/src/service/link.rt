@@ -1,7 +1,8 @@
 //! What is written to GDB.
-ghost use Rattle.std.specs.Prelude.{◌≡◌, OnOk, true};
+ghost use Rattle.std.specs.Prelude.{◌≡◌, [], OnOk, true};
 ghost use Rattle.std.specs.Io.KnownBytes.{Appends};
 ghost use Rattle.gdb_packets.specs.Packets as packets;
+ghost use Rattle.gdb_target.specs.Kept.{IsSentLast};
 ghost use Rattle.gdb_target.specs.Sent.{Sends, acknowledgement};
 
 use gdb_packets::packet;
@@ -33,7 +34,8 @@ pub(crate) struct Link {
 impl Link {
     /// A way on which packets are acknowledged.
     pub fn new(alloc: Global) -> Link
-        ensures { result.acks ≡ true }
+        ensures acks { result.acks ≡ true }
+        ensures last { result.last.items ≡ [] }
     {
         Link {
             alloc,
@@ -43,9 +45,11 @@ impl Link {
     }
 
     /// Writes the packet of a payload.
+    #[tactic(auto, using(crate::proofs::Serving::sent_last))]
     pub fn send<W: Write>(&mut self, output: &mut W, payload: &[u8]) -> Result<(), Failure<'static>>
         ensures sent { OnOk result (Sends (W.contents output.old) (W.contents output.new) payload.now) }
         ensures kept { OnOk result (self.new.last.items ≡ packets.packet payload.now) }
+        ensures last { OnOk result (IsSentLast self.new.last.items (W.contents output.old) (W.contents output.new)) }
         ensures acks { self.new.acks ≡ self.old.acks }
     {
         self.last = packet(self.alloc, payload)?;

@@ -1,12 +1,16 @@
 //! What is answered to each packet.
-ghost use Rattle.std.specs.Prelude.{◌≡◌, IfOk, OnOk};
+ghost use Rattle.std.specs.Prelude.{◌≡◌, [], IfOk, OnOk, true, not};
 ghost use Rattle.std.specs.Io.KnownBytes.{Appends};
 ghost use Rattle.gdb_packets.specs.Answers as packets;
 ghost use Rattle.gdb_target.specs.Forth.{shows};
 ghost use Rattle.gdb_target.specs.Sent.{IsAnswered, Sends, stop_told};
 ghost use Rattle.gdb_target.specs.Served.{ButTold, GoesAndTells, IsOver, IsPauseTold, IsRestarted, IsReversed, IsStepBack};
 ghost use Rattle.gdb_target.specs.Served.{Pauses, Performs, Resumes, Takes, damaged_told, low_byte, shown_told};
-ghost use Rattle.gdb_target.specs.Serving.{more_after};
+ghost use Rattle.gdb_target.specs.Kept.{IsSentLast};
+ghost use Rattle.gdb_target.specs.Serving.{IsKept, IsKeptBy, IsKeptIf, IsServed, ServesUntil, acks_after, acks_by, more_after, more_by};
+ghost use Rattle.gdb_packets.specs.Commands.{asked};
+ghost use Rattle.gdb_packets.specs.Packets.{fed_all};
+ghost use Rattle.gdb_packets.specs.Reading.{reading};
 
 use crate::answers::{malformed, no_such_process};
 use crate::reverse::Back;
@@ -24,7 +28,7 @@ use xk_base::Pid;
 const READ_BYTES: usize = 512;
 
 /// Whether there is more to serve.
-#[derive(Clone, Copy, PartialEq, Eq)]
+#[derive(Clone, Copy)]
 enum After {
     GoesOn,
     Ends,
@@ -56,7 +60,7 @@ fn more_after(command: Command) -> After
     ensures { result ≡ more_after command }
 {
     match command {
-        Command::Detach => After::Ends,
+        Command::Detach | Command::Kill => After::Ends,
         _ => After::GoesOn,
     }
 }
@@ -73,7 +77,12 @@ pub(crate) struct Service {
 
 impl Service {
     /// The service of a machine that was just booted, by commands that send so many events at most.
-    pub fn new(alloc: Global, target: Target, most: u32) -> Service {
+    pub fn new(alloc: Global, target: Target, most: u32) -> Service
+        ensures target { result.target ≡ target }
+        ensures most { result.most ≡ most }
+        ensures acks { result.link.acks ≡ true }
+        ensures last { result.link.last.items ≡ [] }
+    {
         Service {
             alloc,
             target,
@@ -86,6 +95,7 @@ impl Service {
     fn show<W: Write>(&mut self, output: &mut W) -> Result<(), Failure<'static>>
         ensures sent { OnOk result (Appends (W.contents output.old) (W.contents output.new) (shown_told self.old.target.shown.items)) }
         ensures told { ButTold self.old.target self.new.target }
+        ensures acks { self.new.link.acks ≡ self.old.link.acks }
     {
         let shown = self.target.take_shown(self.alloc);
         if shown.is_empty() {
@@ -102,8 +112,9 @@ impl Service {
         output: &mut W,
         going: &Going,
     ) -> Result<Option<Pause>, Failure<'static>>
-        ensures { IfOk result
+        ensures goes { IfOk result
             (λ p. Resumes going.now.until self.old.target p self.new.target (W.contents output.old) (W.contents output.new)) }
+        ensures acks { self.new.link.acks ≡ self.old.link.acks }
     {
         'pauses: for _ in 0..u64::from(self.most) {
             let pause = self.target.go(self.alloc, going)?;
@@ -121,8 +132,9 @@ impl Service {
         output: &mut W,
         until: Until,
     ) -> Result<Option<Pause>, Failure<'static>>
-        ensures { IfOk result
+        ensures pauses { IfOk result
             (λ p. Pauses until self.old.target p self.new.target (W.contents output.old) (W.contents output.new)) }
+        ensures acks { self.new.link.acks ≡ self.old.link.acks }
     {
         if self.target.take_interrupt() {
             let stopped = self.target.stop_here(StopReason::Interrupt);
@@ -134,7 +146,9 @@ impl Service {
 
     /// Tells that as many events were sent as may be.
     fn tell_over<W: Write>(&mut self, output: &mut W) -> Result<(), Failure<'static>>
-        ensures { OnOk result (IsOver self.old.target self.new.target (W.contents output.old) (W.contents output.new)) }
+        ensures over { OnOk result (IsOver self.old.target self.new.target (W.contents output.old) (W.contents output.new)) }
+        ensures kept { OnOk result (IsSentLast self.new.link.last.items (W.contents output.old) (W.contents output.new)) }
+        ensures acks { self.new.link.acks ≡ self.old.link.acks }
     {
         let most = self.most;
         let note = format!(in self.alloc; "xv_gdb: {most} events are over; it can go on\n")?;
@@ -150,6 +164,8 @@ impl Service {
         ensures sent { OnOk result
             (Sends (W.contents output.old) (W.contents output.new) (packets.exited (low_byte status))) }
         ensures target { self.new.target ≡ self.old.target }
+        ensures kept { OnOk result (IsSentLast self.new.link.last.items (W.contents output.old) (W.contents output.new)) }
+        ensures acks { self.new.link.acks ≡ self.old.link.acks }
     {
         let payload = exited(self.alloc, low_byte(status))?;
         self.link.send(output, payload.as_slice())
@@ -161,8 +177,10 @@ impl Service {
         output: &mut W,
         pause: Option<Pause>,
     ) -> Result<(), Failure<'static>>
-        ensures { OnOk result
+        ensures told { OnOk result
             (IsPauseTold pause self.old.target self.new.target (W.contents output.old) (W.contents output.new)) }
+        ensures kept { OnOk result (IsSentLast self.new.link.last.items (W.contents output.old) (W.contents output.new)) }
+        ensures acks { self.new.link.acks ≡ self.old.link.acks }
     {
         match pause {
             Some(Pause::Ended(status)) => self.tell_end(output, status),
@@ -180,6 +198,8 @@ impl Service {
         ensures sent { OnOk result
             (Sends (W.contents output.old) (W.contents output.new) (stop_told self.old.target)) }
         ensures target { self.new.target ≡ self.old.target }
+        ensures kept { OnOk result (IsSentLast self.new.link.last.items (W.contents output.old) (W.contents output.new)) }
+        ensures acks { self.new.link.acks ≡ self.old.link.acks }
     {
         let payload = stop_reply(self.alloc, self.target.stopped.stop())?;
         self.link.send(output, payload.as_slice())
@@ -191,8 +211,10 @@ impl Service {
         output: &mut W,
         until: Until,
     ) -> Result<(), Failure<'static>>
-        ensures { OnOk result
+        ensures goes { OnOk result
             (GoesAndTells until self.old.target self.new.target (W.contents output.old) (W.contents output.new)) }
+        ensures kept { OnOk result (IsSentLast self.new.link.last.items (W.contents output.old) (W.contents output.new)) }
+        ensures acks { self.new.link.acks ≡ self.old.link.acks }
     {
         let pause = self.go_until(output, until)?;
         self.show(output)?;
@@ -201,8 +223,10 @@ impl Service {
 
     /// Goes on as the command says, and tells of the pause.
     fn resume<W: Write>(&mut self, output: &mut W, resume: Resume) -> Result<(), Failure<'static>>
-        ensures { OnOk result
+        ensures performs { OnOk result
             (Performs (Command.Resume resume) self.old.target self.new.target (W.contents output.old) (W.contents output.new)) }
+        ensures kept { OnOk result (IsSentLast self.new.link.last.items (W.contents output.old) (W.contents output.new)) }
+        ensures acks { self.new.link.acks ≡ self.old.link.acks }
     {
         match self.target.until(resume) {
             Some(until) => self.go_and_tell(output, until),
@@ -215,6 +239,8 @@ impl Service {
         ensures sent { OnOk result
             (Sends (W.contents output.old) (W.contents output.new) (packets.refusal 3)) }
         ensures target { self.new.target ≡ self.old.target }
+        ensures kept { OnOk result (IsSentLast self.new.link.last.items (W.contents output.old) (W.contents output.new)) }
+        ensures acks { self.new.link.acks ≡ self.old.link.acks }
     {
         let payload = no_such_process(self.alloc)?;
         self.link.send(output, payload.as_slice())
@@ -222,8 +248,10 @@ impl Service {
 
     /// Goes back, and tells of the stop.
     fn reverse<W: Write>(&mut self, output: &mut W, back: &Back) -> Result<(), Failure<'static>>
-        ensures { OnOk result
+        ensures reversed { OnOk result
             (IsReversed back.now self.old.target self.new.target (W.contents output.old) (W.contents output.new)) }
+        ensures kept { OnOk result (IsSentLast self.new.link.last.items (W.contents output.old) (W.contents output.new)) }
+        ensures acks { self.new.link.acks ≡ self.old.link.acks }
     {
         let stopped = self.target.go_back(self.alloc, back)?;
         self.target.stop_at(&stopped);
@@ -232,8 +260,10 @@ impl Service {
 
     /// Goes back by a step of the process that steps, and tells of the stop.
     fn reverse_step<W: Write>(&mut self, output: &mut W) -> Result<(), Failure<'static>>
-        ensures { OnOk result
+        ensures stepped { OnOk result
             (IsStepBack self.old.target self.new.target (W.contents output.old) (W.contents output.new)) }
+        ensures kept { OnOk result (IsSentLast self.new.link.last.items (W.contents output.old) (W.contents output.new)) }
+        ensures acks { self.new.link.acks ≡ self.old.link.acks }
     {
         match self.target.steps(Thread::Any) {
             Some(pid) => self.reverse(output, &Back::StepOf(pid)),
@@ -256,7 +286,9 @@ impl Service {
 
     /// From now on packets aren't acknowledged, if this command asks for it.
     fn note_acks(&mut self, command: Command)
-        ensures { self.new.target ≡ self.old.target }
+        ensures target { self.new.target ≡ self.old.target }
+        ensures last { self.new.link.last ≡ self.old.link.last }
+        ensures acks { self.new.link.acks ≡ acks_after command self.old.link.acks }
     {
         match command {
             Command::NoAcks => self.link.acks = false,
@@ -272,6 +304,8 @@ impl Service {
     ) -> Result<After, Failure<'static>>
         ensures answered { OnOk result
             (IsAnswered command self.old.target self.new.target (W.contents output.old) (W.contents output.new)) }
+        ensures kept { OnOk result (IsSentLast self.new.link.last.items (W.contents output.old) (W.contents output.new)) }
+        ensures acks { OnOk result (self.new.link.acks ≡ acks_after command self.old.link.acks) }
         ensures next { IfOk result (λ next. next ≡ more_after command) }
     {
         let payload = self.target.answer(self.alloc, command)?;
@@ -286,8 +320,11 @@ impl Service {
         output: &mut W,
         command: Command,
     ) -> Result<After, Failure<'static>>
-        ensures { OnOk result
+        ensures performs { OnOk result
             (Performs command self.old.target self.new.target (W.contents output.old) (W.contents output.new)) }
+        ensures kept { OnOk result (IsKept command self.old.link.last.items self.new.link.last.items (W.contents output.old) (W.contents output.new)) }
+        ensures acks { OnOk result (self.new.link.acks ≡ acks_after command self.old.link.acks) }
+        ensures next { IfOk result (λ next. next ≡ more_after command) }
     {
         match command {
             Command::Resume(resume) => {
@@ -316,6 +353,8 @@ impl Service {
         ensures sent { OnOk result
             (Appends (W.contents output.old) (W.contents output.new) (damaged_told self.old.link.acks)) }
         ensures target { self.new.target ≡ self.old.target }
+        ensures kept { OnOk result (IsKeptIf (not self.old.link.acks) self.old.link.last.items self.new.link.last.items (W.contents output.old) (W.contents output.new)) }
+        ensures acks { self.new.link.acks ≡ self.old.link.acks }
     {
         if self.link.acks {
             return self.link.acknowledge(output, false);
@@ -330,9 +369,12 @@ impl Service {
         output: &mut W,
         payload: &[u8],
     ) -> Result<After, Failure<'static>>
-        ensures { OnOk result
+        ensures takes { OnOk result
             (Takes Piece.Packet self.old.link.acks self.old.link.last.items payload.now self.old.target
             self.new.target (W.contents output.old) (W.contents output.new)) }
+        ensures kept { OnOk result (IsKept (asked payload.now) self.old.link.last.items self.new.link.last.items (W.contents output.old) (W.contents output.new)) }
+        ensures acks { OnOk result (self.new.link.acks ≡ acks_after (asked payload.now) self.old.link.acks) }
+        ensures next { IfOk result (λ next. next ≡ more_after (asked payload.now)) }
     {
         self.link.acknowledge(output, true)?;
         self.perform(output, parse(payload))
@@ -345,9 +387,12 @@ impl Service {
         piece: Piece,
         payload: &[u8],
     ) -> Result<After, Failure<'static>>
-        ensures { OnOk result
+        ensures takes { OnOk result
             (Takes piece self.old.link.acks self.old.link.last.items payload.now self.old.target
             self.new.target (W.contents output.old) (W.contents output.new)) }
+        ensures kept { OnOk result (IsKeptBy piece payload.now self.old.link.acks self.old.link.last.items self.new.link.last.items (W.contents output.old) (W.contents output.new)) }
+        ensures acks { OnOk result (self.new.link.acks ≡ acks_by piece payload.now self.old.link.acks) }
+        ensures next { IfOk result (λ next. next ≡ more_by piece payload.now) }
     {
         match piece {
             Piece::Ack => Ok(After::GoesOn),
@@ -373,24 +418,32 @@ impl Service {
         reader: &mut PacketReader,
         bytes: &[u8],
         output: &mut W,
-    ) -> Result<After, Failure<'static>> {
+    ) -> Result<After, Failure<'static>>
+        ensures serves { IfOk result
+            (λ next. ServesUntil next bytes.now (reading reader.old) self.old self.new (W.contents output.old) (W.contents output.new)) }
+        ensures read { IfOk result (λ next. next ≡ After.GoesOn → reading reader.new ≡ fed_all bytes.now (reading reader.old)) }
+    {
         for byte in bytes {
             let Some(piece) = reader.feed(*byte)? else {
                 continue;
             };
-            if self.take(output, piece, reader.payload())? == After::Ends {
-                return Ok(After::Ends);
+            match self.take(output, piece, reader.payload())? {
+                After::Ends => return Ok(After::Ends),
+                After::GoesOn => {}
             }
         }
         Ok(After::GoesOn)
     }
 
-    /// Serves GDB, until it goes or the input is at its end.
+    /// Serves GDB, until it goes or the input is at its end; by 2^64 - 1 reads at most.
     pub fn serve<R: Read, W: Write>(
         &mut self,
         input: &mut R,
         output: &mut W,
-    ) -> Result<(), Failure<'static>> {
+    ) -> Result<(), Failure<'static>>
+        ensures { OnOk result
+            (IsServed self.old self.new (R.remaining input.old) (R.remaining input.new) (W.contents output.old) (W.contents output.new)) }
+    {
         let mut reader = PacketReader::new(self.alloc);
         let mut buffer = [0u8; READ_BYTES];
         for _ in 0..u64::MAX {
@@ -403,10 +456,11 @@ impl Service {
                 return Ok(());
             }
             let bytes = &buffer[..count];
-            if self.serve_bytes(&mut reader, bytes, output)? == After::Ends {
-                return Ok(());
+            match self.serve_bytes(&mut reader, bytes, output)? {
+                After::Ends => return Ok(()),
+                After::GoesOn => {}
             }
         }
-        Ok(())
+        Err(Failure::Read)
     }
 }

@@ -1,9 +1,9 @@
-use Rattle.std.proofs.Common.{◌∙◌, ◌++◌, ◌∷◌, ℕ, List, take, drop, inl, sym, ap, lit<}
+use Rattle.std.proofs.Common.{◌∙◌, ◌++◌, ◌∷◌, ℕ, List, take, drop, inl, inr, refl, sym, ap, lit<}
 use Rattle.std.proofs.lemmas.List.{take-append-drop}
-use Rattle.std.proofs.lemmas.Str.Pattern.{drop_at_char}
+use Rattle.std.proofs.lemmas.Str.Pattern.{NoCharPasses-char, drop_at_char}
 use Rattle.grade_submissions.proofs.host_files.folder_of.Goals as goal
 
--- what stands before the slash
+-- what stands before the last slash
 pub returns-in-Some : goal.returns-in-Some
 returns-in-Some c =
     let path = c.args.path.now in
@@ -12,4 +12,9 @@ returns-in-Some c =
       drop split.1 path,
       sym (take-append-drop split.0 path) ∙ ap (λ (l : List ℕ). take split.0 path ++ l) (drop_at_char 47 path split.0 split.1 split.2.1 (lit< tt))
           ∙ ap (λ (l : List ℕ). l ++ (47 ∷ drop split.1 path)) (sym split.3),
+      λ place within. NoCharPasses-char 47 (drop split.1 path) place split.2.0 (lit< tt) within,
     )
+
+-- there is no slash
+pub returns-in-None : goal.returns-in-None
+returns-in-None c = inr (refl, λ place within. NoCharPasses-char 47 c.args.path.now place c.in-None.ensures.cases (lit< tt) within)

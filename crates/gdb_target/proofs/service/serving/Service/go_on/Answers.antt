@@ -4,8 +4,8 @@ use Rattle.gdb_target.specs.declared.target.Pause.{Pause}
 use Rattle.gdb_target.proofs.Shows.{shows-is, shows-more}
 use Rattle.gdb_target.proofs.service.serving.Service.go_on.Goals as goal
 
-pub returns-then-not-shows : goal.returns-then-not-shows
-returns-then-not-shows g c =
+pub returns-then-not-shows-clause-goes : goal.returns-then-not-shows-clause-goes
+returns-then-not-shows-clause-goes g c =
     let so_far = c.pauses.invariant in
     record { often = so_far.0; last = c.pauses.self.target; shown = so_far.1; goes = c.in_ok-pause.ensures.goes; alone = so_far.2 }
 
@@ -13,11 +13,15 @@ pub pauses-preserved : goal.pauses-preserved
 pauses-preserved g c =
     let so_far = c.pauses.invariant in
     let goes = subst (λ (p : Option Pause). GoesBy c.args.going.now.until c.pauses.self.target p c.go.new.self)
-    (shows-is c.in_ok-pause.pause (sym c.shows.ensures ∙ c.if-not-shows.false)) c.in_ok-pause.ensures.goes in
-    (suc so_far.0, (c.pauses.self.target, c.go.new.self, so_far.1, goes, c.in_ok-show.ensures.told), shows-more _ _ _ c.go.new.self.shown.items so_far.2 c.in_ok-show.ensures.sent)
+    (shows-is c.in_ok-pause.pause (sym c.shows.ensures ∙ c.if-not-shows.false)) c.in_ok-pause.ensures.goes in (
+      suc so_far.0,
+      (c.pauses.self.target, c.go.new.self, so_far.1, goes, c.in_ok-show.ensures.told),
+      shows-more _ _ _ c.go.new.self.shown.items so_far.2 c.in_ok-show.ensures.sent,
+      c.in_ok-show.ensures.acks ∙ so_far.3,
+    )
 
-pub returns : goal.returns
-returns g c =
+pub returns-clause-goes : goal.returns-clause-goes
+returns-clause-goes g c =
     let so_far = c.pauses.invariant in
     let nothing : GoesBy c.args.going.now.until c.pauses.self.target None c.pauses.self.target = record { stretches = 0; last = c.pauses.self.target; passed = refl; ends = refl } in
     record { often = so_far.0; last = c.pauses.self.target; shown = so_far.1; goes = nothing; alone = so_far.2 }

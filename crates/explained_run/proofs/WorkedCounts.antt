@@ -1,0 +1,35 @@
+-- Worked cases of the table.
+use Rattle.std.specs.Prelude.{◌≡◌, true, false, pos, negsuc, [], ◌∷◌, None, Some, refl}
+use Rattle.kernel_spec.specs.runs.Run.{Step_of, Turn}
+use Rattle.kernel_spec.specs.steps.Own.{Stepped, Called, Exited}
+use Rattle.explained_run.specs.Counts.{added, done_by, row}
+
+-- a call that answers -1 has failed, and exit is a call unless the process was killed
+a_failed_call : done_by 3 (Some 1) false (Step_of 3 (Called (pos 6) (negsuc 0))) ≡ row 3 (Some 1) 1 1 0
+a_failed_call = refl
+
+a_call : done_by 3 (Some 1) false (Step_of 3 (Called (pos 5) (pos 8))) ≡ row 3 (Some 1) 1 0 0
+a_call = refl
+
+an_exit : done_by 3 (Some 1) false (Step_of 3 (Exited (pos 0))) ≡ row 3 (Some 1) 1 0 0
+an_exit = refl
+
+a_kill : done_by 3 (Some 1) true (Step_of 3 (Exited (negsuc 0))) ≡ row 3 (Some 1) 0 0 0
+a_kill = refl
+
+an_instruction : done_by 3 None false (Step_of 3 Stepped) ≡ row 3 None 0 0 1
+an_instruction = refl
+
+a_turn : done_by 3 None false (Turn 3) ≡ row 3 None 0 0 0
+a_turn = refl
+
+-- the first of a process makes a row behind the others; more of it is added there, and its program is the last one
+first_of_it : added (row 1 (Some 0) 2 0 40 ∷ []) (row 3 (Some 1) 0 0 7) ≡ row 1 (Some 0) 2 0 40 ∷ row 3 (Some 1) 0 0 7 ∷ []
+first_of_it = refl
+
+more_of_it : added (row 1 (Some 0) 2 0 40 ∷ row 3 (Some 1) 0 0 7 ∷ []) (row 1 (Some 2) 1 1 0) ≡ row 1 (Some 2) 3 1 40 ∷ row 3 (Some 1) 0 0 7 ∷ []
+more_of_it = refl
+
+-- a program that isn't known takes no known one away
+unknown : added (row 1 (Some 0) 2 0 40 ∷ []) (row 1 None 0 0 1) ≡ row 1 (Some 0) 2 0 41 ∷ []
+unknown = refl

@@ -1,0 +1,75 @@
+-- What the table tells of each process: how many calls and instructions it has done.
+use Rattle.std.specs.Prelude.{ℕ, zero, suc, ◌+◌, ◌^◌, ◌-◌, ℤ, pos, negsuc, Bool, true, false, if◌then◌else◌, nat_eq, min, List, [], ◌∷◌, ◌++◌, length, slice_get, slice_set, Option, None, Some}
+use Rattle.std.specs.Option.{option_or}
+use Rattle.kernel_spec.specs.runs.Run.{Outcome, Step_of}
+use Rattle.kernel_spec.specs.steps.Own.{Answer, Stepped, Called, Blocked, Exited, Faulted}
+use Rattle.explained_run.specs.declared.counts.Count.{Count}
+
+-- ---- what is done by one step
+
+-- process p, whose program is at this place, has done so many calls, of which so many have failed, and so many instructions
+abbrev pub row : (p : ℕ) → (place : Option ℕ) → (calls failed instructions : ℕ) → Count
+row p place calls failed instructions = record { pid = p; program = place; calls = calls; failed = failed; instructions = instructions }
+
+-- a call fails that answers less than 0
+abbrev pub failed_of : (value : ℤ) → ℕ
+failed_of (pos n) = 0
+failed_of (negsuc k) = 1
+
+-- a process ends by the call exit, unless it was killed
+abbrev pub exits_of : (marked : Bool) → ℕ
+exits_of true = 0
+exits_of false = 1
+
+abbrev pub done_by_step : (p : ℕ) → (place : Option ℕ) → (marked : Bool) → Answer → Count
+done_by_step p place marked (Called number value) = row p place 1 (failed_of value) 0
+done_by_step p place marked (Exited status) = row p place (exits_of marked) 0 0
+done_by_step p place marked Stepped = row p place 0 0 1
+done_by_step p place marked (Blocked number) = row p place 0 0 0
+done_by_step p place marked (Faulted cause) = row p place 0 0 0
+
+-- what process p has done if this came of its step
+abbrev pub done_by : (p : ℕ) → (place : Option ℕ) → (marked : Bool) → Outcome → Count
+done_by p place marked (Step_of q answer) = done_by_step p place marked answer
+done_by p place marked _ = row p place 0 0 0
+
+-- ---- what is done in all
+
+-- a sum, 2 ^ 64 - 1 at most
+abbrev pub sum_of : ℕ → ℕ → ℕ
+sum_of n m = min (n + m) (2 ^ 64 - 1)
+
+-- a row, once its process has done more; its program is the last one that is known
+abbrev pub both : (before more : Count) → Count
+both before more =
+    row before.pid (option_or more.program before.program) (sum_of before.calls more.calls) (sum_of before.failed more.failed) (sum_of before.instructions more.instructions)
+
+-- the row is there, and is of process p
+abbrev pub is_of : (p : ℕ) → Option Count → Bool
+is_of p None = false
+is_of p (Some c) = nat_eq c.pid p
+
+-- the place of the last row of process p among the first n
+abbrev pub last_below : List Count → (p : ℕ) → (n : ℕ) → Option ℕ
+last_below counts p zero = None
+last_below counts p (suc n) = if is_of p (slice_get counts n) then Some n else last_below counts p n
+
+abbrev pub place_of : List Count → (p : ℕ) → Option ℕ
+place_of counts p = last_below counts p (length counts)
+
+abbrev pub with_more : Option Count → (more : Count) → Count
+with_more None more = more
+with_more (Some before) more = both before more
+
+abbrev pub added_at : List Count → (more : Count) → (place : Option ℕ) → List Count
+added_at counts more None = counts ++ more ∷ []
+added_at counts more (Some k) = slice_set counts k (with_more (slice_get counts k) more)
+
+-- the rows, once a process has done more: it has a row of its own, the last one if it had none
+abbrev pub added : List Count → (more : Count) → List Count
+added counts more = added_at counts more (place_of counts more.pid)
+
+-- if there was memory for all rows
+abbrev pub if_complete : (complete : Bool) → List Count → Option (List Count)
+if_complete true counts = Some counts
+if_complete false counts = None
