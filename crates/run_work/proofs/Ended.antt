@@ -1,5 +1,6 @@
 -- How a run with a budget ends.
-use Rattle.std.proofs.Common.{◌≡◌, ◌⊎◌, ℕ, zero, suc, List, inl, inr, arith, refl}
+use Rattle.std.proofs.Common.{◌≡◌, ◌⊎◌, ◌≤◌, ℕ, List, inl, inr, arith, refl}
+use Rattle.std.proofs.lemmas.Bool.{cases_lt}
 use Rattle.kernel_spec.specs.views.State.{ProgramFile}
 use Rattle.program_files.specs.Statuses.{Devices, IsPlainStatus, Tells}
 use Rattle.xv_machine.specs.declared.driving.RunPlan.{RunPlan}
@@ -24,25 +25,21 @@ module _ (plan : RunPlan) (booted : Meaning) (before after : Devices) where
 -- ---- exit statuses
 
 -- no status of a run that was driven is above 6
-not-above : (n : ℕ) → (suc (suc (suc (suc (suc (suc (suc n)))))) ≡ 0) ⊎ (suc (suc (suc (suc (suc (suc (suc n)))))) ≡ 3)
-    ⊎ (suc (suc (suc (suc (suc (suc (suc n)))))) ≡ 4) ⊎ (suc (suc (suc (suc (suc (suc (suc n)))))) ≡ 5) → ⊥
-not-above n (inl a) = omega (arith, a)
-not-above n (inr (inl a)) = omega (arith, a)
-not-above n (inr (inr (inl a))) = omega (arith, a)
-not-above n (inr (inr (inr a))) = omega (arith, a)
+not-above : (status : ℕ) → 7 ≤ status → (status ≡ 0) ⊎ (status ≡ 3) ⊎ (status ≡ 4) ⊎ (status ≡ 5) → ⊥
+not-above status more (inl a) = omega (arith, more, a)
+not-above status more (inr (inl a)) = omega (arith, more, a)
+not-above status more (inr (inr (inl a))) = omega (arith, more, a)
+not-above status more (inr (inr (inr a))) = omega (arith, more, a)
 
 -- a run ends with 6 at most
 pub says-run : (status : ℕ) (config : Config) (plan : RunPlan) (programs : List ProgramFile) (before after : Devices)
     → Says status config plan programs before after → IsRunStatus status
-says-run 0 config plan programs before after says = omega arith
-says-run 1 config plan programs before after says = omega arith
-says-run 2 config plan programs before after says = omega arith
-says-run 3 config plan programs before after says = omega arith
-says-run 4 config plan programs before after says = omega arith
-says-run 5 config plan programs before after says = omega arith
-says-run 6 config plan programs before after says = omega arith
-says-run (suc (suc (suc (suc (suc (suc (suc n))))))) config plan programs before after says =
-    let ends = (says (λ two. omega (arith, two))).2 in absurd (not-above n ((ends.driven (λ six. omega (arith, six))).no_other))
+says-run status config plan programs before after says = elim (cases_lt status 7) [
+  | inl less ↦ omega (arith, less)
+  | inr more ↦
+      let (booted, first, ends) = says (λ two. omega (arith, more, two)) in
+      absurd (not-above status (omega (arith, more)) ((ends.driven (λ six. omega (arith, more, six))).no_other))
+]
 
 -- so does a program whose words are refused
 pub plain-run : (status : ℕ) → IsPlainStatus status → IsRunStatus status
