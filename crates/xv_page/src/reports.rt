@@ -328,7 +328,7 @@ fn refused_text<'a>(
     at: u64,
 ) -> Result<String, AllocError> {
     let text = RefusedText {
-        call: call_name(number as i32).unwrap_or("call"),
+        call: call_name(number.cast_signed()).unwrap_or("call"),
         place: place_of(session, sources, pid, at),
     };
     text.to_string(alloc)
