@@ -1,14 +1,15 @@
 -- What is sent of a stop.
-use Rattle.std.proofs.Common.{◌≡◌, ℕ, List, Option, subst, sym}
+use Rattle.std.proofs.Common.{◌≡◌, ℕ, List, Option, length, subst, sym}
 use Rattle.std.proofs.KnownBytes.{Appends-trans}
 use Rattle.gdb_packets.specs.Packets.{packet}
 use Rattle.gdb_packets.specs.declared.answers.StopReason.{StopReason}
-use Rattle.gdb_packets.specs.declared.answers.StopReason.TheVariants.{Interrupt}
-use Rattle.gdb_target.specs.Choices.{StopsAt}
+use Rattle.gdb_packets.specs.declared.answers.StopReason.TheVariants.{Interrupt, Trap}
+use Rattle.gdb_target.specs.Choices.{StopsAt, choices}
 use Rattle.gdb_target.specs.Found.{StandsFor}
 use Rattle.gdb_target.specs.LastHit.{GoesBackToLast}
 use Rattle.gdb_target.specs.Sent.{Sends, stop_told}
-use Rattle.gdb_target.specs.Served.{IsOver, IsReversed}
+use Rattle.gdb_target.specs.SameRun.{beginning}
+use Rattle.gdb_target.specs.Served.{IsOver, IsRestarted, IsReversed}
 use Rattle.gdb_target.specs.declared.reverse.Back.{Back}
 use Rattle.gdb_target.specs.declared.target.Target.{Target}
 
@@ -21,6 +22,12 @@ pub reversed : (back : Back) (was old mid new : Target) (reason : StopReason) (p
 reversed back was old mid new reason p h k last stands stops same sent =
     let told = stops_told old mid new reason p h k stops same sent in
     record { to = old; last = last; reason = reason; pid = p; stands = stands; stops = told.0; sent = told.1 }
+
+pub restarted : (was old mid new : Target) (p : ℕ) (h k : Option (List ℕ)) → length old.run.session.events ≡ 0 → beginning old.run ≡ beginning was.run → choices old ≡ choices was
+    → p ≡ 1 → StopsAt old Trap p mid → new ≡ mid → Sends h k (stop_told mid) → IsRestarted was new h k
+restarted was old mid new p h k boot begins chosen first stops same sent =
+    let told = stops_told old mid new Trap p h k stops same sent in
+    record { to = old; boot = boot; same = begins; chosen = chosen; stops = subst (λ (q : ℕ). StopsAt old Trap q new) first told.0; sent = told.1 }
 
 pub over : (old mid new : Target) (reason : StopReason) (p : ℕ) (note : List ℕ) (h k m : Option (List ℕ)) → reason ≡ Interrupt → StopsAt old reason p mid → new ≡ mid
     → Sends h k note → Sends k m (stop_told mid) → IsOver old new h m

@@ -273,8 +273,10 @@ impl Service {
 
     /// Begins the run anew, and tells that it stands at its boot.
     fn restart<W: Write>(&mut self, output: &mut W) -> Result<(), Failure<'static>>
-        ensures { OnOk result
+        ensures restarts { OnOk result
             (IsRestarted self.old.target self.new.target (W.contents output.old) (W.contents output.new)) }
+        ensures kept { OnOk result (IsSentLast self.new.link.last.items (W.contents output.old) (W.contents output.new)) }
+        ensures acks { self.new.link.acks ≡ self.old.link.acks }
     {
         self.target.reboot(self.alloc)?;
         self.target.stop_at(&Stopped {
