@@ -1,5 +1,5 @@
 -- The marks that are kept, and what words do to them.
-use Rattle.std.specs.Prelude.{◌≡◌, ℕ, ◌+◌, ◌-◌, ◌^◌, ◌==◌, ◌||◌, Bool, true, false, not, nat_lt, if◌then◌else◌, List, [], ◌∷◌, ◌++◌, length, map, filter, min, Option, None, Some}
+use Rattle.std.specs.Prelude.{◌≡◌, ℕ, ◌+◌, ◌-◌, ◌^◌, ◌==◌, ◌&&◌, ◌||◌, Bool, true, false, not, nat_lt, if◌then◌else◌, List, [], ◌∷◌, ◌++◌, length, map, filter, min, Option, None, Some}
 use Rattle.std.specs.List.{list_any}
 use Rattle.xv_session.specs.declared.running.Running.{Running}
 use Rattle.debug_words.specs.declared.vocabulary.Mark.{Mark}
@@ -63,9 +63,9 @@ abbrev pub goes_on : Word → Bool
 goes_on words.Continue = true
 goes_on _ = false
 
--- there is no mark, or it is another word
-abbrev pub goes_to_none : List Kept → Word → Bool
-goes_to_none marks word = (length marks == 0) || not (goes_on word)
+-- there is no mark and somebody else lets the machine go on, or it is another word
+abbrev pub goes_to_none : (alone : Bool) → List Kept → Word → Bool
+goes_to_none alone marks word = ((length marks == 0) && not alone) || not (goes_on word)
 
 -- it goes on to these marks
 abbrev pub IsToMarks : List Mark → Word → Type 0

@@ -138,7 +138,7 @@ fn show_nameless(
 }
 
 impl Debugger {
-    ghost use Rattle.std.specs.Prelude.{◌≡◌, ◌⊎◌, ℕ, [], true, IfOk, IfErr, OnOk, Option, length, map, option_map, replicate, string_bytes, take, unwrap_or};
+    ghost use Rattle.std.specs.Prelude.{◌≡◌, ◌⊎◌, ℕ, [], true, false, IfOk, IfErr, OnOk, Option, length, map, option_map, replicate, string_bytes, take, unwrap_or};
     ghost use Rattle.kernel_spec.specs.runs.Run as runs;
     ghost use Rattle.xv_machine.specs.Events.{event_of, outcome_of};
     ghost use Rattle.xv_session.specs.Recorded.{running_of};
@@ -259,8 +259,8 @@ impl Debugger {
     fn with_marks(&self, word: Word) -> Word
         requires { IsInRange word }
         ensures range { IsInRange result }
-        ensures same { goes_to_none self.now.marks.kept.items word ≡ true → result ≡ word }
-        ensures marks { goes_to_none self.now.marks.kept.items word ≡ false → IsToMarks (marks_of self.now.marks.kept.items) result }
+        ensures same { goes_to_none self.now.alone self.now.marks.kept.items word ≡ true → result ≡ word }
+        ensures marks { goes_to_none self.now.alone self.now.marks.kept.items word ≡ false → IsToMarks (marks_of self.now.marks.kept.items) result }
     {
         let leaves = self.marks.is_empty() && !self.alone;
         if leaves || !goes_on(&word) {
