@@ -1,2 +1,1 @@
 pub mod Lived
-pub mod Outcomes

@@ -1,7 +1,4 @@
 //! A session, from the files to its end.
-ghost use Rattle.std.specs.Prelude.{IfOk};
-ghost use Rattle.terminal_session.specs.Tells.{IsOutcomeStatus};
-
 use crate::NAME;
 use crate::conversing::{live, replay};
 use crate::first_screen::FirstScreen;
@@ -70,16 +67,13 @@ fn record_file<'a>(
 }
 
 // Attends to a session at the keyboard up to its end, which is told. A terminal is told first what there is to type.
-#[tactic(auto, using(crate::proofs::Outcomes::of_session))]
 fn attend_to<W: ByteSink, E: Write>(
     rt: &HostRuntime,
     session: &mut Session,
     debugger: &mut Debugger,
     settings: &Settings,
     screen: &mut Screen<W, Notes<E>>,
-) -> u8
-    ensures { IsOutcomeStatus result }
-{
+) -> u8 {
     if settings.terminal && !settings.apart {
         let programs = session.machine().programs();
         screen.teller.write_note(FirstScreen { programs });
@@ -89,24 +83,6 @@ fn attend_to<W: ByteSink, E: Write>(
     live(session, &mut desk, debugger, screen)
 }
 
-// Plays a record, or attends to a session at the keyboard, up to its end, which is told.
-#[tactic(auto, using(crate::proofs::Outcomes::of_session))]
-fn live_or_replay<W: ByteSink, E: Write>(
-    rt: &HostRuntime,
-    session: &mut Session,
-    debugger: &mut Debugger,
-    settings: &Settings,
-    record: Option<&Record>,
-    screen: &mut Screen<W, Notes<E>>,
-) -> u8
-    ensures { IsOutcomeStatus result }
-{
-    match record {
-        Some(record) => replay(session, record, screen),
-        None => attend_to(rt, session, debugger, settings, screen),
-    }
-}
-
 // A session that has booted, up to its end, which is told; then its record is written.
 fn go_through<'a>(
     rt: &HostRuntime,
@@ -114,9 +90,7 @@ fn go_through<'a>(
     debugger: &mut Debugger,
     settings: &'a Settings,
     record: Option<&Record>,
-) -> Result<u8, Failure<'a>>
-    ensures { IfOk result IsOutcomeStatus }
-{
+) -> Result<u8, Failure<'a>> {
     let file = record_file(rt, settings)?;
     let notes = Notes {
         errors: rt.stderr(),
@@ -130,7 +104,10 @@ fn go_through<'a>(
         sink: Counted::new(rt.stdout()),
         teller: notes,
     };
-    let status = live_or_replay(rt, session, debugger, settings, record, &mut screen);
+    let status = match record {
+        Some(record) => replay(session, record, &mut screen),
+        None => attend_to(rt, session, debugger, settings, &mut screen),
+    };
     let Some(mut file) = file else {
         return Ok(status);
     };
@@ -140,9 +117,7 @@ fn go_through<'a>(
 }
 
 // Boots the machine that the settings ask for, and attends to it.
-fn begin<'a>(rt: &HostRuntime, settings: &'a Settings) -> Result<u8, Failure<'a>>
-    ensures { IfOk result IsOutcomeStatus }
-{
+fn begin<'a>(rt: &HostRuntime, settings: &'a Settings) -> Result<u8, Failure<'a>> {
     let files = settings.files.as_slice();
     let made = programs(rt, files)?;
     let Some(path) = &settings.replay else {
@@ -162,9 +137,7 @@ fn begin_record<'a>(
     settings: &'a Settings,
     programs: Vec<Program>,
     record: &Record,
-) -> Result<u8, Failure<'a>>
-    ensures { IfOk result IsOutcomeStatus }
-{
+) -> Result<u8, Failure<'a>> {
     let programs = match chosen(rt.alloc(), programs.as_slice(), record.programs.as_slice()) {
         Ok(programs) => programs,
         Err(why) => return Err(Failure::in_words(format!(in rt.alloc(); "{why}"))),
@@ -180,10 +153,7 @@ fn begin_record<'a>(
 }
 
 /// Does what the settings ask for, and gives the exit status.
-#[tactic(auto, using(crate::proofs::Outcomes::of_failure))]
-pub(crate) fn run(rt: &HostRuntime, settings: &Settings) -> u8
-    ensures { IsOutcomeStatus result }
-{
+pub fn run(rt: &HostRuntime, settings: &Settings) -> u8 {
     match begin(rt, settings) {
         Ok(status) => status,
         Err(failure) => failure.close(NAME, &mut rt.stderr()),

@@ -20,7 +20,7 @@ fn alike(one: &str, other: &str) -> usize {
         if *a != *b {
             return count;
         }
-        count += 1;
+        count = count.saturating_add(1);
     }
     count
 }

@@ -10,8 +10,6 @@
 //! else; all that is told about it goes to standard error.
 #![tactic(auto)]
 
-ghost use Rattle.terminal_session.specs.Tells.{IsCommandStatus};
-
 mod beginning;
 mod command_line;
 mod completing;
@@ -29,7 +27,7 @@ mod recording;
 mod stopping;
 mod telling;
 
-use crate::beginning::run;
+pub use beginning::run;
 pub use command_line::settings;
 pub use debugging::debug_by_words;
 pub use line::Settings;
@@ -39,9 +37,7 @@ use std::rt::Env;
 pub const NAME: &str = "xv_terminal";
 
 /// Runs the programs that the words of a command line name at the terminal, and gives the exit status.
-pub fn run_at_terminal<W: Env + AllocGlobal>(rt: &HostRuntime, words: &W) -> u8
-    ensures { IsCommandStatus result }
-{
+pub fn run_at_terminal<W: Env + AllocGlobal>(rt: &HostRuntime, words: &W) -> u8 {
     match settings(words) {
         Ok(settings) => run(rt, &settings),
         Err(error) => error.close(NAME, &mut rt.stdout(), &mut rt.stderr()),

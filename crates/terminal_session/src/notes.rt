@@ -1,5 +1,4 @@
-//! Notes beside the screen, which don't tear what it shows. They are written to the host alone, and no contract speaks of
-//! them.
+//! Notes beside the screen, which don't tear what it shows.
 use crate::history::History;
 use arrayvec::ArrayVec;
 use std::alloc::Global;

@@ -1,5 +1,4 @@
-//! What is told of the processes, beside what the machine sends. It is written to the host alone, and no contract speaks
-//! of it.
+//! What is told of the processes, beside what the machine sends.
 use crate::notes::Notes;
 use std::alloc::Global;
 use std::fmt;
