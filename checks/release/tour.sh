@@ -43,7 +43,7 @@ look_around() {
     has 'Ctrl-C at a terminal, and why nobody goes on' 'only process 1 can write' at_terminal './xv programs/course/hang/init.s' '\003quit\n'
     has 'the shell by a pipe' '^1 2 12' sh -c 'printf "echo hello world | wc\nexit\n" | ./xv programs/bin/init programs/bin/sh programs/bin/echo programs/bin/wc'
     has 'why a process ended' 'store to 0x.*may not be written' sh -c 'echo null | ./xv --why --rounds 2000 checks/why/null.s programs/bin/init programs/bin/sh'
-    has 'the kernel calls' 'fork() = 2' ./xv --explain --quantum 20 --rounds 40 programs/examples/fork/init.s
+    has 'the kernel calls' 'fork\(\) = 2' ./xv --explain --quantum 20 --rounds 40 programs/examples/fork/init.s
     has 'a picture' '</svg>' ./xv --picture --rounds 20 --quantum 50 programs/examples/pipeline/init.s
     has 'the debugger, forth and back' 'sleeps' sh -c 'printf "until call wait\nps\nback\nregs\n" | ./xv --debug programs/examples/fork/init.s'
     has 'GDB is answered' 'PacketSize=' sh -c "printf '\$qSupported#37' | ./xv --gdb programs/examples/fork/init.s | tr -d '\000'"
