@@ -214,14 +214,14 @@ one_forth (Err e) one = tt
 
 -- ---- the last is what is waited for
 
-pub reaches_met : (test : Test) (most n : ℕ) (last : Option Outcome) (old new : Recorded) (had has : Output) → n ≤ most
-    → Goes test true n last old new had has → Reaches test most Met n last old new had has
-reaches_met test most n last old new had has within goes = record { goes = goes; within = within; all = λ is. let bad : ⊥ = cc in absurd bad; rests = tt; reason = tt }
+pub reaches_met : (may_end : Bool) (test : Test) (most n : ℕ) (last : Option Outcome) (old new : Recorded) (had has : Output) → n ≤ most
+    → Goes test true n last old new had has → Reaches may_end test most Met n last old new had has
+reaches_met may_end test most n last old new had has within goes = record { goes = goes; within = within; all = λ is. let bad : ⊥ = cc in absurd bad; broken = λ is. let bad : ⊥ = cc in absurd bad; fewer = λ is. let bad : ⊥ = cc in absurd bad; rests = tt; reason = tt }
 
 -- as a word's journey tells it
-pub reaches_told : (test : Test) (most : ℕ) (j : Journey) (n m : ℕ) (stop : Stop) (last : Option declared.Outcome) (old new : Recorded) (had has : Output)
+pub reaches_told : (may_end : Bool) (test : Test) (most : ℕ) (j : Journey) (n m : ℕ) (stop : Stop) (last : Option declared.Outcome) (old new : Recorded) (had has : Output)
     → j ≡ record { sent = m; stop = stop; last = last } → m ≡ n
-    → Reaches test most stop n (option_map outcome_of last) old new had has → Reaches test most j.stop j.sent (option_map outcome_of j.last) old new had has
-reaches_told test most j n m stop last old new had has is same reaches =
-    subst (λ (k : Journey). Reaches test most k.stop k.sent (option_map outcome_of k.last) old new had has) (sym is)
-    (subst (λ (k : ℕ). Reaches test most stop k (option_map outcome_of last) old new had has) (sym same) reaches)
+    → Reaches may_end test most stop n (option_map outcome_of last) old new had has → Reaches may_end test most j.stop j.sent (option_map outcome_of j.last) old new had has
+reaches_told may_end test most j n m stop last old new had has is same reaches =
+    subst (λ (k : Journey). Reaches may_end test most k.stop k.sent (option_map outcome_of k.last) old new had has) (sym is)
+    (subst (λ (k : ℕ). Reaches may_end test most stop k (option_map outcome_of last) old new had has) (sym same) reaches)

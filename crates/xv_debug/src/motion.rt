@@ -14,6 +14,7 @@ mod journey;
 mod lines;
 mod marks;
 mod output;
+mod pace;
 mod places;
 mod resting;
 mod rounds;
@@ -23,7 +24,7 @@ mod sending;
 mod stretches;
 
 pub(crate) use aiming::{Aim, aim_in};
-pub(crate) use backwards::back_until;
+pub(crate) use backwards::{Unknown, back_until};
 pub(crate) use finishing::finish_aim;
 pub(crate) use journey::{Journey, Stop};
 pub(crate) use lines::line_aim;
