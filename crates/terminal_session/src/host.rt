@@ -36,13 +36,7 @@ pub struct Desk<R, C> {
 impl<R: Read, C: Clock> Desk<R, C> {
     /// A desk with a keyboard and a clock. If the keyboard is a terminal, its reads answer at once, and no byte isn't
     /// the end. The first tick is due at once, unless the clock is begun anew.
-    pub fn new(
-        alloc: Global,
-        keyboard: R,
-        clock: C,
-        terminal: bool,
-        tick: Duration,
-    ) -> Self
+    pub fn new(alloc: Global, keyboard: R, clock: C, terminal: bool, tick: Duration) -> Self
         ensures keyboard { result.keyboard ≡ keyboard }
         ensures ahead { result.ahead.items ≡ [] }
         ensures clock { result.clock ≡ clock }

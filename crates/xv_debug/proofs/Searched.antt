@@ -13,7 +13,7 @@ use Rattle.xv_machine.specs.declared.event.Outcome as declared
 use Rattle.xv_session.specs.Answers.{Sent, Stopped}
 use Rattle.xv_session.specs.Recorded.{Recorded, running_of}
 use Rattle.xv_session.specs.Steps.{Advances}
-use Rattle.xv_session.specs.Stops.{Unstopped, is_before_stop}
+use Rattle.xv_session.specs.Stops.{Unstopped}
 use Rattle.xv_session.specs.Until.{is_done}
 use Rattle.xv_session.specs.declared.running.Running.{Running}
 use Rattle.debug_words.specs.declared.vocabulary.Mark.{Mark}
@@ -21,9 +21,8 @@ use Rattle.xv_debug.specs.motion.Aims as aims
 use Rattle.xv_debug.specs.motion.Effects.{Adds}
 use Rattle.xv_debug.specs.motion.Marks as marked
 use Rattle.xv_debug.specs.motion.Places.{IsFar, all_of}
-use Rattle.xv_debug.specs.motion.Reaching.{Goes, LastMet, NoneMet, Reaches, ReachesBy, Test, meets_one, waiting}
+use Rattle.xv_debug.specs.motion.Reaching.{Goes, NoneMet, Reaches, ReachesBy, Test, meets_one, waiting}
 use Rattle.xv_debug.specs.motion.Resting.{RestsBy, RestsQuiet}
-use Rattle.xv_debug.specs.motion.Sent.{last_outcome}
 use Rattle.xv_debug.specs.motion.Shown.{KeepsShown}
 use Rattle.xv_debug.specs.declared.motion.aiming.Aim.{Aim}
 use Rattle.xv_debug.specs.declared.motion.journey.Journey.{Journey}

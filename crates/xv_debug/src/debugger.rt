@@ -522,7 +522,15 @@ impl Debugger {
         ensures failed { IfErr result (λ _. (session.new ≡ session.old) ⊎ Searches P.may_end (meets_one (On Fault) marks.now.items) session.old session.new) }
     {
         let aim = Aim::On(Condition::Fault);
-        self.search(alloc, session, word, &aim, marks.as_slice(), patience, answer)
+        self.search(
+            alloc,
+            session,
+            word,
+            &aim,
+            marks.as_slice(),
+            patience,
+            answer,
+        )
     }
 
     /// Sends Runs up to the end of the function in which the process that runs is; none if it isn't known.

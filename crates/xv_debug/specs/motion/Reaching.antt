@@ -17,7 +17,7 @@ use Rattle.xv_debug.specs.motion.Shown.{KeepsShown}
 use Rattle.xv_debug.specs.declared.motion.aiming.Aim.{Aim}
 use Rattle.xv_debug.specs.declared.motion.output.Output.{Output}
 use Rattle.xv_debug.specs.declared.motion.journey.Stop.{Stop}
-use Rattle.xv_debug.specs.declared.motion.journey.Stop.TheVariants.{Done, Met, Asleep, Halted, Broken, Refused}
+use Rattle.xv_debug.specs.declared.motion.journey.Stop.TheVariants.{Done, Met, Broken, Refused}
 
 -- whether an event of which this came, and which led from the one to the other, is what is waited for
 abbrev pub Test : Type 0

@@ -29,6 +29,8 @@ pub enum Unknown {
 }
 
 impl From<SessionError> for Unknown {
+    ghost use Rattle.xv_debug.specs.declared.motion.backwards.Unknown.{Unknown};
+
     ghost from_gives = { λ error unknown. unknown ≡ Unknown.Refused error };
 
     fn from(error: SessionError) -> Unknown {

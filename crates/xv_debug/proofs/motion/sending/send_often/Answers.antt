@@ -10,15 +10,15 @@ use Rattle.xv_debug.proofs.motion.sending.send_often.Goals as goal
 pub loop-sent-init : goal.loop-sent-init
 loop-sent-init g c = sends-none c.args.session.now c.args.output.now c.args.output.now.fits
 
-pub returns-then-clause-sent : goal.returns-then-clause-sent
-returns-then-clause-sent g c =
+pub returns-then-is_over-clause-sent : goal.returns-then-is_over-clause-sent
+returns-then-is_over-clause-sent g c =
     let e = event_of c.args.event in
     let last = option_map outcome_of c.loop-sent.last in
     let old = c.args.session.now in
     let new = c.loop-sent.session in
     let had = c.args.output.now in
     let has = c.loop-sent.output in
-    subst (λ (j : Journey). Sends (replicate j.sent e) (option_map outcome_of j.last) old new had has) (sym c.new-then.ensures)
+    subst (λ (j : Journey). Sends (replicate j.sent e) (option_map outcome_of j.last) old new had has) (sym c.new.ensures)
     (subst (λ (n : ℕ). Sends (replicate n e) last old new had has) (sym c.from-far.ensures) c.loop-sent.invariant)
 
 pub returns-in-Err-clause-sent : goal.returns-in-Err-clause-sent
@@ -29,8 +29,8 @@ returns-in-Err-clause-sent g c =
     let new = c.send.new.self in
     let had = c.args.output.now in
     let has = c.loop-sent.output in
-    subst (λ (j : Journey). Sends (replicate j.sent e) (option_map outcome_of j.last) old new had has) (sym c.new.ensures)
-    (subst (λ (n : ℕ). Sends (replicate n e) last old new had has) (sym c.from.ensures)
+    subst (λ (j : Journey). Sends (replicate j.sent e) (option_map outcome_of j.last) old new had has) (sym c.new-in-Err.ensures)
+    (subst (λ (n : ℕ). Sends (replicate n e) last old new had has) (sym c.from-in-Err.ensures)
     (sends-still (replicate c.loop-sent.sent e) last old c.loop-sent.session new had has c.loop-sent.invariant c.in-Err.ensures.refused))
 
 pub loop-sent-preserved : goal.loop-sent-preserved
