@@ -243,7 +243,7 @@ for word in 'until call exit' 'run 90000' 'back until call exit'; do
     sleep 0.2
     text 'at'
     keys C-c
-    wait_for 5 '^(xv) at$'
+    wait_for 20 '^(xv) at$'
     screen | tail -6 | grep -q '^it was broken off' || complain "$word isn't broken off"
     line '' 5 '^(xv) *$'
 done
