@@ -231,6 +231,29 @@ screen | tail -4 | grep -q 'the reader itself' || complain "the machine doesn't 
 line 'quit' 50 '^status' 3
 ended 4
 
+# A program without end: Ctrl-C breaks off the word that runs, at once, and what was typed before is the next line's.
+mkdir -p "$screens/endless"
+printf '_start:\n  addi t0, t0, 1\n  j _start\n' >"$screens/endless/init.s"
+start "$screens/endless/init.s" none
+keys C-c
+wait_for 50 '^(xv) *$'
+for word in 'until call exit' 'run 90000' 'back until call exit'; do
+    text "$word"
+    keys Enter
+    sleep 0.2
+    text 'at'
+    keys C-c
+    wait_for 20 '^(xv) at$'
+    screen | tail -6 | grep -q '^it was broken off' || complain "$word isn't broken off"
+    line '' 5 '^(xv) *$'
+done
+shoot broken_off
+text 'until call exit'
+keys Enter
+sleep 0.2
+keys 'C-\'
+ended 4
+
 # A fork bomb. The machine goes on, keys are echoed, and Ctrl-\ ends it.
 start 'programs/bin/init programs/bin/sh checks/terminal/bomb.s'
 line 'bomb' 20 '^\$ bomb$'

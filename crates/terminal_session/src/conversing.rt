@@ -13,7 +13,7 @@ use crate::notes::Notes;
 use crate::stopping::stop;
 use program_files::Failure;
 use std::io::Write;
-use xv_debug::{Debugger, Next};
+use xv_debug::{Debugger, Next, Patience};
 use xv_live::{Host, Pause, Pending, Screen, attend, play};
 use xv_machine::ByteSink;
 use xv_record::Record;
@@ -43,7 +43,7 @@ fn end_of_prompt(session: &Session, next: Next) -> Option<End>
 }
 
 // Stops the machine at the prompt, and tells the end that it leads to, if the machine isn't to go on.
-fn prompt<H: Host, E: Write>(
+fn prompt<H: Host + Patience, E: Write>(
     session: &mut Session,
     host: &mut H,
     debugger: &mut Debugger,
@@ -51,7 +51,7 @@ fn prompt<H: Host, E: Write>(
 ) -> Result<Option<End>, Failure<'static>>
     ensures end { IfOk result (λ e. IfSome e (λ f. IsEndOf session.new f)) }
     ensures is { IfOk result (IsEndBehindPrompt session.new.machine.world.turns.halted) }
-    ensures lines { Converses session.old session.new }
+    ensures lines { Converses H.may_end session.old session.new }
 {
     let next = stop(session, host, debugger, notes)?;
     Ok(end_of_prompt(session, next))
@@ -59,7 +59,7 @@ fn prompt<H: Host, E: Write>(
 
 // The end that a pause leads to. If the prompt was asked for, the machine is stopped there, and may go on.
 #[tactic(auto, using(xv_debug::proofs::Conversed::no_line))]
-fn end_behind<H: Host, E: Write>(
+fn end_behind<H: Host + Patience, E: Write>(
     session: &mut Session,
     host: &mut H,
     pause: Pause,
@@ -69,7 +69,7 @@ fn end_behind<H: Host, E: Write>(
     requires { IsPauseOf session.old pause }
     ensures end { IfOk result (λ e. IfSome e (λ f. IsEndOf session.new f)) }
     ensures is { IfOk result (IsEndBehind pause session.new.machine.world.turns.halted) }
-    ensures lines { Converses session.old session.new }
+    ensures lines { Converses H.may_end session.old session.new }
 {
     match pause {
         Pause::Halted(status) => Ok(Some(End::Halted(status))),
@@ -80,7 +80,7 @@ fn end_behind<H: Host, E: Write>(
 }
 
 // Attends to the machine up to a pause, and then to the prompt, if that was asked for.
-fn turn<H: Host, W: ByteSink, E: Write>(
+fn turn<H: Host + Patience, W: ByteSink, E: Write>(
     session: &mut Session,
     host: &mut H,
     pending: &mut Pending,
@@ -88,7 +88,7 @@ fn turn<H: Host, W: ByteSink, E: Write>(
     screen: &mut Screen<W, Notes<E>>,
 ) -> Result<Option<End>, Failure<'static>>
     ensures end { IfOk result (λ e. IfSome e (λ f. IsEndOf session.new f)) }
-    ensures stretch { OnOk result (Stretch session.old session.new (W.sink screen.old.sink).held (W.sink screen.new.sink).held) }
+    ensures stretch { OnOk result (Stretch H.may_end session.old session.new (W.sink screen.old.sink).held (W.sink screen.new.sink).held) }
 {
     host.restart()?;
     let pause = attend(session, host, pending, screen)?;
@@ -96,14 +96,14 @@ fn turn<H: Host, W: ByteSink, E: Write>(
 }
 
 // Attends to the machine and to the prompt up to the end.
-fn converse<H: Host, W: ByteSink, E: Write>(
+fn converse<H: Host + Patience, W: ByteSink, E: Write>(
     session: &mut Session,
     host: &mut H,
     debugger: &mut Debugger,
     screen: &mut Screen<W, Notes<E>>,
 ) -> Result<End, Failure<'static>>
     ensures end { IfOk result (λ e. IsEndOf session.new e) }
-    ensures lives { OnOk result (Lives session.old session.new (W.sink screen.old.sink).held (W.sink screen.new.sink).held) }
+    ensures lives { OnOk result (Lives H.may_end session.old session.new (W.sink screen.old.sink).held (W.sink screen.new.sink).held) }
 {
     let mut pending = Pending::new(screen.teller.alloc);
     'turns: for _ in 0..u64::MAX {
@@ -147,13 +147,13 @@ fn tell_outcome<E: Write>(
 
 /// Attends to the machine, and to the prompt of the debugger, up to the session's end; and tells that. It gives the exit
 /// status.
-pub fn live<H: Host, W: ByteSink, E: Write>(
+pub fn live<H: Host + Patience, W: ByteSink, E: Write>(
     session: &mut Session,
     host: &mut H,
     debugger: &mut Debugger,
     screen: &mut Screen<W, Notes<E>>,
 ) -> u8
-    ensures { Tells (Lives session.old session.new (W.sink screen.old.sink).held (W.sink screen.new.sink).held) result session.new }
+    ensures { Tells (Lives H.may_end session.old session.new (W.sink screen.old.sink).held (W.sink screen.new.sink).held) result session.new }
 {
     let outcome = converse(session, host, debugger, screen);
     tell_outcome(session, &outcome, &mut screen.teller)

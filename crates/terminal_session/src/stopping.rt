@@ -10,7 +10,7 @@ use crate::telling::tell_waits;
 use program_files::Failure;
 use std::alloc::Global;
 use std::io::Write;
-use xv_debug::{Debugger, Next};
+use xv_debug::{Debugger, Next, Patience};
 use xv_live::{Host, Look};
 use xv_session::Session;
 
@@ -148,58 +148,59 @@ fn read_line<H: Host, E: Write>(
     Ok(Line::Ends)
 }
 
-// Does what a line says, and writes the answer.
-fn answer<E: Write>(
+// Does what a line says, and writes the answer. The patience may end it.
+fn answer<P: Patience, E: Write>(
     session: &mut Session,
     line: &[u8],
     debugger: &mut Debugger,
+    patience: &mut P,
     notes: &mut Notes<E>,
 ) -> Result<Next, Failure<'static>>
-    ensures { MovesByWord session.old session.new }
+    ensures { MovesByWord P.may_end session.old session.new }
 {
     let Ok(line) = std::str::from_utf8(line) else {
         return Ok(Next::Stays);
     };
     let mut text = String::new(notes.alloc);
-    let next = debugger.obey(notes.alloc, session, line, &mut text)?;
+    let next = debugger.obey(notes.alloc, session, line, patience, &mut text)?;
     notes.write_text(text.as_str());
     Ok(next)
 }
 
 // A line at the prompt, and what comes after it.
-fn exchange<H: Host, E: Write>(
+fn exchange<H: Host + Patience, E: Write>(
     session: &mut Session,
     host: &mut H,
     debugger: &mut Debugger,
     notes: &mut Notes<E>,
 ) -> Result<Next, Failure<'static>>
-    ensures { MovesByWord session.old session.new }
+    ensures { MovesByWord H.may_end session.old session.new }
 {
     notes.write_text(PROMPT);
     let mut editor = LineEditor::new();
     let line = read_line(session, host, &mut editor, notes)?;
     notes.history.keep(editor.bytes());
     match line {
-        Line::Typed => answer(session, editor.bytes(), debugger, notes),
+        Line::Typed => answer(session, editor.bytes(), debugger, host, notes),
         Line::GoesOn => Ok(Next::Continues),
         Line::Ends => Ok(Next::Ends),
     }
 }
 
 /// Stops the machine at the prompt, up to a word that lets it go on or ends it. The first lines tell why each process
-/// doesn't go on. The lines that are typed are the debugger's.
+/// doesn't go on. The lines that are typed are the debugger's. Ctrl-C breaks off a word that runs.
 ///
 /// # Errors
 ///
 /// That of the keyboard; [`Failure::OutOfMemory`] if there is too little for an answer.
 #[tactic(auto, using(xv_debug::proofs::Conversed::no_line, xv_debug::proofs::Conversed::one_more))]
-pub fn stop<H: Host, E: Write>(
+pub fn stop<H: Host + Patience, E: Write>(
     session: &mut Session,
     host: &mut H,
     debugger: &mut Debugger,
     notes: &mut Notes<E>,
 ) -> Result<Next, Failure<'static>>
-    ensures { Converses session.old session.new }
+    ensures { Converses H.may_end session.old session.new }
 {
     notes.break_line();
     notes.write_note(WELCOME);

@@ -1,10 +1,10 @@
 -- A done instruction adds no byte to those that wait in the console.
-use Rattle.std.proofs.Common.{◌≡◌, ℕ, ℤ, Bool, true, false, List, [], Option, None, Some, IsSome, option_map, inl, inr, refl, sym, ap, ◌∙◌, subst}
+use Rattle.std.proofs.Common.{◌≡◌, ℕ, ℤ, Bool, true, false, [], Option, None, Some, IsSome, option_map, inl, inr, refl, sym, ap, ◌∙◌, subst}
 use Rattle.std.proofs.lemmas.Option.{same_Some}
 use Rattle.console_core.specs.Lists.{Console}
 use Rattle.proc_table.specs.declared.process.Call.{Call}
 use Rattle.rv64i_core.specs.Step.{Step, Next, Ecall, Fault}
-use Rattle.kernel_spec.specs.rows.Calls.{perform, gone}
+use Rattle.kernel_spec.specs.rows.Calls.{perform}
 use Rattle.kernel_spec.specs.runs.Run as runs
 use Rattle.kernel_spec.specs.runs.Run.{Outcome, Run, RunHappens, StepOf, Step_of, World}
 use Rattle.kernel_spec.specs.steps.Instruction.{next_instruction}

@@ -1,15 +1,10 @@
 -- Events that are added.
-use Rattle.std.proofs.Common.{◌≡◌, ℕ, zero, suc, Bool, true, false, Option, Some, ◌+◌, List, [], ◌++◌, replicate, sym, ap, ◌∙◌, subst, append_assoc, add-one, arith}
+use Rattle.std.proofs.Common.{ℕ, ◌+◌, List, [], ◌++◌, replicate, sym, ap, ◌∙◌, subst, append_assoc}
 use Rattle.std.proofs.lemmas.List.{append-nil, replicate-append-replicate}
-use Rattle.kernel_spec.specs.runs.Run.{Event, Run, Outcome}
-use Rattle.xv_session.specs.Answers.{stands, Found}
-use Rattle.xv_session.specs.Recorded.{Recorded, running_of}
-use Rattle.xv_session.specs.Steps.{Advances}
-use Rattle.xv_session.specs.Until.{meets}
-use Rattle.xv_session.specs.declared.running.Running.{Running}
-use Rattle.xv_session.specs.declared.until.Condition.{Condition}
-use Rattle.xv_debug.specs.motion.Effects.{Adds, AddsRuns}
-use Rattle.xv_debug.specs.motion.Reaching.{NoneMet, LastMet}
+use Rattle.kernel_spec.specs.runs.Run.{Event}
+use Rattle.xv_session.specs.Answers.{stands}
+use Rattle.xv_session.specs.Recorded.{Recorded}
+use Rattle.xv_debug.specs.motion.Effects.{Adds}
 
 pub adds-none : (old : Recorded) → Adds [] old old
 adds-none old = ap (λ (es : List Event). stands old es old.machine old.names) (sym (append-nil old.events))

@@ -13,7 +13,7 @@ use Rattle.xv_machine.specs.declared.event.Outcome as declared
 use Rattle.xv_session.specs.Answers.{Sent, Stopped}
 use Rattle.xv_session.specs.Recorded.{Recorded, running_of}
 use Rattle.xv_session.specs.Steps.{Advances}
-use Rattle.xv_session.specs.Stops.{Unstopped, is_before_stop}
+use Rattle.xv_session.specs.Stops.{Unstopped}
 use Rattle.xv_session.specs.Until.{is_done}
 use Rattle.xv_session.specs.declared.running.Running.{Running}
 use Rattle.debug_words.specs.declared.vocabulary.Mark.{Mark}
@@ -21,9 +21,8 @@ use Rattle.xv_debug.specs.motion.Aims as aims
 use Rattle.xv_debug.specs.motion.Effects.{Adds}
 use Rattle.xv_debug.specs.motion.Marks as marked
 use Rattle.xv_debug.specs.motion.Places.{IsFar, all_of}
-use Rattle.xv_debug.specs.motion.Reaching.{Goes, LastMet, NoneMet, Reaches, ReachesBy, Test, meets_one, waiting}
+use Rattle.xv_debug.specs.motion.Reaching.{Goes, NoneMet, Reaches, ReachesBy, Test, meets_one, waiting}
 use Rattle.xv_debug.specs.motion.Resting.{RestsBy, RestsQuiet}
-use Rattle.xv_debug.specs.motion.Sent.{last_outcome}
 use Rattle.xv_debug.specs.motion.Shown.{KeepsShown}
 use Rattle.xv_debug.specs.declared.motion.aiming.Aim.{Aim}
 use Rattle.xv_debug.specs.declared.motion.journey.Journey.{Journey}
@@ -214,14 +213,14 @@ one_forth (Err e) one = tt
 
 -- ---- the last is what is waited for
 
-pub reaches_met : (test : Test) (most n : ℕ) (last : Option Outcome) (old new : Recorded) (had has : Output) → n ≤ most
-    → Goes test true n last old new had has → Reaches test most Met n last old new had has
-reaches_met test most n last old new had has within goes = record { goes = goes; within = within; all = λ is. let bad : ⊥ = cc in absurd bad; rests = tt; reason = tt }
+pub reaches_met : (may_end : Bool) (test : Test) (most n : ℕ) (last : Option Outcome) (old new : Recorded) (had has : Output) → n ≤ most
+    → Goes test true n last old new had has → Reaches may_end test most Met n last old new had has
+reaches_met may_end test most n last old new had has within goes = record { goes = goes; within = within; all = λ is. let bad : ⊥ = cc in absurd bad; broken = λ is. let bad : ⊥ = cc in absurd bad; fewer = λ is. let bad : ⊥ = cc in absurd bad; rests = tt; reason = tt }
 
 -- as a word's journey tells it
-pub reaches_told : (test : Test) (most : ℕ) (j : Journey) (n m : ℕ) (stop : Stop) (last : Option declared.Outcome) (old new : Recorded) (had has : Output)
+pub reaches_told : (may_end : Bool) (test : Test) (most : ℕ) (j : Journey) (n m : ℕ) (stop : Stop) (last : Option declared.Outcome) (old new : Recorded) (had has : Output)
     → j ≡ record { sent = m; stop = stop; last = last } → m ≡ n
-    → Reaches test most stop n (option_map outcome_of last) old new had has → Reaches test most j.stop j.sent (option_map outcome_of j.last) old new had has
-reaches_told test most j n m stop last old new had has is same reaches =
-    subst (λ (k : Journey). Reaches test most k.stop k.sent (option_map outcome_of k.last) old new had has) (sym is)
-    (subst (λ (k : ℕ). Reaches test most stop k (option_map outcome_of last) old new had has) (sym same) reaches)
+    → Reaches may_end test most stop n (option_map outcome_of last) old new had has → Reaches may_end test most j.stop j.sent (option_map outcome_of j.last) old new had has
+reaches_told may_end test most j n m stop last old new had has is same reaches =
+    subst (λ (k : Journey). Reaches may_end test most k.stop k.sent (option_map outcome_of k.last) old new had has) (sym is)
+    (subst (λ (k : ℕ). Reaches may_end test most stop k (option_map outcome_of last) old new had has) (sym same) reaches)

@@ -13,7 +13,7 @@ use Rattle.xv_debug.specs.motion.Ran.{Ran, last_of}
 use Rattle.xv_debug.specs.motion.Resting.{RestsBy}
 use Rattle.xv_debug.specs.motion.Sent.{last_outcome}
 use Rattle.xv_debug.specs.declared.motion.journey.Stop.{Stop}
-use Rattle.xv_debug.specs.declared.motion.journey.Stop.TheVariants.{Done, Met, Asleep, Halted, Refused}
+use Rattle.xv_debug.specs.declared.motion.journey.Stop.TheVariants.{Done, Met, Asleep, Halted, Broken, Refused}
 use Rattle.xv_debug.proofs.Reached.{adds-none, adds-more}
 use Rattle.xv_debug.proofs.Played.{Steps, last-one}
 
@@ -91,4 +91,5 @@ rest_unmet Done w rests is = rests
 rest_unmet Met w rests is = rests
 rest_unmet Asleep w rests is = let no : ⊥ = cc in no
 rest_unmet Halted w rests is = let no : ⊥ = cc in no
+rest_unmet Broken w rests is = rests
 rest_unmet (Refused error) w rests is = rests

@@ -1,5 +1,5 @@
 -- A done instruction that leads to none of the places is no aim, and meets no mark.
-use Rattle.std.proofs.Common.{◌≡◌, ◌∷◌, ◌++◌, ◌&&◌, ◌||◌, ℕ, ℤ, Bool, true, false, nat_eq, nat_le, List, [], Option, None, Some, flat_map, refl, sym, ap, ◌∙◌, subst}
+use Rattle.std.proofs.Common.{◌≡◌, ◌∷◌, ◌&&◌, ◌||◌, ℕ, ℤ, Bool, true, false, nat_eq, nat_le, List, [], Option, None, Some, flat_map, refl, sym, ap, ◌∙◌, subst}
 use Rattle.std.specs.List.{list_any}
 use Rattle.std.specs.Option.{option_to_list}
 use Rattle.std.proofs.lemmas.Bool.{or_parts, or_from, and_left, and_right, ne_eqb, eqb-false}
@@ -16,8 +16,8 @@ use Rattle.kcall_core.specs.Observers.{registers_of}
 use Rattle.xv_machine.specs.Meaning.{Meaning}
 use Rattle.xv_session.specs.Looking.{next_step_of}
 use Rattle.xv_session.specs.Names.{place_in}
-use Rattle.xv_session.specs.Stops.{is_before_stop, pc_is_one, puts_at_one, stops_for, stores_by}
-use Rattle.xv_session.specs.Until.{faults, ends, instruction_in, is_done, is_on_call, is_storing, pc_is, stands_at, storing_by, storing_in}
+use Rattle.xv_session.specs.Stops.{is_before_stop, pc_is_one, stops_for, stores_by}
+use Rattle.xv_session.specs.Until.{faults, ends, is_done, is_on_call, is_storing, pc_is, storing_by, storing_in}
 use Rattle.xv_session.specs.declared.looking.NextStep.{NextStep}
 use Rattle.xv_session.specs.declared.running.Running.{Running}
 use Rattle.xv_session.specs.declared.until.Condition.TheVariants as waits_for
@@ -29,7 +29,6 @@ use Rattle.xv_debug.specs.motion.Places.{IsFar, all_of, of_aim, of_mark}
 use Rattle.xv_debug.specs.motion.Reaching.{meets_one}
 use Rattle.xv_debug.specs.declared.motion.aiming.Aim.{Aim}
 use Rattle.xv_debug.specs.declared.motion.aiming.Aim.TheVariants.{Anything, On, Answer, Return, Outside}
-use Rattle.xv_debug.specs.declared.motion.places.Kind.{Kind}
 use Rattle.xv_debug.specs.declared.motion.places.Kind.TheVariants.{Instructions, Bytes}
 
 -- ---- none of the addresses is stood at, and none of the bytes stored to

@@ -9,7 +9,7 @@ use Rattle.xv_report.specs.declared.waits.Wait.TheVariants.{Until, PipeBytes, Se
 use Rattle.kcall_core.specs.declared.kernel.observers.ProcessState.TheVariants as state
 use Rattle.debug_words.specs.Texts.{grouped_by}
 use Rattle.debug_words.specs.declared.vocabulary.Word.TheVariants.{Step, Next, Run}
-use Rattle.xv_debug.specs.declared.motion.journey.Stop.TheVariants.{Done, Met}
+use Rattle.xv_debug.specs.declared.motion.journey.Stop.TheVariants.{Broken, Done, Met}
 use Rattle.xv_debug.specs.OutcomeText.{call_text, happened_text}
 use Rattle.xv_debug.specs.OutputText.{behind_bars}
 use Rattle.xv_debug.specs.PipeText.{count_text, holders_text, pipe_text, read_end_text, write_end_text}
@@ -64,6 +64,10 @@ the_last_event = refl
 a_journey : journey_text (Step 3) 1 Done (Some (Step_of 2 Stepped)) ≡ codes "1 event; the last: process 2 did an instruction\n"
 unfolding digits grouped_by
 a_journey = refl
+
+a_broken_journey : journey_text Next 2 Broken (Some (Step_of 2 Stepped)) ≡ codes "2 events; the last: process 2 did an instruction\nit was broken off here: what was sent stays, and back goes back\n"
+unfolding digits grouped_by
+a_broken_journey = refl
 
 a_way_back : back_text 1 ++ back_text 20 ≡ codes "1 event back\n20 events back\n"
 unfolding digits grouped_by

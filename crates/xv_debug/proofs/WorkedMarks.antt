@@ -1,5 +1,5 @@
 -- Worked cases of the marks that are kept.
-use Rattle.std.proofs.Common.{◌≡◌, ◌-◌, ◌^◌, ℕ, [], ◌∷◌, true, false, None, Some, refl}
+use Rattle.std.proofs.Common.{◌≡◌, [], ◌∷◌, true, false, None, Some, refl}
 use Rattle.debug_words.specs.declared.vocabulary.Mark.TheVariants.{Store}
 use Rattle.xv_debug.specs.Kept.{has, left_without, marks_after, next_mark}
 use Rattle.xv_debug.specs.declared.kept.Kept.{Kept}

@@ -1,5 +1,5 @@
 -- What the answer to a word tells: what the word did, and where the run is then; or what it looks at.
-use Rattle.std.specs.Prelude.{◌≡◌, ◌⊎◌, ◌-◌, ℕ, List, [], ◌++◌, map, take, length, min, replicate, Option, None, Some, IfSome}
+use Rattle.std.specs.Prelude.{◌≡◌, ◌⊎◌, ◌-◌, ℕ, Bool, false, List, [], ◌++◌, map, take, length, min, replicate, Option, None, Some, IfSome}
 use Rattle.circular_buffer.specs.Buffer.{buffer}
 use Rattle.kernel_spec.specs.runs.Run as runs
 use Rattle.kernel_spec.specs.runs.Run.{Event, Outcome}
@@ -13,16 +13,17 @@ use Rattle.debug_words.specs.declared.vocabulary.Word.TheVariants.{Step, Next, B
 use Rattle.debug_views.specs.Written.{Writes}
 use Rattle.xv_debug.specs.motion.Aims.{aim_in}
 use Rattle.xv_debug.specs.motion.Finishing.{IsFinishAim}
-use Rattle.xv_debug.specs.motion.Backwards.{GoesBackUntil}
+use Rattle.xv_debug.specs.motion.Backwards.{GoesBackUntil, IsUnknownBy}
 use Rattle.xv_debug.specs.declared.motion.aiming.Aim.{Aim}
 use Rattle.xv_debug.specs.declared.motion.aiming.Aim.TheVariants.{On}
 use Rattle.xv_debug.specs.motion.Reaching.{Test, meets_one}
+use Rattle.xv_debug.specs.declared.motion.backwards.Unknown.{Unknown}
 use Rattle.xv_debug.specs.declared.motion.journey.Stop.{Stop}
 use Rattle.xv_debug.specs.declared.motion.output.Output.{Output}
 use Rattle.xv_debug.specs.Effects.{IsAimOf, Plays, Searches, SendsFirst, Steps}
 use Rattle.xv_debug.specs.LookText.{Shows}
 use Rattle.xv_debug.specs.OutputText.{output_text}
-use Rattle.xv_debug.specs.StopText.{back_text, journey_text, never, no_return, refusal_text}
+use Rattle.xv_debug.specs.StopText.{back_text, journey_text, never, no_return, refusal_text, unknown_text}
 use Rattle.xv_debug.specs.WhereText.{IsWhereOf, nobody}
 
 -- ---- words that send events
@@ -32,36 +33,36 @@ abbrev pub IsSentText : Word → Recorded → (sent : ℕ) → Stop → Option O
 IsSentText word s sent stop o shown text =
     (rest : List ℕ) × IsWhereOf s None rest × (text ≡ journey_text word sent stop o ++ (shown ++ rest))
 
-abbrev pub StepTells : Word → (count : ℕ) → (old new : Recorded) → (before after : List ℕ) → Type 0
-StepTells word count old new before after = (d : Steps count old new) × Writes before after (IsSentText word new d.sent d.stop d.last [])
+abbrev pub StepTells : (may_end : Bool) → Word → (count : ℕ) → (old new : Recorded) → (before after : List ℕ) → Type 0
+StepTells may_end word count old new before after = (d : Steps may_end count old new) × Writes before after (IsSentText word new d.sent d.stop d.last [])
 
 -- nothing was shown yet
 abbrev pub IsEmpty : Output → Type 0
 IsEmpty o = (o.last ≡ buffer [] 512) × (o.count ≡ 0)
 
-abbrev pub SearchTells : Word → Test → (old new : Recorded) → (before after : List ℕ) → Type 0
-SearchTells word test old new before after =
-    (d : Searches test old new) × IsEmpty d.had × Writes before after (IsSentText word new d.sent d.stop d.last (output_text d.has))
+abbrev pub SearchTells : (may_end : Bool) → Word → Test → (old new : Recorded) → (before after : List ℕ) → Type 0
+SearchTells may_end word test old new before after =
+    (d : Searches may_end test old new) × IsEmpty d.had × Writes before after (IsSentText word new d.sent d.stop d.last (output_text d.has))
 
 -- where there is no process of which it is asked, or it isn't known where the function ends, none is sent
-abbrev pub AimTells : Word → Option Aim → (why : List ℕ) → (old new : Recorded) → (before after : List ℕ) → Type 0
-AimTells word None why old new before after = (new ≡ old) × (after ≡ before ++ why)
-AimTells word (Some aim) why old new before after = SearchTells word (meets_one aim []) old new before after
+abbrev pub AimTells : (may_end : Bool) → Word → Option Aim → (why : List ℕ) → (old new : Recorded) → (before after : List ℕ) → Type 0
+AimTells may_end word None why old new before after = (new ≡ old) × (after ≡ before ++ why)
+AimTells may_end word (Some aim) why old new before after = SearchTells may_end word (meets_one aim []) old new before after
 
-abbrev pub GoalTells : Word → Goal → (old new : Recorded) → (before after : List ℕ) → Type 0
-GoalTells word goal old new before after = (aim : Option Aim) × IsAimOf goal old aim × AimTells word aim nobody old new before after
+abbrev pub GoalTells : (may_end : Bool) → Word → Goal → (old new : Recorded) → (before after : List ℕ) → Type 0
+GoalTells may_end word goal old new before after = (aim : Option Aim) × IsAimOf goal old aim × AimTells may_end word aim nobody old new before after
 
-abbrev pub FinishTells : Word → (old new : Recorded) → (before after : List ℕ) → Type 0
-FinishTells word old new before after = (aim : Option Aim) × IfSome aim (IsFinishAim old.machine.world) × AimTells word aim no_return old new before after
+abbrev pub FinishTells : (may_end : Bool) → Word → (old new : Recorded) → (before after : List ℕ) → Type 0
+FinishTells may_end word old new before after = (aim : Option Aim) × IfSome aim (IsFinishAim old.machine.world) × AimTells may_end word aim no_return old new before after
 
-abbrev pub SendsTell : Word → (wanted : ℕ → List Event) → (all : ℕ) → (old new : Recorded) → (before after : List ℕ) → Type 0
-SendsTell word wanted all old new before after =
-    (d : SendsFirst wanted all old new) × IsEmpty d.had × Writes before after (IsSentText word new d.sent d.stop d.last (output_text d.has))
+abbrev pub SendsTell : (may_end : Bool) → Word → (wanted : ℕ → List Event) → (all : ℕ) → (old new : Recorded) → (before after : List ℕ) → Type 0
+SendsTell may_end word wanted all old new before after =
+    (d : SendsFirst may_end wanted all old new) × IsEmpty d.had × Writes before after (IsSentText word new d.sent d.stop d.last (output_text d.has))
 
 -- of rounds nothing is told here of what came of the last event
-abbrev pub RoundsTell : Word → (rounds : ℕ) → (old new : Recorded) → (before after : List ℕ) → Type 0
-RoundsTell word rounds old new before after =
-    (d : Plays rounds old new) × IsEmpty d.had
+abbrev pub RoundsTell : (may_end : Bool) → Word → (rounds : ℕ) → (old new : Recorded) → (before after : List ℕ) → Type 0
+RoundsTell may_end word rounds old new before after =
+    (d : Plays may_end rounds old new) × IsEmpty d.had
     × ((o : Option Outcome) × Writes before after (IsSentText word new (length new.events - length old.events) d.stop o (output_text d.has)))
 
 -- ---- the word that goes back
@@ -76,36 +77,36 @@ BackTells count old new before after =
     (WentBack (length old.events - count) old new × Writes before after (IsBackText new (min count (length old.events))))
     ⊎ ((new ≡ old) × (after ≡ before ++ refusal_text TooLittle))
 
--- it tells by how many events, or that there is no such place
+-- it tells by how many events, or that there is no such place; or it is as it was, and tells that it was broken off, which may happen, or that the host has too little memory
 abbrev pub IsBackUntilText : Recorded → (taken : Option ℕ) → List ℕ → Type 0
 IsBackUntilText s None text = text ≡ never
 IsBackUntilText s (Some taken) text = IsBackText s taken text
 
-abbrev pub BackUntilTells : Aim → (old new : Recorded) → (before after : List ℕ) → Type 0
-BackUntilTells aim old new before after =
+abbrev pub BackUntilTells : (may_end : Bool) → Aim → (old new : Recorded) → (before after : List ℕ) → Type 0
+BackUntilTells may_end aim old new before after =
     ((taken : Option ℕ) × GoesBackUntil aim taken old new × Writes before after (IsBackUntilText new taken))
-    ⊎ ((new ≡ old) × (after ≡ before ++ refusal_text TooLittle))
+    ⊎ ((u : Unknown) × IsUnknownBy may_end u × (new ≡ old) × (after ≡ before ++ unknown_text u))
 
-abbrev pub BackToTells : Option Aim → (old new : Recorded) → (before after : List ℕ) → Type 0
-BackToTells None old new before after = (new ≡ old) × (after ≡ before ++ nobody)
-BackToTells (Some aim) old new before after = BackUntilTells aim old new before after
+abbrev pub BackToTells : (may_end : Bool) → Option Aim → (old new : Recorded) → (before after : List ℕ) → Type 0
+BackToTells may_end None old new before after = (new ≡ old) × (after ≡ before ++ nobody)
+BackToTells may_end (Some aim) old new before after = BackUntilTells may_end aim old new before after
 
-abbrev pub SeekBackTells : Goal → (old new : Recorded) → (before after : List ℕ) → Type 0
-SeekBackTells goal old new before after = (aim : Option Aim) × IsAimOf goal old aim × BackToTells aim old new before after
+abbrev pub SeekBackTells : (may_end : Bool) → Goal → (old new : Recorded) → (before after : List ℕ) → Type 0
+SeekBackTells may_end goal old new before after = (aim : Option Aim) × IsAimOf goal old aim × BackToTells may_end aim old new before after
 
 -- ---- all words
 
--- What is written behind an answer, of the session as the word found it and as it left it; `shown` is where the memory that was shown last ends
-abbrev pub Answers : (shown : ℕ) → Word → (old new : Recorded) → (before after : List ℕ) → Type 0
-Answers shown (Step count) old new before after = StepTells (Step count) count old new before after
-Answers shown Next old new before after = SearchTells Next (meets_one (aim_in old.machine.world) []) old new before after
-Answers shown (Until goal) old new before after = GoalTells (Until goal) goal old new before after
-Answers shown (Run rounds) old new before after = RoundsTell (Run rounds) rounds old new before after
-Answers shown (Tick count) old new before after = SendsTell (Tick count) (λ n. replicate n runs.Tick) count old new before after
-Answers shown (Send count) old new before after = SendsTell (Send count) (λ n. replicate n runs.Send) count old new before after
-Answers shown (Key keys) old new before after = SendsTell (Key keys) (λ n. map runs.Key (take n keys.items)) (length keys.items) old new before after
-Answers shown (ToMark marks) old new before after = SearchTells (ToMark marks) (meets_one (On Fault) marks.items) old new before after
-Answers shown Finish old new before after = FinishTells Finish old new before after
-Answers shown (BackUntil goal) old new before after = SeekBackTells goal old new before after
-Answers shown (Back count) old new before after = BackTells count old new before after
-Answers shown word old new before after = Shows shown old word before after
+-- What is written behind an answer, of the session as the word found it and as it left it; `shown` is where the memory that was shown last ends, and `may_end` says whether the word may be broken off
+abbrev pub Answers : (may_end : Bool) → (shown : ℕ) → Word → (old new : Recorded) → (before after : List ℕ) → Type 0
+Answers may_end shown (Step count) old new before after = StepTells may_end (Step count) count old new before after
+Answers may_end shown Next old new before after = SearchTells may_end Next (meets_one (aim_in old.machine.world) []) old new before after
+Answers may_end shown (Until goal) old new before after = GoalTells may_end (Until goal) goal old new before after
+Answers may_end shown (Run rounds) old new before after = RoundsTell may_end (Run rounds) rounds old new before after
+Answers may_end shown (Tick count) old new before after = SendsTell may_end (Tick count) (λ n. replicate n runs.Tick) count old new before after
+Answers may_end shown (Send count) old new before after = SendsTell may_end (Send count) (λ n. replicate n runs.Send) count old new before after
+Answers may_end shown (Key keys) old new before after = SendsTell false (Key keys) (λ n. map runs.Key (take n keys.items)) (length keys.items) old new before after
+Answers may_end shown (ToMark marks) old new before after = SearchTells may_end (ToMark marks) (meets_one (On Fault) marks.items) old new before after
+Answers may_end shown Finish old new before after = FinishTells may_end Finish old new before after
+Answers may_end shown (BackUntil goal) old new before after = SeekBackTells may_end goal old new before after
+Answers may_end shown (Back count) old new before after = BackTells count old new before after
+Answers may_end shown word old new before after = Shows shown old word before after

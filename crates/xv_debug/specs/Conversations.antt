@@ -1,18 +1,18 @@
--- What lines of words, one after another, do to a session.
-use Rattle.std.specs.Prelude.{◌≡◌, ◌⊎◌, ℕ, zero, suc}
+-- What lines of words, one after another, do to a session; `may_end` says whether they may be broken off.
+use Rattle.std.specs.Prelude.{◌≡◌, ◌⊎◌, ℕ, zero, suc, Bool}
 use Rattle.xv_session.specs.Recorded.{Recorded}
 use Rattle.xv_debug.specs.Effects.{DoesSome}
 
 -- A line leaves the session as it was, or does to it what a word does
-pub record MovesByWord (old new : Recorded) : Type 0 where
-  pub moves : (new ≡ old) ⊎ DoesSome old new
+pub record MovesByWord (may_end : Bool) (old new : Recorded) : Type 0 where
+  pub moves : (new ≡ old) ⊎ DoesSome may_end old new
 
 -- so many lines, one after another
-abbrev pub MovesByWords : ℕ → Recorded → Recorded → Type 0
-MovesByWords zero old new = new ≡ old
-MovesByWords (suc n) old new = (mid : Recorded) × MovesByWords n old mid × MovesByWord mid new
+abbrev pub MovesByWords : (may_end : Bool) → ℕ → Recorded → Recorded → Type 0
+MovesByWords may_end zero old new = new ≡ old
+MovesByWords may_end (suc n) old new = (mid : Recorded) × MovesByWords may_end n old mid × MovesByWord may_end mid new
 
 -- Nothing but the words of so many lines moved the session
-pub record Converses (old new : Recorded) : Type 0 where
+pub record Converses (may_end : Bool) (old new : Recorded) : Type 0 where
   pub lines : ℕ
-  pub moves : MovesByWords lines old new
+  pub moves : MovesByWords may_end lines old new

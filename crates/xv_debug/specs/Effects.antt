@@ -1,5 +1,5 @@
 -- What the words do to a session: words that look leave it as it was; the others send events, or go back.
-use Rattle.std.specs.Prelude.{◌≡◌, ◌≢◌, ◌⊎◌, ◌≤◌, ◌-◌, ℕ, List, [], map, take, length, replicate, Option, None, Some, IfSome}
+use Rattle.std.specs.Prelude.{◌≡◌, ◌≢◌, ◌⊎◌, ◌≤◌, ◌<◌, ◌-◌, ℕ, Bool, true, false, List, [], map, take, length, replicate, Option, None, Some, IfSome}
 use Rattle.kernel_spec.specs.runs.Run as runs
 use Rattle.kernel_spec.specs.runs.Run.{Event, Outcome}
 use Rattle.xv_session.specs.Answers.{WentBack}
@@ -23,7 +23,7 @@ use Rattle.xv_debug.specs.motion.Resting.{RestsIf}
 use Rattle.xv_debug.specs.motion.Rounds.{RoundsLeave}
 use Rattle.xv_debug.specs.motion.Sent.{Sends}
 use Rattle.xv_debug.specs.declared.motion.journey.Stop.{Stop}
-use Rattle.xv_debug.specs.declared.motion.journey.Stop.TheVariants.{Done, Met}
+use Rattle.xv_debug.specs.declared.motion.journey.Stop.TheVariants.{Done, Met, Broken}
 use Rattle.xv_debug.specs.declared.motion.output.Output.{Output}
 use Rattle.xv_debug.specs.Focus.{IsFocus}
 use Rattle.xv_debug.specs.declared.debugger.Next as behind_words
@@ -43,48 +43,50 @@ IsAimOf Fault s answer = answer ≡ Some (On waits_for.Fault)
 IsAimOf Exit s answer = answer ≡ Some (On waits_for.Exit)
 IsAimOf Line s answer = (p : Option ℕ) × IsFocus None s p × IsLineOf p s.machine.world answer
 
--- ---- what the words leave
+-- ---- what the words leave; `may_end` says whether they may be broken off
 
--- So many Runs were sent, or fewer, where nobody may run or the session keeps no more events; and it is known what came of the last
-pub record Steps (count : ℕ) (old new : Recorded) : Type 0 where
+-- So many Runs were sent, or fewer, where nobody may run, it was broken off, or the session keeps no more events; and it is known what came of the last
+pub record Steps (may_end : Bool) (count : ℕ) (old new : Recorded) : Type 0 where
   pub stop : Stop
   pub sent : ℕ
   pub last : Option Outcome
   pub ran : Ran sent last old new
   pub within : sent ≤ count
   pub all : stop ≡ Done → sent ≡ count
+  pub broken : stop ≡ Broken → may_end ≡ true
+  pub fewer : stop ≡ Broken → sent < count
   pub unmet : stop ≢ Met
   pub rests : RestsIf stop new.machine.world
   pub reason : IsRefusedBy stop new
 
--- Events were sent up to the first Run that is what is waited for; or fewer than that, where nobody may run, the session keeps no more events, or all that a word may send were sent
-pub record Searches (test : Test) (old new : Recorded) : Type 0 where
+-- Events were sent up to the first Run that is what is waited for; or fewer than that, where nobody may run, it was broken off, the session keeps no more events, or all that a word may send were sent
+pub record Searches (may_end : Bool) (test : Test) (old new : Recorded) : Type 0 where
   pub stop : Stop
   pub sent : ℕ
   pub last : Option Outcome
   pub had : Output
   pub has : Output
-  pub reaches : Reaches test EVENTS_MOST stop sent last old new had has
+  pub reaches : Reaches may_end test EVENTS_MOST stop sent last old new had has
 
 -- up to this aim; where there is none, all stays
-abbrev pub SearchesAim : Option Aim → Recorded → Recorded → Type 0
-SearchesAim None old new = new ≡ old
-SearchesAim (Some aim) old new = Searches (meets_one aim []) old new
+abbrev pub SearchesAim : (may_end : Bool) → Option Aim → Recorded → Recorded → Type 0
+SearchesAim may_end None old new = new ≡ old
+SearchesAim may_end (Some aim) old new = Searches may_end (meets_one aim []) old new
 
 -- up to a goal
-pub record SearchesGoal (goal : Goal) (old new : Recorded) : Type 0 where
+pub record SearchesGoal (may_end : Bool) (goal : Goal) (old new : Recorded) : Type 0 where
   pub aim : Option Aim
   pub is : IsAimOf goal old aim
-  pub searches : SearchesAim aim old new
+  pub searches : SearchesAim may_end aim old new
 
 -- up to the end of the function in which the process that runs is, if it is known where that is
-pub record Finishes (old new : Recorded) : Type 0 where
+pub record Finishes (may_end : Bool) (old new : Recorded) : Type 0 where
   pub aim : Option Aim
   pub is : IfSome aim (IsFinishAim old.machine.world)
-  pub searches : SearchesAim aim old new
+  pub searches : SearchesAim may_end aim old new
 
--- These events were sent, or the first of them, where the session keeps no more
-pub record SendsFirst (wanted : ℕ → List Event) (all : ℕ) (old new : Recorded) : Type 0 where
+-- These events were sent, or the first of them, where it was broken off, or the session keeps no more
+pub record SendsFirst (may_end : Bool) (wanted : ℕ → List Event) (all : ℕ) (old new : Recorded) : Type 0 where
   pub sent : ℕ
   pub stop : Stop
   pub last : Option Outcome
@@ -93,15 +95,17 @@ pub record SendsFirst (wanted : ℕ → List Event) (all : ℕ) (old new : Recor
   pub sends : Sends (wanted sent) last old new had has
   pub within : sent ≤ all
   pub whole : stop ≡ Done → sent ≡ all
+  pub broken : stop ≡ Broken → may_end ≡ true
+  pub fewer : stop ≡ Broken → sent < all
   pub refused : IsRefusal stop
   pub reason : IsRefusedBy stop new
 
 -- Rounds were played
-pub record Plays (most : ℕ) (old new : Recorded) : Type 0 where
+pub record Plays (may_end : Bool) (most : ℕ) (old new : Recorded) : Type 0 where
   pub stop : Stop
   pub had : Output
   pub has : Output
-  pub leaves : RoundsLeave 1000 most stop old new had has
+  pub leaves : RoundsLeave may_end 1000 most stop old new had has
 
 -- It has gone back by so many events, to the boot where there were fewer; or it is as it was, where the host had too little memory
 abbrev pub GoesBack : (count : ℕ) → Recorded → Recorded → Type 0
@@ -112,30 +116,30 @@ abbrev pub GoesBackTo : Option Aim → Recorded → Recorded → Type 0
 GoesBackTo None old new = new ≡ old
 GoesBackTo (Some aim) old new = (new ≡ old) ⊎ ((taken : Option ℕ) × GoesBackUntil aim taken old new)
 
--- that was a goal; or it is as it was, where the host had too little memory
+-- that was a goal; or it is as it was, where it was broken off, or the host had too little memory
 pub record SeeksBack (goal : Goal) (old new : Recorded) : Type 0 where
   pub aim : Option Aim
   pub is : IsAimOf goal old aim
   pub goes : GoesBackTo aim old new
 
 -- What a word leaves
-abbrev pub Does : words.Word → Recorded → Recorded → Type 0
-Does (Step count) old new = Steps count old new
-Does Next old new = Searches (meets_one (aim_in old.machine.world) []) old new
-Does (Until goal) old new = SearchesGoal goal old new
-Does (Run rounds) old new = Plays rounds old new
-Does (Tick count) old new = SendsFirst (λ n. replicate n runs.Tick) count old new
-Does (Send count) old new = SendsFirst (λ n. replicate n runs.Send) count old new
-Does (Key keys) old new = SendsFirst (λ n. map runs.Key (take n keys.items)) (length keys.items) old new
-Does (Back count) old new = GoesBack count old new
-Does (BackUntil goal) old new = SeeksBack goal old new
-Does (ToMark marks) old new = Searches (meets_one (On waits_for.Fault) marks.items) old new
-Does Finish old new = Finishes old new
-Does _ old new = new ≡ old
+abbrev pub Does : (may_end : Bool) → words.Word → Recorded → Recorded → Type 0
+Does may_end (Step count) old new = Steps may_end count old new
+Does may_end Next old new = Searches may_end (meets_one (aim_in old.machine.world) []) old new
+Does may_end (Until goal) old new = SearchesGoal may_end goal old new
+Does may_end (Run rounds) old new = Plays may_end rounds old new
+Does may_end (Tick count) old new = SendsFirst may_end (λ n. replicate n runs.Tick) count old new
+Does may_end (Send count) old new = SendsFirst may_end (λ n. replicate n runs.Send) count old new
+Does may_end (Key keys) old new = SendsFirst false (λ n. map runs.Key (take n keys.items)) (length keys.items) old new
+Does may_end (Back count) old new = GoesBack count old new
+Does may_end (BackUntil goal) old new = SeeksBack goal old new
+Does may_end (ToMark marks) old new = Searches may_end (meets_one (On waits_for.Fault) marks.items) old new
+Does may_end Finish old new = Finishes may_end old new
+Does may_end _ old new = new ≡ old
 
 -- Where the host had too little memory for its answer, it may have done nothing
-abbrev pub DoesOrStays : words.Word → Recorded → Recorded → Type 0
-DoesOrStays word old new = (new ≡ old) ⊎ Does word old new
+abbrev pub DoesOrStays : (may_end : Bool) → words.Word → Recorded → Recorded → Type 0
+DoesOrStays may_end word old new = (new ≡ old) ⊎ Does may_end word old new
 
 -- ---- what a line leaves
 
@@ -146,14 +150,14 @@ next_of Quit = ends.Ends
 next_of _ = ends.Stays
 
 -- What some word leaves whose numbers are in their ranges. A line that is no word is answered as the word Nothing is, which does nothing
-pub record DoesSome (old new : Recorded) : Type 0 where
+pub record DoesSome (may_end : Bool) (old new : Recorded) : Type 0 where
   pub word : words.Word
   pub in_range : IsInRange word
-  pub does : Does word old new
+  pub does : Does may_end word old new
 
 -- and what comes behind its answer
-pub record Obeys (old new : Recorded) (next : behind_words.Next) : Type 0 where
+pub record Obeys (may_end : Bool) (old new : Recorded) (next : behind_words.Next) : Type 0 where
   pub word : words.Word
   pub in_range : IsInRange word
-  pub does : Does word old new
+  pub does : Does may_end word old new
   pub behind : next ≡ next_of word

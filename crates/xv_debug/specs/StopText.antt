@@ -10,7 +10,9 @@ use Rattle.debug_words.specs.declared.vocabulary.Word.{Word}
 use Rattle.debug_words.specs.declared.vocabulary.Word.TheVariants.{Next, Until, Run, Finish, ToMark}
 use Rattle.xv_debug.specs.declared.motion.journey.Journey.{Journey}
 use Rattle.xv_debug.specs.declared.motion.journey.Stop.{Stop}
-use Rattle.xv_debug.specs.declared.motion.journey.Stop.TheVariants.{Done, Met, Asleep, Halted, Refused}
+use Rattle.xv_debug.specs.declared.motion.journey.Stop.TheVariants.{Done, Met, Asleep, Halted, Broken, Refused}
+use Rattle.xv_debug.specs.declared.motion.backwards.Unknown.{Unknown}
+use Rattle.xv_debug.specs.declared.motion.backwards.Unknown.TheVariants as unknown
 use Rattle.xv_debug.specs.OutcomeText.{happened_text}
 
 -- why the session took no more events
@@ -34,10 +36,15 @@ done_text Finish = not_yet
 done_text (ToMark marks) = not_yet
 done_text _ = []
 
+-- where a word was broken off
+abbrev pub broken_text : List ℕ
+broken_text = codes "it was broken off here: what was sent stays, and back goes back\n"
+
 -- why a word sent no more
 abbrev pub stop_text : Word → Stop → List ℕ
 stop_text word Asleep = codes "all processes sleep: tick moves the clock, key types\n"
 stop_text word Halted = codes "the machine has halted: nothing runs any more, but back goes back\n"
+stop_text word Broken = broken_text
 stop_text word (Refused error) = refusal_text error
 stop_text word Met = met_text word
 stop_text word Done = done_text word
@@ -61,6 +68,11 @@ no_return = codes "no process runs whose function has a known return address: bt
 -- how many events were taken back
 abbrev pub back_text : (taken : ℕ) → List ℕ
 back_text taken = many taken (codes "event") ++ codes " back\n"
+
+-- where it was broken off before that was known
+abbrev pub unknown_text : Unknown → List ℕ
+unknown_text unknown.Broken = codes "it was broken off, and nothing is changed\n"
+unknown_text (unknown.Refused error) = refusal_text error
 
 -- where a goal never came before
 abbrev pub never : List ℕ

@@ -13,10 +13,11 @@ use crate::looks::{
 };
 use crate::motion::{self, Aim, Journey, Output};
 use crate::names::Known;
+use crate::patience::Patience;
 use crate::pipes::show_pipes;
 use crate::processes::{show_process, show_processes, show_where};
 use crate::shown_output::show_output;
-use crate::stops::{show_refusal, show_sent};
+use crate::stops::{show_refusal, show_sent, show_unknown};
 use debug_views::{show_console, show_events, show_frames, show_memory, show_trace, show_value};
 use debug_words::texts::Many;
 use debug_words::{
@@ -217,23 +218,24 @@ impl Debugger {
         show_where(alloc, session, self.sources.as_ref(), pid, count, answer)
     }
 
-    /// Obeys a line, and writes its answer.
+    /// Obeys a line, and writes its answer. The patience may end while a word runs: then it is broken off.
     ///
     /// # Errors
     ///
     /// The host has too little memory for the answer.
-    pub fn obey(
+    pub fn obey<P: Patience>(
         &mut self,
         alloc: Global,
         session: &mut Session,
         line: &str,
+        patience: &mut P,
         answer: &mut String,
     ) -> Result<Next, AllocError>
-        ensures done { IfOk result (λ next. Obeys session.old session.new next) }
-        ensures failed { IfErr result (λ _. (session.new ≡ session.old) ⊎ DoesSome session.old session.new) }
+        ensures done { IfOk result (λ next. Obeys P.may_end session.old session.new next) }
+        ensures failed { IfErr result (λ _. (session.new ≡ session.old) ⊎ DoesSome P.may_end session.old session.new) }
     {
         match self.read(session, line) {
-            Ok(word) => self.answer_marked(alloc, session, word, answer),
+            Ok(word) => self.answer_marked(alloc, session, word, patience, answer),
             Err(error) => {
                 writeln!(answer, "{error}")?;
                 show_nameless(session, &error, answer)?;
@@ -271,19 +273,20 @@ impl Debugger {
 
     /// Does what a word of a line asks for, and writes its answer. After it the marks for once that are met are
     /// forgotten.
-    fn answer_marked(
+    fn answer_marked<P: Patience>(
         &mut self,
         alloc: Global,
         session: &mut Session,
         word: Word,
+        patience: &mut P,
         answer: &mut String,
     ) -> Result<Next, AllocError>
         requires { IsInRange word }
-        ensures done { IfOk result (λ next. Obeys session.old session.new next) }
-        ensures failed { IfErr result (λ _. (session.new ≡ session.old) ⊎ DoesSome session.old session.new) }
+        ensures done { IfOk result (λ next. Obeys P.may_end session.old session.new next) }
+        ensures failed { IfErr result (λ _. (session.new ≡ session.old) ⊎ DoesSome P.may_end session.old session.new) }
     {
         let word = self.with_marks(word);
-        let next = self.obey_word(alloc, session, &word, answer);
+        let next = self.obey_word(alloc, session, &word, patience, answer);
         self.forget_met(session, &word);
         next
     }
@@ -298,18 +301,19 @@ impl Debugger {
     }
 
     /// Obeys a word.
-    fn obey_word(
+    fn obey_word<P: Patience>(
         &mut self,
         alloc: Global,
         session: &mut Session,
         word: &Word,
+        patience: &mut P,
         answer: &mut String,
     ) -> Result<Next, AllocError>
         requires { IsInRange word.now }
-        ensures done { IfOk result (λ next. Obeys session.old session.new next) }
-        ensures failed { IfErr result (λ _. (session.new ≡ session.old) ⊎ DoesSome session.old session.new) }
+        ensures done { IfOk result (λ next. Obeys P.may_end session.old session.new next) }
+        ensures failed { IfErr result (λ _. (session.new ≡ session.old) ⊎ DoesSome P.may_end session.old session.new) }
     {
-        self.answer(alloc, session, word, answer)
+        self.answer(alloc, session, word, patience, answer)
     }
 
     /// Does what a word asks for, and writes its answer.
@@ -317,51 +321,54 @@ impl Debugger {
     /// # Errors
     ///
     /// The host has too little memory for the answer. What the word asks for may be done then.
-    pub fn answer(
+    pub fn answer<P: Patience>(
         &mut self,
         alloc: Global,
         session: &mut Session,
         word: &Word,
+        patience: &mut P,
         answer: &mut String,
     ) -> Result<Next, AllocError>
-        ensures done { IfOk result (λ _. Does word.now session.old session.new) }
+        ensures done { IfOk result (λ _. Does P.may_end word.now session.old session.new) }
         ensures next { IfOk result (λ next. next ≡ next_of word.now) }
         ensures told { OnOk result
-            (Answers self.old.shown word.now session.old session.new
+            (Answers P.may_end self.old.shown word.now session.old session.new
             (string_bytes answer.old) (string_bytes answer.new)) }
-        ensures failed { IfErr result (λ _. DoesOrStays word.now session.old session.new) }
+        ensures failed { IfErr result (λ _. DoesOrStays P.may_end word.now session.old session.new) }
     {
-        self.act(alloc, session, word, answer)?;
+        self.act(alloc, session, word, patience, answer)?;
         Ok(next_of(word))
     }
 
     /// Does what a word asks for, and writes its answer.
-    fn act(
+    fn act<P: Patience>(
         &mut self,
         alloc: Global,
         session: &mut Session,
         word: &Word,
+        patience: &mut P,
         answer: &mut String,
     ) -> Result<(), AllocError>
-        ensures done { IfOk result (λ _. Does word.now session.old session.new) }
+        ensures done { IfOk result (λ _. Does P.may_end word.now session.old session.new) }
         ensures told { OnOk result
-            (Answers self.old.shown word.now session.old session.new
+            (Answers P.may_end self.old.shown word.now session.old session.new
             (string_bytes answer.old) (string_bytes answer.new)) }
-        ensures failed { IfErr result (λ _. DoesOrStays word.now session.old session.new) }
+        ensures failed { IfErr result (λ _. DoesOrStays P.may_end word.now session.old session.new) }
     {
         match word {
             Word::Back { count } => self.go_back(alloc, session, *count, answer),
-            Word::BackUntil(goal) => self.seek_back(alloc, session, goal, answer),
-            Word::Step { count } => self.step(alloc, session, word, *count, answer),
-            Word::Next => self.next(alloc, session, word, answer),
-            Word::Until(goal) => self.seek(alloc, session, word, goal, answer),
-            Word::Run { rounds } => self.play(alloc, session, word, *rounds, answer),
+            Word::BackUntil(goal) => self.seek_back(alloc, session, goal, patience, answer),
+            Word::Step { count } => self.step(alloc, session, word, *count, patience, answer),
+            Word::Next => self.next(alloc, session, word, patience, answer),
+            Word::Until(goal) => self.seek(alloc, session, word, goal, patience, answer),
+            Word::Run { rounds } => self.play(alloc, session, word, *rounds, patience, answer),
             Word::Tick { count } => self.send_often(
                 alloc,
                 session,
                 word,
                 Event::Tick,
                 *count,
+                patience,
                 answer,
             ),
             Word::Send { count } => self.send_often(
@@ -370,11 +377,12 @@ impl Debugger {
                 word,
                 Event::Send,
                 *count,
+                patience,
                 answer,
             ),
             Word::Key(keys) => self.type_in(alloc, session, word, keys, answer),
-            Word::ToMark(marks) => self.go_on(alloc, session, word, marks, answer),
-            Word::Finish => self.finish(alloc, session, word, answer),
+            Word::ToMark(marks) => self.go_on(alloc, session, word, marks, patience, answer),
+            Word::Finish => self.finish(alloc, session, word, patience, answer),
             Word::Nothing
             | Word::Callers { .. }
             | Word::Listing { .. }
@@ -438,199 +446,217 @@ impl Debugger {
     }
 
     /// Sends so many Runs, and tells what came of them.
-    fn step(
+    fn step<P: Patience>(
         &self,
         alloc: Global,
         session: &mut Session,
         word: &Word,
         count: u32,
+        patience: &mut P,
         answer: &mut String,
     ) -> Result<(), AllocError>
-        ensures done { Steps count session.old session.new }
+        ensures done { Steps P.may_end count session.old session.new }
         ensures told { OnOk result
-            (StepTells word.now count session.old session.new
+            (StepTells P.may_end word.now count session.old session.new
             (string_bytes answer.old) (string_bytes answer.new)) }
     {
-        let journey = motion::step(session, count);
+        let journey = motion::step(session, count, patience);
         self.tell(alloc, session, word, &journey, answer)
     }
 
     /// Sends Runs up to an aim or a mark, and tells what came of them.
-    fn search(
+    fn search<P: Patience>(
         &self,
         alloc: Global,
         session: &mut Session,
         word: &Word,
         aim: &Aim,
         marks: &[Mark],
+        patience: &mut P,
         answer: &mut String,
     ) -> Result<(), AllocError>
-        ensures done { IfOk result (λ _. Searches (meets_one aim.now marks.now) session.old session.new) }
+        ensures done { IfOk result (λ _. Searches P.may_end (meets_one aim.now marks.now) session.old session.new) }
         ensures told { OnOk result
-            (SearchTells word.now (meets_one aim.now marks.now)
+            (SearchTells P.may_end word.now (meets_one aim.now marks.now)
             session.old session.new (string_bytes answer.old) (string_bytes answer.new)) }
-        ensures failed { IfErr result (λ _. (session.new ≡ session.old) ⊎ Searches (meets_one aim.now marks.now) session.old session.new) }
+        ensures failed { IfErr result (λ _. (session.new ≡ session.old) ⊎ Searches P.may_end (meets_one aim.now marks.now) session.old session.new) }
     {
         let mut output = Output::new(alloc)?;
-        let journey = motion::search(session, EVENTS_MOST, aim, marks, &mut output);
+        let journey = motion::search(session, EVENTS_MOST, aim, marks, patience, &mut output);
         self.tell_shown(alloc, session, word, &journey, &output, answer)
     }
 
     /// Sends Runs up to the end of an instruction, and of the call that it makes.
-    fn next(
+    fn next<P: Patience>(
         &self,
         alloc: Global,
         session: &mut Session,
         word: &Word,
+        patience: &mut P,
         answer: &mut String,
     ) -> Result<(), AllocError>
-        ensures done { IfOk result (λ _. Searches (meets_one (aim_in session.old.machine.world) []) session.old session.new) }
+        ensures done { IfOk result (λ _. Searches P.may_end (meets_one (aim_in session.old.machine.world) []) session.old session.new) }
         ensures told { OnOk result
-            (SearchTells word.now (meets_one (aim_in session.old.machine.world) [])
+            (SearchTells P.may_end word.now (meets_one (aim_in session.old.machine.world) [])
             session.old session.new (string_bytes answer.old) (string_bytes answer.new)) }
-        ensures failed { IfErr result (λ _. (session.new ≡ session.old) ⊎ Searches (meets_one (aim_in session.old.machine.world) []) session.old session.new) }
+        ensures failed { IfErr result (λ _. (session.new ≡ session.old) ⊎ Searches P.may_end (meets_one (aim_in session.old.machine.world) []) session.old session.new) }
     {
         let aim = motion::aim_in(session.machine());
-        self.search(alloc, session, word, &aim, &[], answer)
+        self.search(alloc, session, word, &aim, &[], patience, answer)
     }
 
     /// Sends Runs up to the first that meets one of these marks, or by which a process is gone by a fault.
-    fn go_on(
+    fn go_on<P: Patience>(
         &self,
         alloc: Global,
         session: &mut Session,
         word: &Word,
         marks: &Marks,
+        patience: &mut P,
         answer: &mut String,
     ) -> Result<(), AllocError>
-        ensures done { IfOk result (λ _. Searches (meets_one (On Fault) marks.now.items) session.old session.new) }
+        ensures done { IfOk result (λ _. Searches P.may_end (meets_one (On Fault) marks.now.items) session.old session.new) }
         ensures told { OnOk result
-            (SearchTells word.now (meets_one (On Fault) marks.now.items)
+            (SearchTells P.may_end word.now (meets_one (On Fault) marks.now.items)
             session.old session.new (string_bytes answer.old) (string_bytes answer.new)) }
-        ensures failed { IfErr result (λ _. (session.new ≡ session.old) ⊎ Searches (meets_one (On Fault) marks.now.items) session.old session.new) }
+        ensures failed { IfErr result (λ _. (session.new ≡ session.old) ⊎ Searches P.may_end (meets_one (On Fault) marks.now.items) session.old session.new) }
     {
         let aim = Aim::On(Condition::Fault);
-        self.search(alloc, session, word, &aim, marks.as_slice(), answer)
+        self.search(
+            alloc,
+            session,
+            word,
+            &aim,
+            marks.as_slice(),
+            patience,
+            answer,
+        )
     }
 
     /// Sends Runs up to the end of the function in which the process that runs is; none if it isn't known.
-    fn finish(
+    fn finish<P: Patience>(
         &self,
         alloc: Global,
         session: &mut Session,
         word: &Word,
+        patience: &mut P,
         answer: &mut String,
     ) -> Result<(), AllocError>
-        ensures done { IfOk result (λ _. Finishes session.old session.new) }
+        ensures done { IfOk result (λ _. Finishes P.may_end session.old session.new) }
         ensures told { OnOk result
-            (FinishTells word.now session.old session.new
+            (FinishTells P.may_end word.now session.old session.new
             (string_bytes answer.old) (string_bytes answer.new)) }
-        ensures failed { IfErr result (λ _. (session.new ≡ session.old) ⊎ Finishes session.old session.new) }
+        ensures failed { IfErr result (λ _. (session.new ≡ session.old) ⊎ Finishes P.may_end session.old session.new) }
     {
         match motion::finish_aim(session, self.sources.as_ref()) {
-            Some(aim) => self.search(alloc, session, word, &aim, &[], answer),
+            Some(aim) => self.search(alloc, session, word, &aim, &[], patience, answer),
             None => show_no_return(answer),
         }
     }
 
     /// Sends Runs up to a goal; none if it is asked of a process that isn't there.
-    fn seek(
+    fn seek<P: Patience>(
         &self,
         alloc: Global,
         session: &mut Session,
         word: &Word,
         goal: &Goal,
+        patience: &mut P,
         answer: &mut String,
     ) -> Result<(), AllocError>
-        ensures done { IfOk result (λ _. SearchesGoal goal.now session.old session.new) }
+        ensures done { IfOk result (λ _. SearchesGoal P.may_end goal.now session.old session.new) }
         ensures told { OnOk result
-            (GoalTells word.now goal.now session.old session.new
+            (GoalTells P.may_end word.now goal.now session.old session.new
             (string_bytes answer.old) (string_bytes answer.new)) }
-        ensures failed { IfErr result (λ _. (session.new ≡ session.old) ⊎ SearchesGoal goal.now session.old session.new) }
+        ensures failed { IfErr result (λ _. (session.new ≡ session.old) ⊎ SearchesGoal P.may_end goal.now session.old session.new) }
     {
         match self.aim(session, goal) {
-            Some(aim) => self.search(alloc, session, word, &aim, &[], answer),
+            Some(aim) => self.search(alloc, session, word, &aim, &[], patience, answer),
             None => show_nobody(answer),
         }
     }
 
     /// Goes back to the last Run that was a goal, and tells where that is.
-    fn seek_back(
+    fn seek_back<P: Patience>(
         &self,
         alloc: Global,
         session: &mut Session,
         goal: &Goal,
+        patience: &mut P,
         answer: &mut String,
     ) -> Result<(), AllocError>
         ensures done { SeeksBack goal.now session.old session.new }
         ensures told { OnOk result
-            (SeekBackTells goal.now session.old session.new
+            (SeekBackTells P.may_end goal.now session.old session.new
             (string_bytes answer.old) (string_bytes answer.new)) }
     {
         match self.aim(session, goal) {
-            Some(aim) => self.go_back_until(alloc, session, &aim, answer),
+            Some(aim) => self.go_back_until(alloc, session, &aim, patience, answer),
             None => show_nobody(answer),
         }
     }
 
     /// Goes back to the last Run that was an aim, and tells where that is.
-    fn go_back_until(
+    fn go_back_until<P: Patience>(
         &self,
         alloc: Global,
         session: &mut Session,
         aim: &Aim,
+        patience: &mut P,
         answer: &mut String,
     ) -> Result<(), AllocError>
         ensures done { (session.new ≡ session.old) ⊎ ((taken : Option ℕ) × GoesBackUntil aim.now taken session.old session.new) }
         ensures told { OnOk result
-            (BackUntilTells aim.now session.old session.new
+            (BackUntilTells P.may_end aim.now session.old session.new
             (string_bytes answer.old) (string_bytes answer.new)) }
     {
-        match motion::back_until(alloc, session, aim) {
+        match motion::back_until(alloc, session, aim, patience) {
             Ok(Some(taken)) => self.tell_back(alloc, session, taken, answer),
             Ok(None) => show_never(answer),
-            Err(error) => show_refusal(&error, answer),
+            Err(why) => show_unknown(&why, answer),
         }
     }
 
-    /// Plays rounds, and tells what came of them.
-    fn play(
+    /// Plays P.may_end rounds, and tells what came of them.
+    fn play<P: Patience>(
         &self,
         alloc: Global,
         session: &mut Session,
         word: &Word,
         rounds: u32,
+        patience: &mut P,
         answer: &mut String,
     ) -> Result<(), AllocError>
-        ensures done { IfOk result (λ _. Plays rounds session.old session.new) }
+        ensures done { IfOk result (λ _. Plays P.may_end rounds session.old session.new) }
         ensures told { OnOk result
-            (RoundsTell word.now rounds session.old session.new
+            (RoundsTell P.may_end word.now rounds session.old session.new
             (string_bytes answer.old) (string_bytes answer.new)) }
-        ensures failed { IfErr result (λ _. (session.new ≡ session.old) ⊎ Plays rounds session.old session.new) }
+        ensures failed { IfErr result (λ _. (session.new ≡ session.old) ⊎ Plays P.may_end rounds session.old session.new) }
     {
         let mut output = Output::new(alloc)?;
-        let journey = motion::play_rounds(session, QUANTUM, rounds, &mut output);
+        let journey = motion::play_rounds(session, QUANTUM, rounds, patience, &mut output);
         self.tell_shown(alloc, session, word, &journey, &output, answer)
     }
 
     /// Sends an event so many times, and tells what came of it.
-    fn send_often(
+    fn send_often<P: Patience>(
         &self,
         alloc: Global,
         session: &mut Session,
         word: &Word,
         event: Event,
         count: u32,
+        patience: &mut P,
         answer: &mut String,
     ) -> Result<(), AllocError>
-        ensures done { IfOk result (λ _. SendsFirst (λ n. replicate n (event_of event)) count session.old session.new) }
+        ensures done { IfOk result (λ _. SendsFirst P.may_end (λ n. replicate n (event_of event)) count session.old session.new) }
         ensures told { OnOk result
-            (SendsTell word.now (λ n. replicate n (event_of event)) count
+            (SendsTell P.may_end word.now (λ n. replicate n (event_of event)) count
             session.old session.new (string_bytes answer.old) (string_bytes answer.new)) }
-        ensures failed { IfErr result (λ _. (session.new ≡ session.old) ⊎ SendsFirst (λ n. replicate n (event_of event)) count session.old session.new) }
+        ensures failed { IfErr result (λ _. (session.new ≡ session.old) ⊎ SendsFirst P.may_end (λ n. replicate n (event_of event)) count session.old session.new) }
     {
         let mut output = Output::new(alloc)?;
-        let journey = motion::send_often(session, event, count, &mut output);
+        let journey = motion::send_often(session, event, count, patience, &mut output);
         self.tell_shown(alloc, session, word, &journey, &output, answer)
     }
 
@@ -643,11 +669,11 @@ impl Debugger {
         keys: &Keys,
         answer: &mut String,
     ) -> Result<(), AllocError>
-        ensures done { IfOk result (λ _. SendsFirst (λ n. map runs.Key (take n keys.now.items)) (length keys.now.items) session.old session.new) }
+        ensures done { IfOk result (λ _. SendsFirst false (λ n. map runs.Key (take n keys.now.items)) (length keys.now.items) session.old session.new) }
         ensures told { OnOk result
-            (SendsTell word.now (λ n. map runs.Key (take n keys.now.items))
+            (SendsTell false word.now (λ n. map runs.Key (take n keys.now.items))
             (length keys.now.items) session.old session.new (string_bytes answer.old) (string_bytes answer.new)) }
-        ensures failed { IfErr result (λ _. (session.new ≡ session.old) ⊎ SendsFirst (λ n. map runs.Key (take n keys.now.items)) (length keys.now.items) session.old session.new) }
+        ensures failed { IfErr result (λ _. (session.new ≡ session.old) ⊎ SendsFirst false (λ n. map runs.Key (take n keys.now.items)) (length keys.now.items) session.old session.new) }
     {
         let mut output = Output::new(alloc)?;
         let journey = motion::type_keys(session, keys.as_slice(), &mut output);

@@ -3,8 +3,9 @@
 //! A [`Debugger`] obeys lines of words (`debug_words` reads them). What a word does to the session is `Does` of
 //! `specs/Effects.antt`: words that look leave it as it was, and the others send events up to what they wait for, or
 //! go back. They do so by the functions of `motion.rt`, each of which promises by `specs/motion` which events it sends.
-//! A debugger reads and writes nothing of the host: the lines come from its caller, and the answers go to it. What it
-//! shows comes from calls that are proved to tell what the machine holds (`debug_views`, `xv_report`).
+//! A debugger reads and writes nothing of the host: the lines come from its caller, and the answers go to it. A word that
+//! runs long asks its caller now and then whether it is to be broken off ([`Patience`]). What a debugger shows comes from
+//! calls that are proved to tell what the machine holds (`debug_views`, `xv_report`).
 #![tactic(auto)]
 
 mod callers;
@@ -17,6 +18,7 @@ mod kept;
 mod looks;
 mod motion;
 mod names;
+mod patience;
 mod pipes;
 mod processes;
 mod shown_output;
@@ -24,3 +26,4 @@ mod stops;
 mod waits;
 
 pub use debugger::{Debugger, Next};
+pub use patience::{Endless, Patience};

@@ -1,10 +1,10 @@
 //! What a word has sent, and why no more, in words.
 ghost use Rattle.std.specs.Prelude.{◌≡◌, ◌++◌, OnOk, option_map, string_bytes};
 ghost use Rattle.xv_machine.specs.Events.{outcome_of};
-ghost use Rattle.xv_debug.specs.StopText.{done_text, last_text, met_text, not_yet, refusal_text, stop_text, told_journey};
+ghost use Rattle.xv_debug.specs.StopText.{broken_text, done_text, last_text, met_text, not_yet, refusal_text, stop_text, told_journey, unknown_text};
 
 use crate::happened::Happened;
-use crate::motion::{Journey, Stop};
+use crate::motion::{Journey, Stop, Unknown};
 use debug_words::texts::Many;
 use debug_words::{EVENTS_MOST, Word};
 use std::alloc::AllocError;
@@ -46,6 +46,13 @@ fn show_done(word: &Word, answer: &mut String) -> Result<(), AllocError>
     }
 }
 
+/// Writes that a word was broken off.
+fn show_broken(answer: &mut String) -> Result<(), AllocError>
+    ensures { OnOk result (string_bytes answer.new ≡ string_bytes answer.old ++ broken_text) }
+{
+    answer.push_str("it was broken off here: what was sent stays, and back goes back\n")
+}
+
 /// Writes why a word sent no more events.
 fn show_stop(word: &Word, stop: &Stop, answer: &mut String) -> Result<(), AllocError>
     ensures { OnOk result (string_bytes answer.new ≡ string_bytes answer.old ++ stop_text word.now stop.now) }
@@ -55,6 +62,7 @@ fn show_stop(word: &Word, stop: &Stop, answer: &mut String) -> Result<(), AllocE
         Stop::Halted => answer.push_str(
             "the machine has halted: nothing runs any more, but back goes back\n",
         ),
+        Stop::Broken => show_broken(answer),
         Stop::Refused(error) => show_refusal(error, answer),
         Stop::Met => show_met(word, answer),
         Stop::Done => show_done(word, answer),
@@ -97,5 +105,15 @@ pub(crate) fn show_refusal(error: &SessionError, answer: &mut String) -> Result<
             answer.push_str("the host has too little memory for more events\n")
         }
         SessionError::Full => answer.push_str("the session keeps 2^63 events, and no more\n"),
+    }
+}
+
+/// Writes why it isn't known which place is the last.
+pub(crate) fn show_unknown(why: &Unknown, answer: &mut String) -> Result<(), AllocError>
+    ensures { OnOk result (string_bytes answer.new ≡ string_bytes answer.old ++ unknown_text why.now) }
+{
+    match why {
+        Unknown::Broken => answer.push_str("it was broken off, and nothing is changed\n"),
+        Unknown::Refused(error) => show_refusal(error, answer),
     }
 }

@@ -3,7 +3,7 @@ use crate::stopping::PROMPT;
 use program_files::{Failure, put};
 use std::alloc::{AllocError, Global};
 use std::io::{BufRead, Write};
-use xv_debug::{Debugger, Next};
+use xv_debug::{Debugger, Endless, Next};
 use xv_session::Session;
 
 /// What a person is told first.
@@ -62,6 +62,7 @@ pub(crate) struct Conversation {
 }
 
 impl Conversation {
+    ghost use Rattle.std.specs.Prelude.{false};
     ghost use Rattle.xv_debug.specs.Conversations.{Converses, MovesByWord};
 
     /// Does what a line says, and writes the answer.
@@ -71,12 +72,12 @@ impl Conversation {
         line: &str,
         output: &mut W,
     ) -> Result<Next, Failure<'static>>
-        ensures { MovesByWord self.old.session self.new.session }
+        ensures { MovesByWord false self.old.session self.new.session }
     {
         let mut text = String::new(alloc);
         let next = self
             .debugger
-            .obey(alloc, &mut self.session, line, &mut text)?;
+            .obey(alloc, &mut self.session, line, &mut Endless, &mut text)?;
         put(output, text.as_str().as_bytes())?;
         Ok(next)
     }
@@ -88,7 +89,7 @@ impl Conversation {
         input: &mut R,
         output: &mut W,
     ) -> Result<bool, Failure<'static>>
-        ensures { MovesByWord self.old.session self.new.session }
+        ensures { MovesByWord false self.old.session self.new.session }
     {
         show(self.prompt, PROMPT, output)?;
         let Some(line) = next_line(alloc, input)? else {
@@ -112,7 +113,7 @@ impl Conversation {
         input: &mut R,
         output: &mut W,
     ) -> Result<(), Failure<'static>>
-        ensures { Converses self.old.session self.new.session }
+        ensures { Converses false self.old.session self.new.session }
     {
         show(self.prompt, GREETING, output)?;
         for _ in 0..u64::MAX {

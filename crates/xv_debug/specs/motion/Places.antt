@@ -6,7 +6,7 @@ use Rattle.xv_session.specs.declared.until.Condition.TheVariants as waits_for
 use Rattle.debug_words.specs.declared.vocabulary.Mark.{Mark}
 use Rattle.debug_words.specs.declared.vocabulary.Mark.TheVariants.{At, Store}
 use Rattle.xv_debug.specs.declared.motion.aiming.Aim.{Aim}
-use Rattle.xv_debug.specs.declared.motion.aiming.Aim.TheVariants.{Anything, On, Answer, Return, Outside}
+use Rattle.xv_debug.specs.declared.motion.aiming.Aim.TheVariants.{Anything, On, Return, Outside}
 use Rattle.xv_debug.specs.declared.motion.places.Kind.{Kind}
 use Rattle.xv_debug.specs.declared.motion.places.Kind.TheVariants.{Instructions, Bytes}
 use Rattle.xv_debug.specs.declared.motion.places.Places.{Places}

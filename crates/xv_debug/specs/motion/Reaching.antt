@@ -1,5 +1,5 @@
 -- Events that are sent up to the first Run that is what is waited for.
-use Rattle.std.specs.Prelude.{◌≡◌, ◌≢◌, ◌≤◌, ◌||◌, ℕ, length, Bool, true, false, List, [], ◌∷◌, ◌++◌, Option}
+use Rattle.std.specs.Prelude.{◌≡◌, ◌≢◌, ◌≤◌, ◌<◌, ◌||◌, ℕ, length, Bool, true, false, List, [], ◌∷◌, ◌++◌, Option}
 use Rattle.kernel_spec.specs.runs.Run as runs
 use Rattle.kernel_spec.specs.runs.Run.{Event, Run, Outcome, out}
 use Rattle.kernel_spec.specs.runs.Rounds.{events}
@@ -17,7 +17,7 @@ use Rattle.xv_debug.specs.motion.Shown.{KeepsShown}
 use Rattle.xv_debug.specs.declared.motion.aiming.Aim.{Aim}
 use Rattle.xv_debug.specs.declared.motion.output.Output.{Output}
 use Rattle.xv_debug.specs.declared.motion.journey.Stop.{Stop}
-use Rattle.xv_debug.specs.declared.motion.journey.Stop.TheVariants.{Done, Met, Asleep, Halted, Refused}
+use Rattle.xv_debug.specs.declared.motion.journey.Stop.TheVariants.{Done, Met, Broken, Refused}
 
 -- whether an event of which this came, and which led from the one to the other, is what is waited for
 abbrev pub Test : Type 0
@@ -70,9 +70,10 @@ abbrev pub is_met : Stop → Bool
 is_met Met = true
 is_met _ = false
 
--- It stopped at its end, or since the session keeps no more events
+-- It stopped at its end, since it was broken off, or since the session keeps no more events
 abbrev pub IsRefusal : Stop → Type 0
 IsRefusal Done = Unit {0}
+IsRefusal Broken = Unit {0}
 IsRefusal (Refused error) = Unit {0}
 IsRefusal _ = ⊥
 
@@ -81,10 +82,12 @@ abbrev pub IsRefusedBy : Stop → Recorded → Type 0
 IsRefusedBy (Refused error) s = IsReason error (length s.events)
 IsRefusedBy _ s = Unit {0}
 
--- Events were sent up to the first Run that is what is waited for; or fewer than that, where nobody may run, the session keeps no more events, or `most` were sent
-pub record Reaches (test : Test) (most : ℕ) (stop : Stop) (sent : ℕ) (last : Option Outcome) (old new : Recorded) (had has : Output) : Type 0 where
+-- Events were sent up to the first Run that is what is waited for; or fewer than that, where nobody may run, it was broken off, which may happen, the session keeps no more events, or `most` were sent
+pub record Reaches (may_end : Bool) (test : Test) (most : ℕ) (stop : Stop) (sent : ℕ) (last : Option Outcome) (old new : Recorded) (had has : Output) : Type 0 where
   pub goes : Goes test (is_met stop) sent last old new had has
   pub within : sent ≤ most
   pub all : stop ≡ Done → sent ≡ most
+  pub broken : stop ≡ Broken → may_end ≡ true
+  pub fewer : stop ≡ Broken → sent < most
   pub rests : RestsQuietIf stop new.machine.world
   pub reason : IsRefusedBy stop new

@@ -1,9 +1,11 @@
 //! Going back to the last Run that was what is waited for.
 ghost use Rattle.std.specs.Prelude.{◌≡◌, ◌+◌, ◌-◌, ◌^◌, ◌≤◌, ◌<◌, IfOk, IfErr, drop, length, replicate, take};
 ghost use Rattle.xv_machine.specs.Events.{event_of};
-ghost use Rattle.xv_debug.specs.motion.Backwards.{GoesBackUntil, IsLast, Looked, LookedAt, LooksFrom, is_run, later};
+ghost use Rattle.xv_debug.specs.motion.Backwards.{GoesBackUntil, IsLast, IsUnknownBy, Looked, LookedAt, LooksFrom, is_run, later};
 
 use crate::motion::aiming::{Aim, is_due, is_met};
+use crate::motion::pace::{Pace, STRETCH};
+use crate::patience::Patience;
 use std::alloc::Global;
 use xv_machine::{Event, Machine};
 use xv_session::{Session, SessionError};
@@ -16,6 +18,25 @@ const WINDOW_GROWTH: u64 = 16;
 
 /// How often, before all events are looked at.
 const WINDOWS: u32 = 8;
+
+/// Why it isn't known which place is the last.
+#[derive(Clone, Copy)]
+pub enum Unknown {
+    /// It was broken off.
+    Broken,
+    /// The host has too little memory for a second machine.
+    Refused(SessionError),
+}
+
+impl From<SessionError> for Unknown {
+    ghost use Rattle.xv_debug.specs.declared.motion.backwards.Unknown.{Unknown};
+
+    ghost from_gives = { λ error unknown. unknown ≡ Unknown.Refused error };
+
+    fn from(error: SessionError) -> Unknown {
+        Unknown::Refused(error)
+    }
+}
 
 /// Whether an event is a Run.
 fn is_run(event: Event) -> bool
@@ -70,7 +91,7 @@ struct Equal {
     count: u64,
 }
 
-/// Equal events from a place on, before another one.
+/// Equal events from a place on, before another one, and not more than in a stretch.
 fn equal_from(session: &Session, place: u64, end: u64) -> Equal
     requires before { place < end }
     requires there { end ≤ length session.now.events }
@@ -83,27 +104,32 @@ fn equal_from(session: &Session, place: u64, end: u64) -> Equal
     };
     Equal {
         event,
-        count: equal.min(end - place),
+        count: equal.min(end - place).min(u64::from(STRETCH)),
     }
 }
 
 /// The last place before `end` to which a Run led that is the aim, from a place on.
-fn last_from(
+fn last_from<P: Patience>(
     alloc: Global,
     session: &Session,
     aim: &Aim,
     begin: u64,
     end: u64,
-) -> Result<Option<u64>, SessionError>
+    patience: &mut P,
+) -> Result<Option<u64>, Unknown>
     requires begins { begin ≤ end }
     requires ends { end ≡ length session.now.events - 1 }
     ensures looks { IfOk result (LooksFrom aim.now begin session.now) }
-    ensures memory { IfErr result (λ e. e ≡ SessionError.Memory) }
+    ensures unknown { IfErr result (IsUnknownBy P.may_end) }
 {
     let mut machine = session.machine_at(alloc, begin)?;
+    let mut pace = Pace::new(u64::from(STRETCH));
     let mut place = begin;
     let mut found = None;
     'spans: while place < end {
+        if pace.is_over(place - begin, patience) {
+            return Err(Unknown::Broken);
+        }
         let next = equal_from(session, place, end);
         found = look_often(&mut machine, next.event, next.count, place, aim, found);
         place += next.count;
@@ -112,21 +138,29 @@ fn last_from(
 }
 
 /// The last place before here to which a Run led that is the aim. It is looked for from ever further back on.
-fn last_place(alloc: Global, session: &Session, aim: &Aim) -> Result<Option<u64>, SessionError>
+fn last_place<P: Patience>(
+    alloc: Global,
+    session: &Session,
+    aim: &Aim,
+    patience: &mut P,
+) -> Result<Option<u64>, Unknown>
     ensures last { IfOk result (IsLast aim.now session.now) }
-    ensures memory { IfErr result (λ e. e ≡ SessionError.Memory) }
+    ensures unknown { IfErr result (IsUnknownBy P.may_end) }
 {
     let end = session.at().saturating_sub(1);
     let mut window = FIRST_WINDOW;
     for _ in 0..WINDOWS {
         let begin = end.saturating_sub(window);
-        let found = last_from(alloc, session, aim, begin, end)?;
+        let found = last_from(alloc, session, aim, begin, end, patience)?;
         if found.is_some() || begin == 0 {
             return Ok(found);
         }
+        if patience.is_over() {
+            return Err(Unknown::Broken);
+        }
         window = window.saturating_mul(WINDOW_GROWTH);
     }
-    last_from(alloc, session, aim, 0, end)
+    last_from(alloc, session, aim, 0, end, patience)
 }
 
 /// Goes back to the last place before here to which a Run led that is the aim. The answer is how many events that took
@@ -134,17 +168,18 @@ fn last_place(alloc: Global, session: &Session, aim: &Aim) -> Result<Option<u64>
 ///
 /// # Errors
 ///
-/// [`SessionError::Memory`] if the host has too little memory for a second machine: nothing is changed.
-pub(crate) fn back_until(
+/// It was broken off, or the host has too little memory for a second machine: nothing is changed.
+pub(crate) fn back_until<P: Patience>(
     alloc: Global,
     session: &mut Session,
     aim: &Aim,
-) -> Result<Option<u64>, SessionError>
+    patience: &mut P,
+) -> Result<Option<u64>, Unknown>
     ensures back { IfOk result (λ taken. GoesBackUntil aim.now taken session.old session.new) }
     ensures refused { IfErr result (λ _. session.new ≡ session.old) }
-    ensures memory { IfErr result (λ e. e ≡ SessionError.Memory) }
+    ensures unknown { IfErr result (IsUnknownBy P.may_end) }
 {
-    let Some(place) = last_place(alloc, session, aim)? else {
+    let Some(place) = last_place(alloc, session, aim, patience)? else {
         return Ok(None);
     };
     let taken = session.at().saturating_sub(place);

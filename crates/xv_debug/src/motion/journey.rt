@@ -15,6 +15,8 @@ pub enum Stop {
     Asleep,
     /// The machine has halted.
     Halted,
+    /// It was broken off.
+    Broken,
     /// The session keeps no more events.
     Refused(SessionError),
 }

@@ -8,8 +8,13 @@ ghost use Rattle.xv_debug.specs.motion.Rounds.{PlaysPart, PlaysTelling, RoundsLe
 
 use crate::motion::journey::{Journey, Stop};
 use crate::motion::output::Output;
+use crate::motion::pace::Pace;
+use crate::patience::Patience;
 use xv_machine::{Event, Outcome, RoundPart, round_parts};
 use xv_session::{Session, SessionError};
+
+/// The rounds that are played before the patience is asked: about as many events as in a stretch of other words.
+const ROUNDS_AT_ONCE: u64 = 100;
 
 /// Whether an outcome is a fault.
 fn is_fault(outcome: &Outcome) -> bool
@@ -77,21 +82,26 @@ fn play_round(
     play_parts(session, &parts, output)
 }
 
-/// Plays so many rounds, and none more after a round in which a process faulted, or where the machine has halted.
-pub(crate) fn play_rounds(
+/// Plays so many rounds, and none more after a round in which a process faulted, if the machine has halted, or if it is
+/// broken off.
+pub(crate) fn play_rounds<P: Patience>(
     session: &mut Session,
     quantum: u32,
     most: u32,
+    patience: &mut P,
     output: &mut Output,
 ) -> Journey
-    ensures played { RoundsLeave quantum most result.stop session.old session.new output.old output.new }
+    ensures played { RoundsLeave P.may_end quantum most result.stop session.old session.new output.old output.new }
     ensures sent { result.sent ≡ length session.new.events - length session.old.events }
 {
     let begin = session.at();
+    let mut pace = Pace::new(ROUNDS_AT_ONCE);
     for count in 0..most {
-        let _ = count;
         if session.machine().halted().is_some() {
             return arrived(session, begin, Stop::Halted);
+        }
+        if pace.is_over(u64::from(count), patience) {
+            return arrived(session, begin, Stop::Broken);
         }
         match play_round(session, quantum, output) {
             Ok(false) => {}

@@ -15,8 +15,10 @@ use crate::motion::aiming::{Aim, is_due, is_met};
 use crate::motion::journey::{Journey, Stop};
 use crate::motion::marks::{is_any_due, meets_marks};
 use crate::motion::output::Output;
+use crate::motion::pace::{Pace, STRETCH, at_once};
 use crate::motion::places::{Places, places_of};
 use crate::motion::resting::rest_of;
+use crate::patience::Patience;
 use debug_words::Mark;
 use xv_machine::{ConsoleList, Event, Machine, Outcome};
 use xv_session::{Session, SessionError};
@@ -233,25 +235,32 @@ fn send_some(
     run_some(session, most, aim, marks, places, output)
 }
 
-/// Sends events, so many at most, up to the first Run that is the aim or meets a mark, and none if nobody may run. A byte
-/// that waits in the console is taken before the next Run.
-pub(crate) fn search(
+/// Sends events, so many at most, up to the first Run that is the aim or meets a mark, and none more if nobody may run, or
+/// if it is broken off. A byte that waits in the console is taken before the next Run.
+pub(crate) fn search<P: Patience>(
     session: &mut Session,
     most: u32,
     aim: &Aim,
     marks: &[Mark],
+    patience: &mut P,
     output: &mut Output,
 ) -> Journey
-    ensures { Reaches (meets_one aim.now marks.now) most result.stop result.sent (option_map outcome_of result.last) session.old session.new output.old output.new }
+    ensures { Reaches P.may_end (meets_one aim.now marks.now) most result.stop result.sent (option_map outcome_of result.last) session.old session.new output.old output.new }
 {
     let places = places_of(aim, marks);
+    let mut pace = Pace::new(u64::from(STRETCH));
     let mut sent: u32 = 0;
     let mut last = None;
     'events: while sent < most {
         if let Some(stop) = rest_without_bytes(session.machine()) {
             return Journey::new(u64::from(sent), stop, last);
         }
-        match send_some(session, most - sent, aim, marks, &places, output) {
+        let far = u64::from(sent);
+        if pace.is_over(far, patience) {
+            return Journey::new(far, Stop::Broken, last);
+        }
+        let part = at_once(most - sent);
+        match send_some(session, part, aim, marks, &places, output) {
             Ok(went) => {
                 sent += went.sent;
                 last = went.last;

@@ -1,5 +1,5 @@
 //! Words that send Ticks, Sends or keys, and the word that goes back.
-ghost use Rattle.std.specs.Prelude.{◌≡◌, ◌≤◌, ◌-◌, IfOk, IfErr, length, map, min, option_map, replicate, take};
+ghost use Rattle.std.specs.Prelude.{◌≡◌, ◌≢◌, ◌≤◌, ◌<◌, ◌-◌, IfOk, IfErr, length, map, min, option_map, replicate, take, true};
 ghost use Rattle.kernel_spec.specs.runs.Run as runs;
 ghost use Rattle.xv_machine.specs.Events.{event_of, outcome_of};
 ghost use Rattle.xv_session.specs.Answers.{WentBack};
@@ -8,25 +8,35 @@ ghost use Rattle.xv_debug.specs.motion.Reaching.{IsRefusal, IsRefusedBy};
 
 use crate::motion::journey::{Journey, Stop};
 use crate::motion::output::Output;
+use crate::motion::pace::{Pace, STRETCH};
+use crate::patience::Patience;
 use std::alloc::Global;
 use xv_machine::Event;
 use xv_session::{Session, SessionError};
 
-/// Sends an event so many times, and keeps what the console shows of it.
-pub(crate) fn send_often(
+/// Sends an event so many times, or fewer if it is broken off, and keeps what the console shows of it.
+pub(crate) fn send_often<P: Patience>(
     session: &mut Session,
     event: Event,
     count: u32,
+    patience: &mut P,
     output: &mut Output,
 ) -> Journey
     ensures sent { Sends (replicate result.sent (event_of event)) (option_map outcome_of result.last) session.old session.new output.old output.new }
     ensures within { result.sent ≤ count }
     ensures all { result.stop ≡ Stop.Done → result.sent ≡ count }
+    ensures broken { result.stop ≡ Stop.Broken → P.may_end ≡ true }
+    ensures fewer { result.stop ≡ Stop.Broken → result.sent < count }
     ensures refused { IsRefusal result.stop }
     ensures reason { IsRefusedBy result.stop session.new }
 {
+    let mut pace = Pace::new(u64::from(STRETCH));
     let mut last = None;
     for sent in 0..count {
+        let far = u64::from(sent);
+        if pace.is_over(far, patience) {
+            return Journey::new(far, Stop::Broken, last);
+        }
         match session.send(event) {
             Ok(outcome) => {
                 output.add(outcome.shown());
@@ -40,11 +50,12 @@ pub(crate) fn send_often(
     Journey::new(u64::from(count), Stop::Done, last)
 }
 
-/// Types these keys, and keeps what the console shows of them.
+/// Types these keys, and keeps what the console shows of them. They are too few to be broken off.
 pub(crate) fn type_keys(session: &mut Session, keys: &[u8], output: &mut Output) -> Journey
     ensures sent { Sends (map runs.Key (take result.sent keys.now)) (option_map outcome_of result.last) session.old session.new output.old output.new }
     ensures within { result.sent ≤ length keys.now }
     ensures all { result.stop ≡ Stop.Done → result.sent ≡ length keys.now }
+    ensures unbroken { result.stop ≢ Stop.Broken }
     ensures refused { IsRefusal result.stop }
     ensures reason { IsRefusedBy result.stop session.new }
 {

@@ -2,4 +2,4 @@ use Rattle.terminal_session.specs.Stretches.{Lives}
 use Rattle.terminal_session.proofs.conversing.converse.Given as goal
 
 abbrev pub invariant-turns : goal.invariant-turns
-invariant-turns g l = Lives l.fn.session l.session (g.W.ByteSink.sink l.fn.screen.sink).held (g.W.ByteSink.sink l.screen.sink).held
+invariant-turns g l = Lives g.H.Patience.may_end l.fn.session l.session (g.W.ByteSink.sink l.fn.screen.sink).held (g.W.ByteSink.sink l.screen.sink).held

@@ -3,4 +3,4 @@ use Rattle.debug_words.specs.declared.vocabulary.Word.TheVariants.{Nothing}
 use Rattle.xv_debug.proofs.debugger.Debugger.obey.Goals as goal
 
 pub returns-in_ok-show_nameless-in-Err-clause-done : goal.returns-in_ok-show_nameless-in-Err-clause-done
-returns-in_ok-show_nameless-in-Err-clause-done c = record { word = Nothing; in_range = tt; does = refl; behind = refl }
+returns-in_ok-show_nameless-in-Err-clause-done g c = record { word = Nothing; in_range = tt; does = refl; behind = refl }

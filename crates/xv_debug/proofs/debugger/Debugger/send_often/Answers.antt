@@ -6,9 +6,9 @@ use Rattle.std.proofs.lemmas.Result.{on_ok_weaker}
 use Rattle.xv_debug.proofs.debugger.Debugger.send_often.Goals as goal
 
 pub returns-clause-done : goal.returns-clause-done
-returns-clause-done c =
+returns-clause-done g c =
     let j = c.send_often-journey in
-    let p : SendsFirst (λ n. replicate n (event_of c.args.event)) c.args.count c.args.session.now j.new.session =
+    let p : SendsFirst g.P.Patience.may_end (λ n. replicate n (event_of c.args.event)) c.args.count c.args.session.now j.new.session =
     record {
       sent = j.result.sent;
       stop = j.result.stop;
@@ -18,15 +18,17 @@ returns-clause-done c =
       sends = j.ensures.sent;
       within = j.ensures.within;
       whole = j.ensures.all;
+      broken = j.ensures.broken;
+      fewer = j.ensures.fewer;
       refused = j.ensures.refused;
       reason = j.ensures.reason;
     } in
     if-ok c.tell_shown.result p
 
 pub returns-clause-failed : goal.returns-clause-failed
-returns-clause-failed c =
+returns-clause-failed g c =
     let j = c.send_often-journey in
-    let p : SendsFirst (λ n. replicate n (event_of c.args.event)) c.args.count c.args.session.now j.new.session =
+    let p : SendsFirst g.P.Patience.may_end (λ n. replicate n (event_of c.args.event)) c.args.count c.args.session.now j.new.session =
     record {
       sent = j.result.sent;
       stop = j.result.stop;
@@ -36,15 +38,17 @@ returns-clause-failed c =
       sends = j.ensures.sent;
       within = j.ensures.within;
       whole = j.ensures.all;
+      broken = j.ensures.broken;
+      fewer = j.ensures.fewer;
       refused = j.ensures.refused;
       reason = j.ensures.reason;
     } in
     if-err c.tell_shown.result (inr p)
 
 pub returns-clause-told : goal.returns-clause-told
-returns-clause-told c =
+returns-clause-told g c =
     let j = c.send_often-journey in
-    let p : SendsFirst (λ n. replicate n (event_of c.args.event)) c.args.count c.args.session.now j.new.session =
+    let p : SendsFirst g.P.Patience.may_end (λ n. replicate n (event_of c.args.event)) c.args.count c.args.session.now j.new.session =
     record {
       sent = j.result.sent;
       stop = j.result.stop;
@@ -54,6 +58,8 @@ returns-clause-told c =
       sends = j.ensures.sent;
       within = j.ensures.within;
       whole = j.ensures.all;
+      broken = j.ensures.broken;
+      fewer = j.ensures.fewer;
       refused = j.ensures.refused;
       reason = j.ensures.reason;
     } in

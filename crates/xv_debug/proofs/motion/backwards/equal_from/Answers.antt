@@ -5,4 +5,4 @@ use Rattle.xv_debug.proofs.motion.backwards.equal_from.Goals as goal
 
 pub returns-clause-those : goal.returns-clause-those
 returns-clause-those c =
-    fewer-equal c.min.result c.in-Some.equal c.args.place (event_of c.in-Some.event) c.args.session.now.events (omega (arith, c.min.ensures)) c.in-Some.ensures.equal.1
+    fewer-equal c.min-2.result c.in-Some.equal c.args.place (event_of c.in-Some.event) c.args.session.now.events (omega (arith, c.min.ensures, c.min-2.ensures)) c.in-Some.ensures.equal.1

@@ -6,7 +6,7 @@ use Rattle.xv_debug.proofs.Played.{plays-those, plays-join, telling-those, telli
 use Rattle.xv_debug.proofs.motion.rounds.play_rounds.Goals as goal
 
 pub returns-in-Ok-true-clause-played : goal.returns-in-Ok-true-clause-played
-returns-in-Ok-true-clause-played c =
+returns-in-Ok-true-clause-played g c =
     let q = c.args.quantum in
     let n = c.loop-count.count in
     let f = c.in-Ok-true.field-0 in
@@ -21,10 +21,10 @@ returns-in-Ok-true-clause-played c =
           (telling-join (rounds_of q n) (round q []) false f old c.loop-count.session new had c.loop-count.output has
           (telling-nothing (rounds_of q n) old c.loop-count.session had c.loop-count.output c.loop-count.invariant) c.in-Ok-true.ensures.played);
     } in
-    subst (λ (s : Stop). RoundsLeave q c.args.most s old new had has) (sym c.arrived-in-Ok-true.ensures.stop) leaves
+    subst (λ (s : Stop). RoundsLeave g.P.Patience.may_end q c.args.most s old new had has) (sym c.arrived-in-Ok-true.ensures.stop) leaves
 
 pub returns-in-Err-clause-played : goal.returns-in-Err-clause-played
-returns-in-Err-clause-played c =
+returns-in-Err-clause-played g c =
     let q = c.args.quantum in
     let n = c.loop-count.count in
     let old = c.args.session.now in
@@ -36,10 +36,10 @@ returns-in-Err-clause-played c =
     rounds-part q (n + 1) c.args.most old new had has within
     (part-those (rounds_of q n ++ round q []) (rounds_of q (n + 1)) old new had has (rounds-more q n)
     (part-of-all (rounds_of q n) (round q []) old c.loop-count.session new had c.loop-count.output has c.loop-count.invariant c.in-Err.ensures.part)) in
-    subst (λ (s : Stop). RoundsLeave q c.args.most s old new had has) (sym c.arrived-in-Err.ensures.stop) leaves
+    subst (λ (s : Stop). RoundsLeave g.P.Patience.may_end q c.args.most s old new had has) (sym c.arrived-in-Err.ensures.stop) leaves
 
 pub loop-count-preserved : goal.loop-count-preserved
-loop-count-preserved c =
+loop-count-preserved g c =
     let q = c.args.quantum in
     let n = c.loop-count.count in
     plays-those (rounds_of q n ++ round q []) (rounds_of q (n + 1)) c.args.session.now c.play_round.new.session c.args.output.now c.play_round.new.output (rounds-more q n)
