@@ -235,6 +235,7 @@ ended 4
 mkdir -p "$screens/endless"
 printf '_start:\n  addi t0, t0, 1\n  j _start\n' >"$screens/endless/init.s"
 start "$screens/endless/init.s" none
+wait_for 100 '^Ctrl-C stops the machine'
 keys C-c
 wait_for 50 '^(xv) *$'
 for word in 'until call exit' 'run 90000' 'back until call exit'; do
