@@ -117,6 +117,7 @@ class Room:
 
 def write_if_changed(path, text):
     """Writes a file, unless it has this text already: so a build of it isn't made anew."""
+    path.parent.mkdir(parents=True, exist_ok=True)
     if not path.exists() or path.read_text(encoding="utf-8") != text:
         path.unlink(missing_ok=True)
         path.write_text(text, encoding="utf-8")
@@ -126,7 +127,6 @@ def whole_room(lab):
     """A copy of all crates and of what builds them, for a kernel with another body; its builds stay there."""
     home = WORK / f"{lab.name}-run"
     for name in ("HANDLES", "crates.txt", "VERSION"):
-        home.mkdir(parents=True, exist_ok=True)
         write_if_changed(home / name, (TOP / name).read_text(encoding="utf-8"))
     shutil.copytree(TOP / "programs" / "host", home / "programs" / "host", dirs_exist_ok=True)
     for crate in sorted((TOP / "crates").iterdir()):
@@ -136,6 +136,5 @@ def whole_room(lab):
             for file in (crate / part).rglob("*"):
                 if file.is_file() and not (crate.name == lab.crate and file.relative_to(crate).as_posix() == lab.file):
                     new = home / "crates" / crate.name / file.relative_to(crate)
-                    new.parent.mkdir(parents=True, exist_ok=True)
                     write_if_changed(new, file.read_text(encoding="utf-8"))
     return home
