@@ -215,7 +215,15 @@ one_forth (Err e) one = tt
 
 pub reaches_met : (may_end : Bool) (test : Test) (most n : ℕ) (last : Option Outcome) (old new : Recorded) (had has : Output) → n ≤ most
     → Goes test true n last old new had has → Reaches may_end test most Met n last old new had has
-reaches_met may_end test most n last old new had has within goes = record { goes = goes; within = within; all = λ is. let bad : ⊥ = cc in absurd bad; broken = λ is. let bad : ⊥ = cc in absurd bad; fewer = λ is. let bad : ⊥ = cc in absurd bad; rests = tt; reason = tt }
+reaches_met may_end test most n last old new had has within goes = record {
+  goes = goes;
+  within = within;
+  all = λ is. let bad : ⊥ = cc in absurd bad;
+  broken = λ is. let bad : ⊥ = cc in absurd bad;
+  fewer = λ is. let bad : ⊥ = cc in absurd bad;
+  rests = tt;
+  reason = tt;
+}
 
 -- as a word's journey tells it
 pub reaches_told : (may_end : Bool) (test : Test) (most : ℕ) (j : Journey) (n m : ℕ) (stop : Stop) (last : Option declared.Outcome) (old new : Recorded) (had has : Output)

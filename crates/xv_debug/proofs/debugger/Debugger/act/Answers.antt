@@ -60,7 +60,8 @@ returns-in-Send-clause-told g c =
     let before = string_bytes c.args.answer.now in
     let after = string_bytes c.send_often-in-Send.new.answer in
     subst (λ (w : Word). OnOk c.send_often-in-Send.result (Answers g.P.Patience.may_end c.args.self.now.shown w old new before after)) (sym c.in-Send.is)
-    (subst (λ (w : Word). OnOk c.send_often-in-Send.result (SendsTell g.P.Patience.may_end w (λ n. replicate n runs.Send) c.in-Send.count old new before after)) c.in-Send.is c.send_often-in-Send.ensures.told)
+    (subst (λ (w : Word). OnOk c.send_often-in-Send.result (SendsTell g.P.Patience.may_end w (λ n. replicate n runs.Send) c.in-Send.count old new before after)) c.in-Send.is
+    c.send_often-in-Send.ensures.told)
 
 pub returns-in-Key-clause-told : goal.returns-in-Key-clause-told
 returns-in-Key-clause-told g c =
@@ -69,7 +70,8 @@ returns-in-Key-clause-told g c =
     let before = string_bytes c.args.answer.now in
     let after = string_bytes c.type_in.new.answer in
     subst (λ (w : Word). OnOk c.type_in.result (Answers g.P.Patience.may_end c.args.self.now.shown w old new before after)) (sym c.in-Key.is)
-    (subst (λ (w : Word). OnOk c.type_in.result (SendsTell false w (λ n. map runs.Key (take n c.in-Key.keys.items)) (length c.in-Key.keys.items) old new before after)) c.in-Key.is c.type_in.ensures.told)
+    (subst (λ (w : Word). OnOk c.type_in.result (SendsTell false w (λ n. map runs.Key (take n c.in-Key.keys.items)) (length c.in-Key.keys.items) old new before after)) c.in-Key.is
+    c.type_in.ensures.told)
 
 pub returns-in-ToMark-clause-told : goal.returns-in-ToMark-clause-told
 returns-in-ToMark-clause-told g c =

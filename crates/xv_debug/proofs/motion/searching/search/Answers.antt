@@ -30,4 +30,5 @@ returns-then-went g c =
     c.in-Ok.ensures.forth c.events.invariant.1 (subst (λ (met : Bool). Goes test met went.sent last c.events.session new c.events.output has) c.if-went.true c.in-Ok.ensures.goes) in
     reaches_told g.P.Patience.may_end test c.args.most c.new-then-went.result (c.events.sent + went.sent) c.from-then-went.result Met went.last
     c.args.session.now new c.args.output.now has c.new-then-went.ensures c.from-then-went.ensures
-    (reaches_met g.P.Patience.may_end test c.args.most (c.events.sent + went.sent) last c.args.session.now new c.args.output.now has (omega (arith, c.events-test.true, c.at_once-part.ensures.within, c.in-Ok.ensures.within)) goes)
+    (reaches_met g.P.Patience.may_end test c.args.most (c.events.sent + went.sent) last c.args.session.now new c.args.output.now has
+    (omega (arith, c.events-test.true, c.at_once-part.ensures.within, c.in-Ok.ensures.within)) goes)
