@@ -19,7 +19,7 @@ const TAKERS = {
   "--pid": CALLS, "--call": CALLS, "--failed": CALLS, "--count": CALLS, "--explain": ["--why"],
   "--tick": SESSION, "--record": SESSION, "--replay": SESSION,
   "--most": GDB, "--keys": GDB, "--type": GDB, "--file": GDB, "--commands": GDB,
-  "--notes": ALL, "--lines": ALL, "--apart": ALL, "--terminal": ALL, "--prompt": ALL,
+  "--notes": ALL, "--lines": ALL, "--apart": ALL, "--terminal": ALL, "--woken": ALL, "--prompt": ALL,
 };
 
 const MEANINGS = {

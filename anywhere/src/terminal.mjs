@@ -128,7 +128,7 @@ export function at_terminal(words) {
   if (!isatty(0)) return run(module, NAME, [...apart, ...words]);
   if (!may_record(words)) throw new Error("nothing is done: --record takes another path");
   const { option, files } = lines_of(words);
-  return attend(module, ["--terminal", ...option, ...apart, ...words], files);
+  return attend(module, ["--terminal", "--woken", ...option, ...apart, ...words], files);
 }
 
 /**

@@ -79,7 +79,14 @@ fn attend_to<W: ByteSink, E: Write>(
         screen.teller.write_note(FirstScreen { programs });
     }
     let tick = Duration::from_millis(u64::from(settings.tick));
-    let mut desk = Desk::new(rt.alloc(), rt.stdin(), rt, settings.terminal, tick);
+    let mut desk = Desk::new(
+        rt.alloc(),
+        rt.stdin(),
+        rt,
+        settings.terminal,
+        settings.woken,
+        tick,
+    );
     live(session, &mut desk, debugger, screen)
 }
 

@@ -65,6 +65,10 @@ const COMMAND_LINE: CommandLine = CommandLine {
             help: "Standard input answers at once: no byte is not its end",
         },
         CommandWord::Flag {
+            name: "woken",
+            help: "A key that comes there ends a rest at once",
+        },
+        CommandWord::Flag {
             name: "apart",
             help: "Standard error is not the terminal",
         },
@@ -94,6 +98,7 @@ pub fn settings<R: Env + AllocGlobal>(rt: &R) -> Result<Settings, WordsError>
         replay: given.text("replay")?,
         lines: given.text("lines")?,
         terminal: given.flag("terminal"),
+        woken: given.flag("woken"),
         apart: given.flag("apart"),
         files,
     })

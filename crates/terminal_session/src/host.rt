@@ -12,8 +12,11 @@ use std::time::{Clock, Duration};
 use xv_debug::Patience;
 use xv_live::{Host, Key, Look};
 
-/// The longest rest, in milliseconds: a key that is typed meanwhile is seen after it.
+/// The longest rest, in milliseconds, if a key that is typed meanwhile is only seen after it.
 const REST_MILLIS: u64 = 10;
+
+/// The same, if a key ends a rest.
+const WOKEN_REST_MILLIS: u64 = 1_000;
 
 /// The most bytes that are looked at when a word of the debugger asks whether it is to be broken off.
 const LOOKS_AT_ONCE: usize = 4_096;
@@ -27,16 +30,31 @@ pub struct Desk<R, C> {
     clock: C,
     /// Whether the keyboard is a terminal that answers at once: then no byte isn't the end.
     terminal: bool,
+    /// The longest rest.
+    rest: Duration,
     /// The time of a tick.
     tick: Duration,
     /// When the next tick is due.
     next: Duration,
 }
 
+// The longest rest of a host of which a key ends a rest, or doesn't.
+fn longest_rest(woken: bool) -> Duration {
+    Duration::from_millis(if woken { WOKEN_REST_MILLIS } else { REST_MILLIS })
+}
+
 impl<R: Read, C: Clock> Desk<R, C> {
     /// A desk with a keyboard and a clock. If the keyboard is a terminal, its reads answer at once, and no byte isn't
-    /// the end. The first tick is due at once, unless the clock is begun anew.
-    pub fn new(alloc: Global, keyboard: R, clock: C, terminal: bool, tick: Duration) -> Self
+    /// the end. If the host says that a key ends a rest, rests are long. The first tick is due at once, unless the clock is
+    /// begun anew.
+    pub fn new(
+        alloc: Global,
+        keyboard: R,
+        clock: C,
+        terminal: bool,
+        woken: bool,
+        tick: Duration,
+    ) -> Self
         ensures keyboard { result.keyboard ≡ keyboard }
         ensures ahead { result.ahead.items ≡ [] }
         ensures clock { result.clock ≡ clock }
@@ -48,6 +66,7 @@ impl<R: Read, C: Clock> Desk<R, C> {
             ahead: VecDeque::new(alloc),
             clock,
             terminal,
+            rest: longest_rest(woken),
             tick,
             next: Duration::ZERO,
         }
@@ -129,12 +148,12 @@ impl<R: Read, C: Clock> Host for Desk<R, C> {
     fn rest(&mut self) -> Result<(), Failure<'static>> {
         let now = self.now()?;
         let left = self.next.checked_sub(now).unwrap_or(Duration::ZERO);
-        thread::sleep(&self.clock, left.min(Duration::from_millis(REST_MILLIS)));
+        thread::sleep(&self.clock, left.min(self.rest));
         Ok(())
     }
 
     fn doze(&mut self) {
-        thread::sleep(&self.clock, Duration::from_millis(REST_MILLIS));
+        thread::sleep(&self.clock, self.rest);
     }
 
     fn restart(&mut self) -> Result<(), Failure<'static>> {

@@ -17,6 +17,8 @@ pub struct Settings {
     pub lines: Option<String>,
     /// Whether standard input is a terminal whose reads answer at once.
     pub terminal: bool,
+    /// Whether a key that comes at the terminal ends a rest of the host.
+    pub woken: bool,
     /// Whether standard error isn't the terminal.
     pub apart: bool,
     /// The path of each FILE, in the order of the words: at least one.

@@ -48,7 +48,7 @@ pub trait Host {
     fn rest(&mut self) -> Result<(), Failure<'static>>
         ensures { coming self.new ≡ coming self.old };
 
-    /// Waits for a hundredth of a second, while the machine is stopped.
+    /// Waits for a moment, while the machine is stopped: a second at most.
     fn doze(&mut self)
         ensures { coming self.new ≡ coming self.old };
 
