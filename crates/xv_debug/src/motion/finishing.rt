@@ -26,23 +26,28 @@ fn is_inside(source: &ProgramSource<'_>, pc: u64, address: u64) -> bool {
     }
 }
 
-/// The address that the last frame tells, or else the one in ra.
+/// Whether a function returns to the address in ra: that lies in another function, or nothing of this one is done yet. Else
+/// an earlier call may have left it.
+fn is_return(source: &ProgramSource<'_>, pc: u64, address: u64) -> bool {
+    function_start(source, pc) == Some(pc) || !is_inside(source, pc, address)
+}
+
+/// The address that the last frame tells, if there is one.
 fn by_frame(callers: &Callers) -> Option<u64>
     ensures { IsReturnTold callers.now result }
 {
     match callers.frames.get(0) {
         Some(address) => Some(*address),
-        None => callers.ra,
+        None => None,
     }
 }
 
-/// Where the function returns to in which a process is: the address in ra, if that lies in another function, or else
-/// the one of its frame.
+/// Where the function returns to in which a process is: the address in ra, or else the one of its frame.
 fn return_address(source: &ProgramSource<'_>, pc: u64, callers: &Callers) -> Option<u64>
     ensures { IsReturnTold callers.now result }
 {
     match callers.ra {
-        Some(address) if !is_inside(source, pc, address) => Some(address),
+        Some(address) if is_return(source, pc, address) => Some(address),
         _ => by_frame(callers),
     }
 }
