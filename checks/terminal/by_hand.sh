@@ -2,8 +2,9 @@
 # Sessions at a real terminal, driven by tmux: checks/terminal/by_hand.sh [FOLDER]. It types what a student would type,
 # waits for what must come, and leaves the screens as texts in the folder (without one, in a new one). It needs tmux
 # (Debian: apt-get install tmux) and the built program (XV_TERMINAL, as in programs/host/terminal.sh). PATIENCE=3 waits three
-# times as long, for a slow build. START='node xv.mjs' starts the machine by that in place of programs/host/terminal.sh. The status is 0 if all came, and the terminal was restored, and no process and no file
-# was left behind, after each of the ends.
+# times as long, for a slow build. START='node xv.mjs' starts the machine by that in place of programs/host/terminal.sh.
+# SCREEN='-x 132 -y 43' takes a window of another size than 80 by 24. The status is 0 if all came, and the terminal was
+# restored, and no process and no file was left behind, after each of the ends.
 set -u
 here=$(cd "$(dirname "$0")" && pwd) || exit 2
 top=$(cd "$here/../.." && pwd) || exit 2
@@ -23,7 +24,8 @@ mux() {
 # their own.
 room=$(mktemp -d) || exit 2
 open_window() {
-    mux -f /dev/null new-session -d -s window -x 80 -y 24 "cd '$top' && exec env TMPDIR='$room' PS1='host> ' PS2= ENV= sh" || exit 2
+    # shellcheck disable=SC2086
+    mux -f /dev/null new-session -d -s window ${SCREEN--x 80 -y 24} "cd '$top' && exec env TMPDIR='$room' PS1='host> ' PS2= ENV= sh" || exit 2
     wait_for 50 '^host> *$'
 }
 
@@ -283,6 +285,30 @@ ended 0
 (cd "$top" && $begin --replay "$screens/record.txt" programs/bin/* </dev/null) >"$screens/played.txt" 2>&1 ||
     complain "the record isn't played"
 grep -q awake "$screens/played.txt" || complain "played again it shows other bytes"
+cp "$screens/record.txt" "$screens/kept.txt"
+
+# A record that is there isn't written over, unless the person says so.
+clear_screen
+text "$begin --record $screens/record.txt programs/bin/*; echo status \$?"
+keys Enter
+wait_for 50 'Write over it? (y or n) *$'
+text 'n'
+keys Enter
+wait_for 50 '^status 125$' 3
+cmp -s "$screens/record.txt" "$screens/kept.txt" || complain "the record was written over"
+
+# Who stops it from outside gets the terminal as it was, and after fg the keys go to the machine again.
+start ''
+kill -TSTP "$script"
+wait_for 50 '^host> *$'
+line 'stty -a | tr " " "\n" | grep -E "^-?(icanon|echo)$" | tr "\n" " "; echo' 30 '^host> *$'
+screen | tail -3 | grep -q '^icanon echo' || complain "a terminal that is stopped isn't as it was"
+text 'fg'
+keys Enter
+sleep 0.5
+line 'echo again' 50 '^again$' 2
+keys 'C-\'
+ended 4
 
 # A signal to the script ends it too; and so does the end of the window.
 for signal in TERM HUP INT QUIT; do
