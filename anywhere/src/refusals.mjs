@@ -131,7 +131,9 @@ function with_init(words, kinds, names, say) {
   if (names.size > 1) refuse("no FILE is named init, which runs first: name a program so, or begin with programs/bin/init programs/bin/sh");
   const place = kinds.indexOf("file"), file = words[place];
   if (!about(file).isFile()) return words;
-  say(`no FILE is named init: ${file} is taken as init. By the shell it runs so: ./xv programs/bin/init programs/bin/sh ${file}`);
+  if (file.endsWith(".c")) refuse(`${file} is a source in C: programs/c/build.sh makes a program of it`);
+  const by_shell = names.has("sh") ? "" : `. By the shell it runs so: ./xv programs/bin/init programs/bin/sh ${file}`;
+  say(`no FILE is named init: ${file} is taken as init${by_shell}`);
   const copy = copy_as_init(file);
   return words.map((word, at) => (at === place ? copy : word));
 }

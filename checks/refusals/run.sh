@@ -45,7 +45,7 @@ END
 }
 
 mkdir a d '50%'
-touch averylongprogram console sh .s größenänderung größenwandel
+touch averylongprogram console sh .s source.c größenänderung größenwandel
 for n in $(seq 64); do touch "program$n"; done
 echo nop >init.s
 for copy in a/init.s '50%/init.s' one.s; do cp init.s "$copy"; done

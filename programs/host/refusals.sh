@@ -164,9 +164,16 @@ look_for_init() {
     [ "$files" = 1 ] ||
         refuse 2 "no FILE is named init, which runs first: name a program so, or begin with programs/bin/init programs/bin/sh"
     [ -f "$1" ] || return 0
+    case $1 in
+        *.c) refuse 2 "$1 is a source in C: programs/c/build.sh makes a program of it" ;;
+    esac
     # shellcheck disable=SC2034
     alone=$1
-    say "no FILE is named init: $1 is taken as init. By the shell it runs so: ./xv programs/bin/init programs/bin/sh $1"
+    case $names in
+        /sh/) by_shell= ;;
+        *) by_shell=". By the shell it runs so: ./xv programs/bin/init programs/bin/sh $1" ;;
+    esac
+    say "no FILE is named init: $1 is taken as init$by_shell"
 }
 
 look_at() {
