@@ -1,5 +1,7 @@
 pub mod Actions
 pub mod Acts
 pub mod DecodeCache
+pub mod PageActions
+pub mod PageActs
 pub mod Ways
 pub mod Performs
