@@ -3,5 +3,3 @@ pub mod Acts
 pub mod DecodeCache
 pub mod PageActions
 pub mod PageActs
-pub mod Ways
-pub mod Performs
