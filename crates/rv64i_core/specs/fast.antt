@@ -1,5 +1,5 @@
 pub mod Actions
 pub mod Acts
 pub mod DecodeCache
-pub mod Ways
-pub mod Performs
+pub mod PageActions
+pub mod PageActs

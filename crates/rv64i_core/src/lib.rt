@@ -4,8 +4,8 @@
 //! and "RV64I Base Integer Instruction Set"). [`decode`] and [`encode`] go between words and [`Instr`],
 //! [`execute`] makes one instruction over a [`UserMemory`], and [`FlatMemory`] is the plainest of those.
 //! The folder `fast` is there to save time alone, and what it promises is what [`execute`] promises:
-//! [`execute_cached`] keeps what words do in a [`DecodeCache`], and [`execute_kept`] does what the cache keeps, without
-//! a fetch, if the caller knows that it is the word at the pc.
+//! [`execute_cached`] keeps what words do in a [`DecodeCache`]. [`act`] does a [`PageAction`], which a word of a page was
+//! made into, without a fetch and without a pc, as far as the memory is open.
 //! What an instruction means is written in `specs/`: the table of instructions in `Instructions`, the fields of a word in
 //! `Layout`, its words in `Table`, memory in `Memory`, registers in `Registers`, and the function `instr` in `Step`.
 //! The code's table is `src/table.rt`; the assembler and the disassembler take the names from there.
@@ -29,10 +29,11 @@ pub use access_width::Width;
 pub use decoding::decode;
 pub use encoding::encode;
 pub use execution::{Stop, execute};
-pub use fast::action::Action;
-pub use fast::decode_cache::{DecodeCache, rest_of_line};
-pub use fast::flow::Pc;
-pub use fast::performing::{Way, execute_cached, execute_kept};
+pub use fast::acting::{Onward, act};
+pub use fast::decode_cache::DecodeCache;
+pub use fast::open_memory::OpenMemory;
+pub use fast::page_action::PageAction;
+pub use fast::performing::execute_cached;
 pub use flat_memory::FlatMemory;
 pub use instruction::{BranchOp, ImmOp, Instr, LoadOp, RegOp, ShiftOp, StoreOp, WordOp};
 pub use operands::{Imm12, Imm20, Shift5, Shift6};

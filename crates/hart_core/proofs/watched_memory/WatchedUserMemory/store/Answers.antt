@@ -1,5 +1,5 @@
 use Rattle.std.proofs.Common.{◌≡◌, ◌%◌, sym, ap, ◌∙◌, subst}
-use Rattle.std.specs.Prelude.{◌≢◌, Err}
+use Rattle.std.specs.Prelude.{◌≢◌}
 use Rattle.xk_base.specs.declared.access.Cause.TheVariants.{StoreMisaligned, StorePageFault}
 use Rattle.rv64i_core.specs.Memory.{bytes_of_width, storing, StoreEnds}
 use Rattle.rv64i_core.specs.Step.{state_ends}
