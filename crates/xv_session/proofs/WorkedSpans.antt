@@ -1,5 +1,5 @@
 -- Worked cases of spans that are apart.
-use Rattle.std.specs.Prelude.{[], ◌∷◌}
+use Rattle.std.specs.Prelude.{◌≡◌, ◌≢◌, ℕ, ◌<◌, [], ◌∷◌}
 use Rattle.std.proofs.Common.{arith, refl}
 use Rattle.xv_machine.specs.declared.event.Event.TheVariants.{Run, Tick}
 use Rattle.xv_session.specs.Spans.{AreApart}
