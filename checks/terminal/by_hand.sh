@@ -233,14 +233,16 @@ screen | tail -4 | grep -q 'the reader itself' || complain "the machine doesn't 
 line 'quit' 50 '^status' 3
 ended 4
 
-# A program without end: Ctrl-C breaks off the word that runs, at once, and what was typed before is the next line's.
+# A program without end: Ctrl-C breaks off the word that runs, at once, and what was typed before is the next line's. To go
+# back takes about as long as the machine has run.
 mkdir -p "$screens/endless"
 printf '_start:\n  addi t0, t0, 1\n  j _start\n' >"$screens/endless/init.s"
 start "$screens/endless/init.s" none
 wait_for 100 '^Ctrl-C stops the machine'
+sleep 3
 keys C-c
 wait_for 50 '^(xv) *$'
-for word in 'until call exit' 'run 90000' 'back until call exit'; do
+for word in 'until call exit' 'run 90000' 'back until call exit' 'back 5'; do
     text "$word"
     keys Enter
     sleep 0.2

@@ -3,9 +3,9 @@ use Rattle.std.specs.Prelude.{◌≡◌, ◌⊎◌, ◌-◌, ℕ, Bool, false, L
 use Rattle.circular_buffer.specs.Buffer.{buffer}
 use Rattle.kernel_spec.specs.runs.Run as runs
 use Rattle.kernel_spec.specs.runs.Run.{Event, Outcome}
-use Rattle.xv_session.specs.Answers.{WentBack}
+use Rattle.xv_session.specs.Answers.{IsUnplayedBy, WentBack}
 use Rattle.xv_session.specs.Recorded.{Recorded}
-use Rattle.xv_session.specs.declared.session.SessionError.TheVariants.{Memory as TooLittle}
+use Rattle.xv_session.specs.declared.session.PlayError.{PlayError}
 use Rattle.xv_session.specs.declared.until.Condition.TheVariants.{Fault}
 use Rattle.debug_words.specs.declared.vocabulary.Goal.{Goal}
 use Rattle.debug_words.specs.declared.vocabulary.Word.{Word}
@@ -13,17 +13,16 @@ use Rattle.debug_words.specs.declared.vocabulary.Word.TheVariants.{Step, Next, B
 use Rattle.debug_views.specs.Written.{Writes}
 use Rattle.xv_debug.specs.motion.Aims.{aim_in}
 use Rattle.xv_debug.specs.motion.Finishing.{IsFinishAim}
-use Rattle.xv_debug.specs.motion.Backwards.{GoesBackUntil, IsUnknownBy}
+use Rattle.xv_debug.specs.motion.Backwards.{GoesBackUntil}
 use Rattle.xv_debug.specs.declared.motion.aiming.Aim.{Aim}
 use Rattle.xv_debug.specs.declared.motion.aiming.Aim.TheVariants.{On}
 use Rattle.xv_debug.specs.motion.Reaching.{Test, meets_one}
-use Rattle.xv_debug.specs.declared.motion.backwards.Unknown.{Unknown}
 use Rattle.xv_debug.specs.declared.motion.journey.Stop.{Stop}
 use Rattle.xv_debug.specs.declared.motion.output.Output.{Output}
 use Rattle.xv_debug.specs.Effects.{IsAimOf, Plays, Searches, SendsFirst, Steps}
 use Rattle.xv_debug.specs.LookText.{Shows}
 use Rattle.xv_debug.specs.OutputText.{output_text}
-use Rattle.xv_debug.specs.StopText.{back_text, journey_text, never, no_return, refusal_text, unknown_text}
+use Rattle.xv_debug.specs.StopText.{back_text, journey_text, never, no_return, unplayed_text}
 use Rattle.xv_debug.specs.WhereText.{IsWhereOf, nobody}
 
 -- ---- words that send events
@@ -71,21 +70,23 @@ RoundsTell may_end word rounds old new before after =
 abbrev pub IsBackText : Recorded → (taken : ℕ) → List ℕ → Type 0
 IsBackText s taken text = (rest : List ℕ) × IsWhereOf s None rest × (text ≡ back_text taken ++ rest)
 
--- It has gone back by so many events, or to the boot, and tells by how many; or it is as it was, and tells that the host has too little memory
-abbrev pub BackTells : (count : ℕ) → (old new : Recorded) → (before after : List ℕ) → Type 0
-BackTells count old new before after =
-    (WentBack (length old.events - count) old new × Writes before after (IsBackText new (min count (length old.events))))
-    ⊎ ((new ≡ old) × (after ≡ before ++ refusal_text TooLittle))
+-- It is as it was, and tells that it was broken off, which may happen, or that the host has too little memory
+abbrev pub StaysTelling : (may_end : Bool) → (old new : Recorded) → (before after : List ℕ) → Type 0
+StaysTelling may_end old new before after = (why : PlayError) × IsUnplayedBy may_end why × (new ≡ old) × (after ≡ before ++ unplayed_text why)
 
--- it tells by how many events, or that there is no such place; or it is as it was, and tells that it was broken off, which may happen, or that the host has too little memory
+-- It has gone back by so many events, or to the boot, and tells by how many; or it stays
+abbrev pub BackTells : (may_end : Bool) → (count : ℕ) → (old new : Recorded) → (before after : List ℕ) → Type 0
+BackTells may_end count old new before after =
+    (WentBack (length old.events - count) old new × Writes before after (IsBackText new (min count (length old.events)))) ⊎ StaysTelling may_end old new before after
+
+-- it tells by how many events, or that there is no such place; or it stays
 abbrev pub IsBackUntilText : Recorded → (taken : Option ℕ) → List ℕ → Type 0
 IsBackUntilText s None text = text ≡ never
 IsBackUntilText s (Some taken) text = IsBackText s taken text
 
 abbrev pub BackUntilTells : (may_end : Bool) → Aim → (old new : Recorded) → (before after : List ℕ) → Type 0
 BackUntilTells may_end aim old new before after =
-    ((taken : Option ℕ) × GoesBackUntil aim taken old new × Writes before after (IsBackUntilText new taken))
-    ⊎ ((u : Unknown) × IsUnknownBy may_end u × (new ≡ old) × (after ≡ before ++ unknown_text u))
+    ((taken : Option ℕ) × GoesBackUntil aim taken old new × Writes before after (IsBackUntilText new taken)) ⊎ StaysTelling may_end old new before after
 
 abbrev pub BackToTells : (may_end : Bool) → Option Aim → (old new : Recorded) → (before after : List ℕ) → Type 0
 BackToTells may_end None old new before after = (new ≡ old) × (after ≡ before ++ nobody)
@@ -108,5 +109,5 @@ Answers may_end shown (Key keys) old new before after = SendsTell false (Key key
 Answers may_end shown (ToMark marks) old new before after = SearchTells may_end (ToMark marks) (meets_one (On Fault) marks.items) old new before after
 Answers may_end shown Finish old new before after = FinishTells may_end Finish old new before after
 Answers may_end shown (BackUntil goal) old new before after = SeekBackTells may_end goal old new before after
-Answers may_end shown (Back count) old new before after = BackTells count old new before after
+Answers may_end shown (Back count) old new before after = BackTells may_end count old new before after
 Answers may_end shown word old new before after = Shows shown old word before after

@@ -107,7 +107,7 @@ pub record Plays (may_end : Bool) (most : ℕ) (old new : Recorded) : Type 0 whe
   pub has : Output
   pub leaves : RoundsLeave may_end 1000 most stop old new had has
 
--- It has gone back by so many events, to the boot where there were fewer; or it is as it was, where the host had too little memory
+-- It has gone back by so many events, to the boot where there were fewer; or it is as it was, where it was broken off, or the host had too little memory
 abbrev pub GoesBack : (count : ℕ) → Recorded → Recorded → Type 0
 GoesBack count old new = (new ≡ old) ⊎ WentBack (length old.events - count) old new
 

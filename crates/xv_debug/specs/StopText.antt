@@ -2,6 +2,8 @@
 use Rattle.std.specs.Prelude.{ℕ, List, [], ◌++◌, codes, decimal, Option, None, Some, option_map}
 use Rattle.kernel_spec.specs.runs.Run.{Outcome}
 use Rattle.xv_machine.specs.Events.{outcome_of}
+use Rattle.xv_session.specs.declared.session.PlayError.{PlayError}
+use Rattle.xv_session.specs.declared.session.PlayError.TheVariants as unplayed
 use Rattle.xv_session.specs.declared.session.SessionError.{SessionError}
 use Rattle.xv_session.specs.declared.session.SessionError.TheVariants.{Memory, Full}
 use Rattle.debug_words.specs.Texts.{many}
@@ -11,8 +13,6 @@ use Rattle.debug_words.specs.declared.vocabulary.Word.TheVariants.{Next, Until, 
 use Rattle.xv_debug.specs.declared.motion.journey.Journey.{Journey}
 use Rattle.xv_debug.specs.declared.motion.journey.Stop.{Stop}
 use Rattle.xv_debug.specs.declared.motion.journey.Stop.TheVariants.{Done, Met, Asleep, Halted, Broken, Refused}
-use Rattle.xv_debug.specs.declared.motion.backwards.Unknown.{Unknown}
-use Rattle.xv_debug.specs.declared.motion.backwards.Unknown.TheVariants as unknown
 use Rattle.xv_debug.specs.OutcomeText.{happened_text}
 
 -- why the session took no more events
@@ -69,10 +69,10 @@ no_return = codes "no process runs whose function has a known return address: bt
 abbrev pub back_text : (taken : ℕ) → List ℕ
 back_text taken = many taken (codes "event") ++ codes " back\n"
 
--- where it was broken off before that was known
-abbrev pub unknown_text : Unknown → List ℕ
-unknown_text unknown.Broken = codes "it was broken off, and nothing is changed\n"
-unknown_text (unknown.Refused error) = refusal_text error
+-- why a word didn't go back
+abbrev pub unplayed_text : PlayError → List ℕ
+unplayed_text unplayed.Broken = codes "it was broken off, and nothing is changed\n"
+unplayed_text unplayed.Memory = refusal_text Memory
 
 -- where a goal never came before
 abbrev pub never : List ℕ

@@ -13,11 +13,10 @@ use crate::looks::{
 };
 use crate::motion::{self, Aim, Journey, Output};
 use crate::names::Known;
-use crate::patience::Patience;
 use crate::pipes::show_pipes;
 use crate::processes::{show_process, show_processes, show_where};
 use crate::shown_output::show_output;
-use crate::stops::{show_refusal, show_sent, show_unknown};
+use crate::stops::{show_sent, show_unplayed};
 use debug_views::{show_console, show_events, show_frames, show_memory, show_trace, show_value};
 use debug_words::texts::Many;
 use debug_words::{
@@ -27,7 +26,7 @@ use std::alloc::{AllocError, Global};
 use xk_base::Pid;
 use xv_machine::Event;
 use xv_report::Sources;
-use xv_session::{Condition, Session};
+use xv_session::{Condition, Patience, Session};
 
 /// The instructions that `where` lists.
 const INSTRUCTIONS: u32 = 8;
@@ -356,7 +355,7 @@ impl Debugger {
         ensures failed { IfErr result (λ _. DoesOrStays P.may_end word.now session.old session.new) }
     {
         match word {
-            Word::Back { count } => self.go_back(alloc, session, *count, answer),
+            Word::Back { count } => self.go_back(alloc, session, *count, patience, answer),
             Word::BackUntil(goal) => self.seek_back(alloc, session, goal, patience, answer),
             Word::Step { count } => self.step(alloc, session, word, *count, patience, answer),
             Word::Next => self.next(alloc, session, word, patience, answer),
@@ -410,21 +409,22 @@ impl Debugger {
     }
 
     /// Goes back by so many events, and tells where that is.
-    fn go_back(
+    fn go_back<P: Patience>(
         &self,
         alloc: Global,
         session: &mut Session,
         count: u64,
+        patience: &mut P,
         answer: &mut String,
     ) -> Result<(), AllocError>
         ensures done { GoesBack count session.old session.new }
         ensures told { OnOk result
-            (BackTells count session.old session.new
+            (BackTells P.may_end count session.old session.new
             (string_bytes answer.old) (string_bytes answer.new)) }
     {
-        match motion::go_back(alloc, session, count) {
+        match motion::go_back(alloc, session, count, patience) {
             Ok(taken) => self.tell_back(alloc, session, taken, answer),
-            Err(error) => show_refusal(&error, answer),
+            Err(error) => show_unplayed(&error, answer),
         }
     }
 
@@ -613,7 +613,7 @@ impl Debugger {
         match motion::back_until(alloc, session, aim, patience) {
             Ok(Some(taken)) => self.tell_back(alloc, session, taken, answer),
             Ok(None) => show_never(answer),
-            Err(why) => show_unknown(&why, answer),
+            Err(why) => show_unplayed(&why, answer),
         }
     }
 

@@ -18,7 +18,6 @@ mod kept;
 mod looks;
 mod motion;
 mod names;
-mod patience;
 mod pipes;
 mod processes;
 mod shown_output;
@@ -26,4 +25,4 @@ mod stops;
 mod waits;
 
 pub use debugger::{Debugger, Next};
-pub use patience::{Endless, Patience};
+pub use xv_session::{Endless, Patience};

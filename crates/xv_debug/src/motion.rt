@@ -4,9 +4,9 @@
 //! bytes that wait in the console (`specs/motion/Reaching.antt`, `specs/motion/Aims.antt`, `specs/motion/Marks.antt`).
 //! Neither sends one if nobody may run (`specs/motion/Resting.antt`). [`send_often`], [`type_keys`] and [`play_rounds`]
 //! send the other events. [`go_back`] takes the last ones back, [`back_until`] those after the last Run that is the aim
-//! (`specs/motion/Backwards.antt`). All but [`go_back`] and [`type_keys`] ask a `Patience` now and then (`pace.rt`), and
-//! end if it is over. Each promises which events the session has got then (`specs/motion/Effects.antt`): no event is sent
-//! that isn't kept, and the machine is what they lead to.
+//! (`specs/motion/Backwards.antt`). All but [`type_keys`] ask a `Patience` now and then (`pace.rt`), and end if it is over.
+//! Each promises which events the session has got then (`specs/motion/Effects.antt`): no event is sent that isn't kept, and
+//! the machine is what they lead to.
 
 mod aiming;
 mod backwards;
@@ -25,7 +25,7 @@ mod sending;
 mod stretches;
 
 pub(crate) use aiming::{Aim, aim_in};
-pub(crate) use backwards::{Unknown, back_until};
+pub(crate) use backwards::back_until;
 pub(crate) use finishing::finish_aim;
 pub(crate) use journey::{Journey, Stop};
 pub(crate) use lines::line_aim;

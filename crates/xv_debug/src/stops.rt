@@ -1,15 +1,15 @@
 //! What a word has sent, and why no more, in words.
 ghost use Rattle.std.specs.Prelude.{◌≡◌, ◌++◌, OnOk, option_map, string_bytes};
 ghost use Rattle.xv_machine.specs.Events.{outcome_of};
-ghost use Rattle.xv_debug.specs.StopText.{broken_text, done_text, last_text, met_text, not_yet, refusal_text, stop_text, told_journey, unknown_text};
+ghost use Rattle.xv_debug.specs.StopText.{broken_text, done_text, last_text, met_text, not_yet, refusal_text, stop_text, told_journey, unplayed_text};
 
 use crate::happened::Happened;
-use crate::motion::{Journey, Stop, Unknown};
+use crate::motion::{Journey, Stop};
 use debug_words::texts::Many;
 use debug_words::{EVENTS_MOST, Word};
 use std::alloc::AllocError;
 use xv_machine::Outcome;
-use xv_session::SessionError;
+use xv_session::{PlayError, SessionError};
 
 /// Writes that rounds have met what they stop at.
 fn show_met(word: &Word, answer: &mut String) -> Result<(), AllocError>
@@ -108,12 +108,12 @@ pub(crate) fn show_refusal(error: &SessionError, answer: &mut String) -> Result<
     }
 }
 
-/// Writes why it isn't known which place is the last.
-pub(crate) fn show_unknown(why: &Unknown, answer: &mut String) -> Result<(), AllocError>
-    ensures { OnOk result (string_bytes answer.new ≡ string_bytes answer.old ++ unknown_text why.now) }
+/// Writes why a word didn't go back.
+pub(crate) fn show_unplayed(why: &PlayError, answer: &mut String) -> Result<(), AllocError>
+    ensures { OnOk result (string_bytes answer.new ≡ string_bytes answer.old ++ unplayed_text why.now) }
 {
     match why {
-        Unknown::Broken => answer.push_str("it was broken off, and nothing is changed\n"),
-        Unknown::Refused(error) => show_refusal(error, answer),
+        PlayError::Broken => answer.push_str("it was broken off, and nothing is changed\n"),
+        PlayError::Memory => show_refusal(&SessionError::Memory, answer),
     }
 }

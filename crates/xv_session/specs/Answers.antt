@@ -1,5 +1,5 @@
 -- What the calls of a session answer, and what they leave.
-use Rattle.std.specs.Prelude.{◌≡◌, ◌≢◌, ℕ, ◌+◌, ◌<◌, ◌≤◌, Bool, List, [], ◌∷◌, ◌++◌, take, drop, length, replicate, slice_get, Option, None, Some, Result, Ok, Err}
+use Rattle.std.specs.Prelude.{◌≡◌, ◌≢◌, ℕ, ◌+◌, ◌<◌, ◌≤◌, Bool, true, List, [], ◌∷◌, ◌++◌, take, drop, length, replicate, slice_get, Option, None, Some, Result, Ok, Err}
 use Rattle.xk_base.specs.declared.errors.BootError.{BootError}
 use Rattle.kernel_spec.specs.views.State.{ProgramFile}
 use Rattle.kernel_spec.specs.runs.Run.{Event, Run, Outcome}
@@ -12,6 +12,8 @@ use Rattle.xv_session.specs.Stops.{WentOn}
 use Rattle.xv_session.specs.declared.names.Named.{Named}
 use Rattle.xv_session.specs.declared.until.Condition.{Condition}
 use Rattle.xv_session.specs.declared.history.TheConstants.{EVENTS_MAX}
+use Rattle.xv_session.specs.declared.session.PlayError.{PlayError}
+use Rattle.xv_session.specs.declared.session.PlayError.TheVariants as unplayed
 use Rattle.xv_session.specs.declared.session.SessionError.{SessionError}
 use Rattle.xv_session.specs.declared.session.SessionError.TheVariants.{Memory, Full}
 
@@ -67,3 +69,8 @@ EndThere list place (Some (e, count)) = slice_get list (place + count) ≢ Some 
 abbrev pub IsReason : SessionError → (kept : ℕ) → Type 0
 IsReason Memory kept = Unit {0}
 IsReason Full kept = EVENTS_MAX ≤ kept
+
+-- Why the events before a place weren't played again: it was broken off, which may happen, or the host has too little memory, of which nothing is said here
+abbrev pub IsUnplayedBy : (may_end : Bool) → PlayError → Type 0
+IsUnplayedBy may_end unplayed.Broken = may_end ≡ true
+IsUnplayedBy may_end unplayed.Memory = Unit {0}

@@ -8,6 +8,8 @@ ghost use Rattle.xv_session.specs.declared.history.TheConstants.{EVENTS_MAX};
 
 use crate::SessionError;
 use crate::followed::Followed;
+use crate::pace::{Broken, Pace};
+use crate::patience::Patience;
 use crate::playing::{play, play_first};
 use std::alloc::{AllocError, Global};
 use std::marker::Model;
@@ -153,7 +155,7 @@ impl History {
 }
 
 impl History {
-    ghost use Rattle.std.specs.Prelude.{◌≡◌, take};
+    ghost use Rattle.std.specs.Prelude.{◌≡◌, IfOk, IfErr, take, true};
     ghost use Rattle.xv_session.specs.Steps.{IsSound};
     ghost use Rattle.xv_session.specs.Follows.{Follows};
 
@@ -177,12 +179,25 @@ impl History {
     }
 
     /// Sends the events before a place to a machine, from the first on.
-    pub fn play(&self, followed: &mut Followed, place: u64)
+    ///
+    /// # Errors
+    ///
+    /// It was broken off.
+    pub fn play<P: Patience>(
+        &self,
+        followed: &mut Followed,
+        place: u64,
+        patience: &mut P,
+    ) -> Result<(), Broken>
         requires { IsSound followed.old.running }
-        ensures goes { Follows (take place self.now.events) followed.old followed.new }
-        ensures sound { IsSound followed.new.running }
+        ensures goes { IfOk result (λ _. Follows (take place self.now.events) followed.old followed.new) }
+        ensures sound { IfOk result (λ _. IsSound followed.new.running) }
+        ensures broken { IfErr result (λ _. P.may_end ≡ true) }
     {
-        let left = play_first(followed, self.over.as_slice(), place);
-        play(followed, self.last.event, self.last.count.min(left));
+        let mut pace = Pace::new();
+        let left = play_first(followed, self.over.as_slice(), place, &mut pace, patience)?;
+        let rest = self.last.count.min(left);
+        play(followed, self.last.event, rest, &mut pace, patience)?;
+        Ok(())
     }
 }

@@ -2,7 +2,8 @@
 //!
 //! A [`Session`] boots a machine and sends it events, and keeps them. So it can go back to any place of its run,
 //! by booting anew and sending the first of these events again: what a machine does is determined by its programs
-//! and its events. A [`Running`] keeps no events. A contract sees a session as `Recorded` of `specs/Recorded.antt`.
+//! and its events. Whoever waits for that may break it off ([`Patience`]). A [`Running`] keeps no events. A contract
+//! sees a session as `Recorded` of `specs/Recorded.antt`.
 #![tactic(auto)]
 
 mod followed;
@@ -10,6 +11,8 @@ mod history;
 pub mod laws;
 mod looking;
 mod names;
+mod pace;
+mod patience;
 mod playing;
 mod running;
 mod session;
@@ -19,6 +22,7 @@ mod until;
 pub use history::EVENTS_MAX;
 pub use looking::{Fault, NextStep, fault_of_run, next_step};
 pub use names::{Named, Names};
+pub use patience::{Endless, Patience};
 pub use running::{Running, Runs};
-pub use session::{Session, SessionError};
+pub use session::{PlayError, Session, SessionError};
 pub use until::{Condition, Search};

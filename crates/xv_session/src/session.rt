@@ -5,6 +5,7 @@ ghost use Rattle.kernel_spec.specs.views.State.{named_file};
 use crate::followed::Followed;
 use crate::history::History;
 use crate::names::Named;
+use crate::patience::{Endless, Patience};
 use crate::running::{Running, Runs};
 use crate::stops::is_before_stop;
 use crate::until::{Condition, Search, run_until};
@@ -23,6 +24,31 @@ pub enum SessionError {
     /// It keeps [`EVENTS_MAX`](crate::EVENTS_MAX) events already.
     #[error("Full")]
     Full,
+}
+
+/// Why the events before a place weren't played again. The session is as it was before.
+#[derive(Clone, Copy)]
+pub enum PlayError {
+    /// It was broken off.
+    Broken,
+    /// The host has too little memory for a second machine.
+    Memory,
+}
+
+impl PlayError {
+    ghost use Rattle.std.specs.Prelude.{◌≡◌, false};
+    ghost use Rattle.xv_session.specs.Answers.{IsUnplayedBy};
+
+    /// The same of a session, if nothing can be broken off.
+    fn unbroken(self) -> SessionError
+        requires { IsUnplayedBy false self }
+        ensures { result ≡ SessionError.Memory }
+    {
+        match self {
+            PlayError::Broken => unreachable!(),
+            PlayError::Memory => SessionError::Memory,
+        }
+    }
 }
 
 /// A copy of a program.
@@ -89,7 +115,7 @@ impl Session {
     ghost use Rattle.xv_machine.specs.Events.{event_of, outcome_of};
     ghost use Rattle.xv_machine.specs.Sound.{IsSoundMachine};
     ghost use Rattle.xv_session.specs.Recorded.{IsPlayed, IsLed, IsRecorded};
-    ghost use Rattle.xv_session.specs.Answers.{machine_of, IsNew, Sent, RunsSent, Found, Stopped, WentBack, AreEqualFrom, EndThere, IsReason};
+    ghost use Rattle.xv_session.specs.Answers.{machine_of, IsNew, Sent, RunsSent, Found, Stopped, WentBack, AreEqualFrom, EndThere, IsReason, IsUnplayedBy};
     ghost use Rattle.xv_session.specs.LastStep.{HasLast, IsLastStep};
     ghost use Rattle.xv_session.specs.Names.{place_in, AreLive};
     ghost use Rattle.xv_session.specs.Spans.{pair_of};
@@ -222,19 +248,26 @@ impl Session {
     }
 
     /// The machine as it was after the first events, so many, booted anew, with its names and whose step was last.
-    fn followed_at(&self, alloc: Global, place: u64) -> Result<Followed, SessionError>
+    fn followed_at<P: Patience>(
+        &self,
+        alloc: Global,
+        place: u64,
+        patience: &mut P,
+    ) -> Result<Followed, PlayError>
         ensures led { IfOk result (λ f. IsLed self.now.frames self.now.trace self.now.programs (take place self.now.events) f.running) }
         ensures last { IfOk result (λ f. HasLast self.now.frames self.now.trace self.now.programs (take place self.now.events) f.running.machine f.last) }
-        ensures memory { IfErr result (λ e. e ≡ SessionError.Memory) }
+        ensures unplayed { IfErr result (IsUnplayedBy P.may_end) }
     {
         let Ok(programs) = copied(alloc, self.followed.running.machine.programs()) else {
-            return Err(SessionError::Memory);
+            return Err(PlayError::Memory);
         };
         let Ok(machine) = Machine::boot(alloc, self.config, programs) else {
-            return Err(SessionError::Memory);
+            return Err(PlayError::Memory);
         };
         let mut followed = Followed::new(machine);
-        self.history.play(&mut followed, place);
+        let Ok(()) = self.history.play(&mut followed, place, patience) else {
+            return Err(PlayError::Broken);
+        };
         Ok(followed)
     }
 
@@ -248,7 +281,28 @@ impl Session {
         ensures played { IfOk result (IsPlayed self.now.frames self.now.trace self.now.programs (take place self.now.events)) }
         ensures memory { IfErr result (λ e. e ≡ SessionError.Memory) }
     {
-        let Followed { running, last: _ } = self.followed_at(alloc, place)?;
+        match self.machine_at_within(alloc, place, &mut Endless) {
+            Ok(machine) => Ok(machine),
+            Err(error) => Err(error.unbroken()),
+        }
+    }
+
+    /// As [`machine_at`](Session::machine_at), unless the patience is over before.
+    ///
+    /// # Errors
+    ///
+    /// [`PlayError::Broken`] where the patience is over, and [`PlayError::Memory`] where the host has too little memory
+    /// for a second machine.
+    pub fn machine_at_within<P: Patience>(
+        &self,
+        alloc: Global,
+        place: u64,
+        patience: &mut P,
+    ) -> Result<Machine, PlayError>
+        ensures played { IfOk result (IsPlayed self.now.frames self.now.trace self.now.programs (take place self.now.events)) }
+        ensures unplayed { IfErr result (IsUnplayedBy P.may_end) }
+    {
+        let Followed { running, last: _ } = self.followed_at(alloc, place, patience)?;
         let Running { machine, names: _ } = running;
         Ok(machine)
     }
@@ -265,7 +319,30 @@ impl Session {
         ensures memory { IfErr result (λ e. e ≡ SessionError.Memory) }
         ensures recorded { IsRecorded self.new }
     {
-        let followed = self.followed_at(alloc, place)?;
+        match self.back_to_within(alloc, place, &mut Endless) {
+            Ok(()) => Ok(()),
+            Err(error) => Err(error.unbroken()),
+        }
+    }
+
+    /// As [`back_to`](Session::back_to), unless the patience is over before.
+    ///
+    /// # Errors
+    ///
+    /// [`PlayError::Broken`] where the patience is over, and [`PlayError::Memory`] where the host has too little memory
+    /// for a second machine: nothing is changed.
+    pub fn back_to_within<P: Patience>(
+        &mut self,
+        alloc: Global,
+        place: u64,
+        patience: &mut P,
+    ) -> Result<(), PlayError>
+        ensures back { IfOk result (λ _. WentBack place self.old self.new) }
+        ensures refused { IfErr result (λ _. self.new ≡ self.old) }
+        ensures unplayed { IfErr result (IsUnplayedBy P.may_end) }
+        ensures recorded { IsRecorded self.new }
+    {
+        let followed = self.followed_at(alloc, place, patience)?;
         self.followed = followed;
         self.history.cut(place);
         Ok(())

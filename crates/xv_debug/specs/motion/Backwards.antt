@@ -5,11 +5,8 @@ use Rattle.xv_machine.specs.Meaning.{Meaning}
 use Rattle.xv_machine.specs.Reached.{IsEvent}
 use Rattle.xv_session.specs.Answers.{WentBack}
 use Rattle.xv_session.specs.Recorded.{Recorded, IsPlayed}
-use Rattle.xv_session.specs.declared.session.SessionError.TheVariants.{Memory}
 use Rattle.xv_debug.specs.motion.Aims.{meets}
 use Rattle.xv_debug.specs.declared.motion.aiming.Aim.{Aim}
-use Rattle.xv_debug.specs.declared.motion.backwards.Unknown.{Unknown}
-use Rattle.xv_debug.specs.declared.motion.backwards.Unknown.TheVariants.{Broken, Refused}
 
 abbrev pub is_run : Event → Bool
 is_run Run = true
@@ -56,8 +53,3 @@ EndsAt (Some place) old new = WentBack place old new
 -- Of the events so many were taken back
 abbrev pub GoesBackUntil : Aim → (taken : Option ℕ) → (old new : Recorded) → Type 0
 GoesBackUntil aim taken old new = (answer : Option ℕ) × IsLast aim old answer × EndsAt answer old new × (taken ≡ option_map (λ place. length old.events - place) answer)
-
--- Why it isn't known where that is: it was broken off, which may happen, or memory is short
-abbrev pub IsUnknownBy : (may_end : Bool) → Unknown → Type 0
-IsUnknownBy may_end Broken = may_end ≡ true
-IsUnknownBy may_end (Refused error) = error ≡ Memory

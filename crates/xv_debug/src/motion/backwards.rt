@@ -1,14 +1,14 @@
 //! Going back to the last Run that was what is waited for.
 ghost use Rattle.std.specs.Prelude.{◌≡◌, ◌+◌, ◌-◌, ◌^◌, ◌≤◌, ◌<◌, IfOk, IfErr, drop, length, replicate, take};
 ghost use Rattle.xv_machine.specs.Events.{event_of};
-ghost use Rattle.xv_debug.specs.motion.Backwards.{GoesBackUntil, IsLast, IsUnknownBy, Looked, LookedAt, LooksFrom, is_run, later};
+ghost use Rattle.xv_session.specs.Answers.{IsUnplayedBy};
+ghost use Rattle.xv_debug.specs.motion.Backwards.{GoesBackUntil, IsLast, Looked, LookedAt, LooksFrom, is_run, later};
 
 use crate::motion::aiming::{Aim, is_due, is_met};
 use crate::motion::pace::{Pace, STRETCH};
-use crate::patience::Patience;
 use std::alloc::Global;
 use xv_machine::{Event, Machine};
-use xv_session::{Session, SessionError};
+use xv_session::{Patience, PlayError, Session};
 
 /// How many events are looked at first.
 const FIRST_WINDOW: u64 = 1024;
@@ -18,25 +18,6 @@ const WINDOW_GROWTH: u64 = 16;
 
 /// How often, before all events are looked at.
 const WINDOWS: u32 = 8;
-
-/// Why it isn't known which place is the last.
-#[derive(Clone, Copy)]
-pub enum Unknown {
-    /// It was broken off.
-    Broken,
-    /// The host has too little memory for a second machine.
-    Refused(SessionError),
-}
-
-impl From<SessionError> for Unknown {
-    ghost use Rattle.xv_debug.specs.declared.motion.backwards.Unknown.{Unknown};
-
-    ghost from_gives = { λ error unknown. unknown ≡ Unknown.Refused error };
-
-    fn from(error: SessionError) -> Unknown {
-        Unknown::Refused(error)
-    }
-}
 
 /// Whether an event is a Run.
 fn is_run(event: Event) -> bool
@@ -116,19 +97,19 @@ fn last_from<P: Patience>(
     begin: u64,
     end: u64,
     patience: &mut P,
-) -> Result<Option<u64>, Unknown>
+) -> Result<Option<u64>, PlayError>
     requires begins { begin ≤ end }
     requires ends { end ≡ length session.now.events - 1 }
     ensures looks { IfOk result (LooksFrom aim.now begin session.now) }
-    ensures unknown { IfErr result (IsUnknownBy P.may_end) }
+    ensures unplayed { IfErr result (IsUnplayedBy P.may_end) }
 {
-    let mut machine = session.machine_at(alloc, begin)?;
+    let mut machine = session.machine_at_within(alloc, begin, patience)?;
     let mut pace = Pace::new(u64::from(STRETCH));
     let mut place = begin;
     let mut found = None;
     'spans: while place < end {
         if pace.is_over(place - begin, patience) {
-            return Err(Unknown::Broken);
+            return Err(PlayError::Broken);
         }
         let next = equal_from(session, place, end);
         found = look_often(&mut machine, next.event, next.count, place, aim, found);
@@ -143,9 +124,9 @@ fn last_place<P: Patience>(
     session: &Session,
     aim: &Aim,
     patience: &mut P,
-) -> Result<Option<u64>, Unknown>
+) -> Result<Option<u64>, PlayError>
     ensures last { IfOk result (IsLast aim.now session.now) }
-    ensures unknown { IfErr result (IsUnknownBy P.may_end) }
+    ensures unplayed { IfErr result (IsUnplayedBy P.may_end) }
 {
     let end = session.at().saturating_sub(1);
     let mut window = FIRST_WINDOW;
@@ -156,7 +137,7 @@ fn last_place<P: Patience>(
             return Ok(found);
         }
         if patience.is_over() {
-            return Err(Unknown::Broken);
+            return Err(PlayError::Broken);
         }
         window = window.saturating_mul(WINDOW_GROWTH);
     }
@@ -174,15 +155,15 @@ pub(crate) fn back_until<P: Patience>(
     session: &mut Session,
     aim: &Aim,
     patience: &mut P,
-) -> Result<Option<u64>, Unknown>
+) -> Result<Option<u64>, PlayError>
     ensures back { IfOk result (λ taken. GoesBackUntil aim.now taken session.old session.new) }
     ensures refused { IfErr result (λ _. session.new ≡ session.old) }
-    ensures unknown { IfErr result (IsUnknownBy P.may_end) }
+    ensures unplayed { IfErr result (IsUnplayedBy P.may_end) }
 {
     let Some(place) = last_place(alloc, session, aim, patience)? else {
         return Ok(None);
     };
     let taken = session.at().saturating_sub(place);
-    session.back_to(alloc, place)?;
+    session.back_to_within(alloc, place, patience)?;
     Ok(Some(taken))
 }

@@ -1,7 +1,7 @@
 //! When a word that sends events asks whether it is to be broken off.
 ghost use Rattle.std.specs.Prelude.{◌≡◌, ◌≤◌, ◌<◌, true, false};
 
-use crate::patience::Patience;
+use xv_session::Patience;
 
 /// The most events that are sent before the patience is asked: by the slowest of them a word takes far less than a tenth
 /// of a second.

@@ -9,9 +9,8 @@ ghost use Rattle.xv_debug.specs.motion.Rounds.{PlaysPart, PlaysTelling, RoundsLe
 use crate::motion::journey::{Journey, Stop};
 use crate::motion::output::Output;
 use crate::motion::pace::Pace;
-use crate::patience::Patience;
 use xv_machine::{Event, Outcome, RoundPart, round_parts};
-use xv_session::{Session, SessionError};
+use xv_session::{Patience, Session, SessionError};
 
 /// The rounds that are played before the patience is asked: about as many events as in a stretch of other words.
 const ROUNDS_AT_ONCE: u64 = 100;

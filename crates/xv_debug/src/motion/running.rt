@@ -9,8 +9,7 @@ use crate::motion::journey::{Journey, Stop};
 use crate::motion::pace::{Pace, STRETCH, at_once};
 use crate::motion::resting::rest_of;
 use crate::motion::stretches::send_stretch;
-use crate::patience::Patience;
-use xv_session::Session;
+use xv_session::{Patience, Session};
 
 /// Sends so many Runs, and none more if nobody may run, or if it is broken off. Instructions that follow one another are sent at once, since
 /// nothing is waited for among them.

@@ -18,10 +18,9 @@ use crate::motion::output::Output;
 use crate::motion::pace::{Pace, STRETCH, at_once};
 use crate::motion::places::{Places, places_of};
 use crate::motion::resting::rest_of;
-use crate::patience::Patience;
 use debug_words::Mark;
 use xv_machine::{ConsoleList, Event, Machine, Outcome};
-use xv_session::{Session, SessionError};
+use xv_session::{Patience, Session, SessionError};
 
 /// What came of events that were sent.
 #[derive(Drop)]

@@ -2,17 +2,16 @@
 ghost use Rattle.std.specs.Prelude.{◌≡◌, ◌≢◌, ◌≤◌, ◌<◌, ◌-◌, IfOk, IfErr, length, map, min, option_map, replicate, take, true};
 ghost use Rattle.kernel_spec.specs.runs.Run as runs;
 ghost use Rattle.xv_machine.specs.Events.{event_of, outcome_of};
-ghost use Rattle.xv_session.specs.Answers.{WentBack};
+ghost use Rattle.xv_session.specs.Answers.{IsUnplayedBy, WentBack};
 ghost use Rattle.xv_debug.specs.motion.Sent.{Sends};
 ghost use Rattle.xv_debug.specs.motion.Reaching.{IsRefusal, IsRefusedBy};
 
 use crate::motion::journey::{Journey, Stop};
 use crate::motion::output::Output;
 use crate::motion::pace::{Pace, STRETCH};
-use crate::patience::Patience;
 use std::alloc::Global;
 use xv_machine::Event;
-use xv_session::{Session, SessionError};
+use xv_session::{Patience, PlayError, Session};
 
 /// Sends an event so many times, or fewer if it is broken off, and keeps what the console shows of it.
 pub(crate) fn send_often<P: Patience>(
@@ -78,14 +77,19 @@ pub(crate) fn type_keys(session: &mut Session, keys: &[u8], output: &mut Output)
 ///
 /// # Errors
 ///
-/// [`SessionError::Memory`] where the host has too little memory for a second machine: nothing is changed.
-pub(crate) fn go_back(alloc: Global, session: &mut Session, count: u64) -> Result<u64, SessionError>
+/// It was broken off, or the host has too little memory for a second machine: nothing is changed.
+pub(crate) fn go_back<P: Patience>(
+    alloc: Global,
+    session: &mut Session,
+    count: u64,
+    patience: &mut P,
+) -> Result<u64, PlayError>
     ensures back { IfOk result (λ _. WentBack (length session.old.events - count) session.old session.new) }
     ensures count { IfOk result (λ taken. taken ≡ min count (length session.old.events)) }
     ensures refused { IfErr result (λ _. session.new ≡ session.old) }
-    ensures memory { IfErr result (λ e. e ≡ SessionError.Memory) }
+    ensures unplayed { IfErr result (IsUnplayedBy P.may_end) }
 {
     let all = session.at();
-    session.back_to(alloc, all.saturating_sub(count))?;
+    session.back_to_within(alloc, all.saturating_sub(count), patience)?;
     Ok(count.min(all))
 }

@@ -4,4 +4,4 @@ use Rattle.xv_session.specs.Spans.{all_events}
 use Rattle.xv_session.proofs.playing.play_first.Given as goal
 
 abbrev pub invariant-loop-place : goal.invariant-loop-place
-invariant-loop-place l = (l.left ≡ l.most - length (all_events (take l.place l.spans))) × Follows (take l.most (all_events (take l.place l.spans))) l.fn.followed l.followed
+invariant-loop-place g l = (l.left ≡ l.most - length (all_events (take l.place l.spans))) × Follows (take l.most (all_events (take l.place l.spans))) l.fn.followed l.followed

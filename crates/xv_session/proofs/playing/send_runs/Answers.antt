@@ -4,18 +4,18 @@ use Rattle.xv_session.specs.Follows.{Follows}
 use Rattle.xv_session.proofs.LastSteps.{follows-sound, more-followed}
 use Rattle.xv_session.proofs.playing.send_runs.Goals as goal
 
-pub run-requires : goal.run-requires
-run-requires c = record { sound = follows-sound _ c.args.followed.now c.runs.followed c.requires c.runs.invariant.1 }
+pub run-sent-requires : goal.run-sent-requires
+run-sent-requires g c = record { sound = follows-sound _ c.args.followed.now c.runs.followed c.requires c.runs.invariant.1 }
 
 pub returns-clause-sound : goal.returns-clause-sound
-returns-clause-sound c = follows-sound _ c.args.followed.now c.runs.followed c.requires c.runs.invariant.1
+returns-clause-sound g c = follows-sound _ c.args.followed.now c.runs.followed c.requires c.runs.invariant.1
 
 pub runs-preserved : goal.runs-preserved
-runs-preserved c =
-    let sent = c.run.result.sent in
-    let few : sent ≤ c.runs.left = omega (arith, c.run.ensures.within, c.min-most.ensures) in
-    subst (λ n. (c.runs.left - n ≤ c.args.count) × Follows (replicate (c.args.count - (c.runs.left - n)) Run) c.args.followed.now c.run.new.self) (sym c.from-left.ensures) (
+runs-preserved g c =
+    let sent = c.run-sent.result.sent in
+    let few : sent ≤ c.runs.left = omega (arith, c.run-sent.ensures.within, c.min-most.ensures) in
+    subst (λ n. (c.runs.left - n ≤ c.args.count) × Follows (replicate (c.args.count - (c.runs.left - n)) Run) c.args.followed.now c.run-sent.new.self) (sym c.from-left.ensures) (
       omega (arith, c.runs.invariant.0),
-      more-followed c.args.count c.runs.left sent Run c.args.followed.now c.runs.followed c.run.new.self c.runs.invariant.0 few c.runs.invariant.1
-          c.run.ensures.follows,
+      more-followed c.args.count c.runs.left sent Run c.args.followed.now c.runs.followed c.run-sent.new.self c.runs.invariant.0 few c.runs.invariant.1
+          c.run-sent.ensures.follows,
     )

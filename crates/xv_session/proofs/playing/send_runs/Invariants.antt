@@ -4,7 +4,7 @@ use Rattle.xv_session.specs.Follows.{Follows}
 use Rattle.xv_session.proofs.playing.send_runs.Given as goal
 
 abbrev pub invariant-runs : goal.invariant-runs
-invariant-runs l = (l.left ≤ l.count) × Follows (replicate (l.count - l.left) runs.Run) l.fn.followed l.followed
+invariant-runs g l = (l.left ≤ l.count) × Follows (replicate (l.count - l.left) runs.Run) l.fn.followed l.followed
 
 abbrev pub decreases-runs : goal.decreases-runs
-decreases-runs l = l.left
+decreases-runs g l = l.left

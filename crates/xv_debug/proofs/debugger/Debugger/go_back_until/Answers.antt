@@ -13,4 +13,4 @@ returns-in-Ok-Some-clause-told g c =
 
 pub returns-in-Err-clause-told : goal.returns-in-Err-clause-told
 returns-in-Err-clause-told g c =
-    on_ok_weaker c.show_unknown.result (λ wrote. inr (c.in-Err.why, c.in-Err.ensures.unknown, c.in-Err.ensures.refused, wrote)) c.show_unknown.ensures
+    on_ok_weaker c.show_unplayed.result (λ wrote. inr (c.in-Err.why, c.in-Err.ensures.unplayed, c.in-Err.ensures.refused, wrote)) c.show_unplayed.ensures

@@ -13,7 +13,7 @@ use Rattle.xv_session.proofs.NamesLive.{anew-sound}
 use Rattle.xv_session.proofs.session.Session.followed_at.Goals as goal
 
 pub play-requires : goal.play-requires
-play-requires c =
+play-requires g c =
     let f = c.self.inside.config.frames in
     let t = c.self.inside.config.trace in
     let ps = map named_file c.in-Ok.programs.items in
@@ -23,7 +23,7 @@ play-requires c =
     (subst (λ (m : Meaning). HasEmptyTrace t m) same c.in-Ok-boot.ensures.trace) (c.new-followed.ensures.names ∙ ap (λ (m : Meaning). first_names m.world.state.programs) same)
 
 pub returns-clause-led : goal.returns-clause-led
-returns-clause-led c =
+returns-clause-led g c =
     let s = c.self.inside in
     let n = c.play.new.followed in
     let f = s.config.frames in
@@ -35,10 +35,10 @@ returns-clause-led c =
     (led-anew f t c.args.place s.followed.running.machine.world.state.programs ps s.history.events r.running n.running (c.in-Ok.ensures ∙ c.programs.ensures)
     (subst (λ (m : Meaning). Boots f (Ok m) (first f t ps)) same c.in-Ok-boot.ensures.boots) (subst (λ (m : Meaning). IsSoundMachine m) same c.in-Ok-boot.ensures.sound)
     (subst (λ (m : Meaning). HasEmptyTrace t m) same c.in-Ok-boot.ensures.trace) (c.new-followed.ensures.names ∙ ap (λ (m : Meaning). first_names m.world.state.programs) same)
-    (follows-goes (take c.args.place s.history.events) r n c.play.ensures.goes))
+    (follows-goes (take c.args.place s.history.events) r n c.in-Ok-play.ensures.goes))
 
 pub returns-clause-last : goal.returns-clause-last
-returns-clause-last c =
+returns-clause-last g c =
     let s = c.self.inside in
     let n = c.play.new.followed in
     let f = s.config.frames in
@@ -49,4 +49,4 @@ returns-clause-last c =
     subst (λ (old : Recorded). HasLast old.frames old.trace old.programs (take c.args.place old.events) n.running.machine n.last) c.self.view_is
     (last-anew f t c.args.place s.followed.running.machine.world.state.programs ps s.history.events r n (c.in-Ok.ensures ∙ c.programs.ensures)
     (subst (λ (m : Meaning). Boots f (Ok m) (first f t ps)) same c.in-Ok-boot.ensures.boots) (subst (λ (m : Meaning). IsSoundMachine m) same c.in-Ok-boot.ensures.sound)
-    (subst (λ (m : Meaning). HasEmptyTrace t m) same c.in-Ok-boot.ensures.trace) c.new-followed.ensures.last c.play.ensures.goes)
+    (subst (λ (m : Meaning). HasEmptyTrace t m) same c.in-Ok-boot.ensures.trace) c.new-followed.ensures.last c.in-Ok-play.ensures.goes)

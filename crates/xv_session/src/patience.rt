@@ -1,12 +1,12 @@
-//! How long a word may run.
+//! How long whoever waits for an answer will wait.
 ghost use Rattle.std.specs.Prelude.{◌≡◌, Bool, true, false};
 
-/// The patience of whoever waits for an answer. When it is over, the word that runs is broken off.
+/// The patience of whoever waits for an answer. When it is over, what runs for the answer is broken off.
 pub trait Patience {
     // Whether it may ever be over.
     ghost may_end: { Bool };
 
-    /// Whether it is over. A word asks after each stretch of its events, if more are to be sent.
+    /// Whether it is over. It is asked after each stretch of events, if more are to be sent.
     fn is_over(&mut self) -> bool
         ensures { result ≡ true → may_end ≡ true };
 }
