@@ -5,7 +5,6 @@ own that are tried, in this order, if its own crate is still proved. Without tha
 """
 import pathlib
 import re
-import shutil
 import subprocess
 import sys
 import tempfile
@@ -48,10 +47,10 @@ class Edit:
 
 
 def copy(names, room):
-    """Copies crates without what was built of them: the check of a copy begins with what other checks kept."""
-    for name in names:
-        shutil.copytree(TOP / "crates" / name, room / "crates" / name, ignore=shutil.ignore_patterns("out", "must-fail"))
-    shutil.copy(TOP / "HANDLES", room)
+    """Copies crates, with what earlier checks kept of them."""
+    (room / "crates").mkdir()
+    subprocess.run(["cp", "-a", *(TOP / "crates" / it for it in sorted(names)), room / "crates"], check=True)
+    subprocess.run(["cp", TOP / "HANDLES", room], check=True)
     (room / "crates.txt").write_text("".join(f"{it}\n" for it in LINES if it.split(":")[0].split()[0] in names), encoding="utf-8")
 
 
