@@ -40,7 +40,11 @@ pub struct Desk<R, C> {
 
 // The longest rest of a host of which a key ends a rest, or doesn't.
 fn longest_rest(woken: bool) -> Duration {
-    Duration::from_millis(if woken { WOKEN_REST_MILLIS } else { REST_MILLIS })
+    Duration::from_millis(if woken {
+        WOKEN_REST_MILLIS
+    } else {
+        REST_MILLIS
+    })
 }
 
 impl<R: Read, C: Clock> Desk<R, C> {
