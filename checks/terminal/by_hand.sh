@@ -310,7 +310,8 @@ keys Enter
 sleep 0.5
 line 'echo again' 50 '^again$' 2
 keys 'C-\'
-ended 4
+wait_for 50 '^host> *$'
+[ ! -d "/proc/$machine" ] || complain "the machine is still there"
 
 # A signal to the script ends it too; and so does the end of the window.
 for signal in TERM HUP INT QUIT; do
