@@ -1,7 +1,7 @@
 -- One instruction of the process that runs that uses nothing that is watched, or none.
-use Rattle.kcall_core.proofs.Prelude.{ℕ, ◌∙◌, ◌≡◌, ◌≢◌, ap, Bool, each_of, false, Hart, IsRunning, IsSome, IsSound, IsWhole, Kernel, List, live_now, Makes, MakesUnwatched, Memories, own, refl, RunsIn}
-use Rattle.kcall_core.proofs.Prelude.{slot_now, state_of, Stays, StepsUnwatched, stop_now, subst, sym, true, view_now}
-use Rattle.kcall_core.proofs.table.States.{running, Goes, goes-sound}
+use Rattle.kcall_core.proofs.Prelude.{ℕ, ◌≡◌, ap, Bool, false, Hart, IsRunning, IsSound, IsWhole, Kernel, List, live_now, MakesUnwatched, Memories, refl, RunsIn}
+use Rattle.kcall_core.proofs.Prelude.{slot_now, state_of, Stays, StepsUnwatched, true}
+use Rattle.kcall_core.proofs.table.States.{running, goes-sound}
 use Rattle.kcall_core.proofs.making.Instructions.{step-done, stays-same}
 use Rattle.rv64i_core.specs.declared.execution.Stop.TheVariants as stops
 use Rattle.kernel_spec.specs.steps.Cases as laws

@@ -1,6 +1,6 @@
 -- One instruction of the process in a slot.
-use Rattle.kcall_core.proofs.Prelude.{ℕ, ◌%◌, ◌/◌, ◌<◌, ◌∙◌, ◌≡◌, ◌≢◌, address_used, ap, AreDone, AreSound, arith, Belongs, Bool, Cause, Changed, each_of, Ecall, false, Fault, Fits, fits_hart}
-use Rattle.kcall_core.proofs.Prelude.{fits_root, FitsHart, frame_at, frame_of, free_in, free_of, get_or, Hart, held_at, image_of, InARow, instr, Instructed, IsLast, IsLastStep, last_fault, length}
+use Rattle.kcall_core.proofs.Prelude.{ℕ, ◌%◌, ◌/◌, ◌<◌, ◌≤◌, ◌∙◌, ◌≡◌, ◌≢◌, address_used, ap, AreDone, AreSound, arith, Belongs, Bool, Cause, Changed, each_of, Ecall, false, Fault, Fits, fits_hart}
+use Rattle.kcall_core.proofs.Prelude.{fits_root, FitsHart, frame_at, frame_of, free_in, free_of, get_or, Hart, held_at, image_of, InARow, instr, Instructed, last_fault, length}
 use Rattle.kcall_core.proofs.Prelude.{List, Memories, Next, None, Option, others_stay-set, owned, page_entry, pages_of, Pool, refl, Registers, regs_after, root_of, RunsIn, set, Some, Space, Stands}
 use Rattle.kcall_core.proofs.Prelude.{state_after, Step, step_in, Steps, StepsDone, StepsInARow, StepsUnwatched, Stop, stop_of, subst, suc, sym, trade-lengths, Translations, true, user, with_store}
 use Rattle.kcall_core.proofs.Prelude.{write_pages, zero}
@@ -9,6 +9,7 @@ use Rattle.addr_space.proofs.Freeing.{changed-none}
 use Rattle.addr_space.proofs.FromFrames.{leaf-of}
 use Rattle.rv64i_core.specs.Memory.{written}
 use Rattle.hart_core.specs.Steps.{Stepped}
+use Rattle.hart_core.specs.Rooms as rooms
 use Rattle.hart_core.specs.Watch.{IsUnwatched}
 use Rattle.hart_core.specs.UserMemory.{user_at, put_bytes, store_in, SpaceState, space_state, space_store}
 use Rattle.kcall_core.proofs.memory.Lists.{set-read}
@@ -122,22 +123,36 @@ next-no-fault cause e = cc
 pub ecall-no-fault : (cause : Cause) → stops.Ecall ≢ stops.Fault cause
 ecall-no-fault cause e = cc
 
+-- if there is no root, nothing is known
+none-stands : (ram : List (List ℕ)) → rooms.Stands ram None None
+none-stands ram r m none = absurd (cc)
+
+-- RAM is another, and what is known of its code
+record OnlyRam (old new : Memories) : Type 0 where
+  pool : new.pool ≡ old.pool
+  each : new.each.items ≡ old.each.items
+  pipes : new.pipes.items ≡ old.pipes.items
+
 -- one instruction, from where others have led
-one-step : (old : Memories) (slot : ℕ) (hart : Hart) (ram' : List (List ℕ)) (regs' : Registers) (cache' : Translations) (fault' : ℕ) (stop : Stop) → Ready old slot hart
-    → Instructed (root_of hart.root) old.ram hart.regs stop ram' regs' cache'
-    → fault' ≡ last_fault hart.fault_address (address_used hart.regs (user_at old.ram (root_of hart.root))) (instr hart.regs (user_at old.ram (root_of hart.root)))
-    → Steps old (record old { ram = ram' }) slot hart (record hart { regs = regs'; cache = cache'; fault_address = fault' }) stop
-one-step old slot hart ram' regs' cache' fault' stop ready one fault =
+one-step : (old new : Memories) (slot : ℕ) (hart : Hart) (ram ram' : List (List ℕ)) (regs' : Registers) (cache' : Translations) (fault' : ℕ) (stop : Stop) → Ready old slot hart → OnlyRam old new
+    → old.ram ≡ ram → new.ram ≡ ram' → Instructed (root_of hart.root) ram hart.regs stop ram' regs' cache'
+    → fault' ≡ last_fault hart.fault_address (address_used hart.regs (user_at ram (root_of hart.root))) (instr hart.regs (user_at ram (root_of hart.root)))
+    → Steps old new slot hart (record hart { regs = regs'; cache = cache'; fault_address = fault' }) stop
+one-step old new slot hart ram ram' regs' cache' fault' stop ready same from to instructed faulted =
     let r = ready.runs in
-    steps old (record old { ram = ram' }) slot hart (record hart { regs = regs'; cache = cache'; fault_address = fault' }) stop r (runs-stands old slot hart ready.sound r (runs-inside r))
+    let P = λ (x : List (List ℕ)). Instructed (root_of hart.root) x hart.regs stop ram' regs' cache' in
+    let Q = λ (x : List (List ℕ)). Instructed (root_of hart.root) old.ram hart.regs stop x regs' cache' in
+    let F = λ (x : List (List ℕ)). fault' ≡ last_fault hart.fault_address (address_used hart.regs (user_at x (root_of hart.root))) (instr hart.regs (user_at x (root_of hart.root))) in
+    let one = subst Q (sym to) (subst P (sym from) instructed) in
+    steps old new slot hart (record hart { regs = regs'; cache = cache'; fault_address = fault' }) stop r (runs-stands old slot hart ready.sound r (runs-inside r))
     (record {
       ends = one.ends;
       regs = one.regs_are;
       stepped = one.stepped;
       root = refl;
-      fits = fits_hart ram' hart.root r.memory.space.root cache' r.root (subst (λ x. Fits ram' x cache') (ap root_of r.root) one.fits);
-      fault = fault;
-    }) refl refl refl
+      fits = fits_hart new.ram hart.root r.memory.space.root cache' r.root (subst (λ x. Fits new.ram x cache') (ap root_of r.root) one.fits);
+      fault = subst F (sym from) faulted;
+    }) same.pool same.each same.pipes
 
 after-step : (old new : Memories) (slot : ℕ) (hart hart' : Hart) (stop : Stop) → Steps old new slot hart hart' stop → Ready new slot hart'
 after-step old new slot hart hart' stop s = record { sound = s.changes.sound; runs = s.runs }
@@ -153,54 +168,99 @@ module _ (old : Memories) (slot : ℕ) (hart : Hart) (ready : Ready old slot har
   quiet stop ram ram' regs regs' cache' one other = fault-stays stop (instr regs (user_at ram (root_of hart.root))) hart.fault_address
       (address_used regs (user_at ram (root_of hart.root))) one.ends other
 
-  series : (count : ℕ) (ram' : List (List ℕ)) (regs' : Registers) (cache' : Translations) → AreDone count (root_of hart.root) old.ram hart.regs hart.cache ram' regs' cache'
-      → AreThere count (record old { ram = ram' }) (record hart { regs = regs'; cache = cache' })
-  series zero ram' regs' cache' done =
-      subst (λ x. AreThere 0 (record old { ram = x }) (record hart { regs = regs'; cache = cache' })) (sym done.0)
-      (subst (λ x. AreThere 0 old (record hart { regs = x; cache = cache' })) (sym done.1)
-      (subst (λ x. AreThere 0 old (record hart { cache = x })) (sym done.2) ((refl, refl), ready)))
-  series (suc count) ram' regs' cache' (mid, mid_regs, mid_cache, before, one) =
-      let m = record old { ram = mid } in
-      let h = record hart { regs = mid_regs; cache = mid_cache } in
-      let so_far = series count mid mid_regs mid_cache before in
-      let step = one-step m slot h ram' regs' cache' hart.fault_address stops.Next so_far.1 one (quiet stops.Next mid ram' mid_regs regs' cache' one next-no-fault) in
-      ((m, h, so_far.0, step), after-step m (record old { ram = ram' }) slot h (record hart { regs = regs'; cache = cache' }) stops.Next step)
+  -- the memories with this RAM, and nothing known of its code
+  abbrev with-ram : List (List ℕ) → Memories
+  with-ram ram = record old { ram = ram; known = record { root = None; room = None }; stands = none-stands ram }
 
-  last-step : (most made : ℕ) (stop : Stop) (mid : List (List ℕ)) (mid_regs : Registers) (mid_cache : Translations) (ram' : List (List ℕ)) (regs' : Registers) (cache' : Translations) (fault' : ℕ)
-      → Ready (record old { ram = mid }) slot (record hart { regs = mid_regs; cache = mid_cache })
-      → IsLast (root_of hart.root) most made stop mid mid_regs mid_cache hart.fault_address ram' regs' cache' fault'
-      → IsLastStep slot most made stop (record old { ram = mid }) (record hart { regs = mid_regs; cache = mid_cache }) (record old { ram = ram' })
-      (record hart { regs = regs'; cache = cache'; fault_address = fault' })
-  last-step most made stops.Next mid mid_regs mid_cache ram' regs' cache' fault' so last =
-      (last.0, ap (λ x. record old { ram = x }) last.1, λ t. record hart { regs = last.2 t; cache = last.3 t; fault_address = last.4 t })
-  last-step most made stops.Ecall mid mid_regs mid_cache ram' regs' cache' fault' so last = (
-    last.0,
-    one-step (record old { ram = mid }) slot
-        (record hart { regs = mid_regs; cache = mid_cache }) ram' regs' cache' fault' stops.Ecall so last.1
-        (last.2 ∙ quiet stops.Ecall mid ram' mid_regs regs' cache' last.1 ecall-no-fault),
-  )
-  last-step most made (stops.Fault cause) mid mid_regs mid_cache ram' regs' cache' fault' so last =
-      (last.0, one-step (record old { ram = mid }) slot (record hart { regs = mid_regs; cache = mid_cache }) ram' regs' cache' fault' (stops.Fault cause) so last.1 last.2)
+  -- the hart once so many instructions led to these registers
+  abbrev at : Registers → Translations → Hart
+  at regs cache = record hart { regs = regs; cache = cache }
 
-  in-a-row : (most made : ℕ) (stop : Stop) (ram' : List (List ℕ)) (regs' : Registers) (cache' : Translations) (fault' : ℕ)
+  -- none did
+  still : (regs : Registers) (cache : Translations) → regs ≡ hart.regs → cache ≡ hart.cache → AreThere 0 old (at regs cache)
+  still regs cache a b =
+      let same : at regs cache ≡ hart = λ t. record hart { regs = a t; cache = b t } in
+      ((refl, same), subst (λ h. Ready old slot h) (sym same) ready)
+
+  -- one more than so many lead to these memories
+  series : (count : ℕ) (ram' : List (List ℕ)) (regs' : Registers) (cache' : Translations) (new : Memories) → OnlyRam old new → new.ram ≡ ram'
+      → AreDone (suc count) (root_of hart.root) old.ram hart.regs hart.cache ram' regs' cache' → AreThere (suc count) new (at regs' cache')
+  series zero ram' regs' cache' new same is (mid, mid_regs, mid_cache, before, one) =
+      let h = at mid_regs mid_cache in
+      let so_far = still mid_regs mid_cache before.1 before.2 in
+      let step = one-step old new slot h mid ram' regs' cache' hart.fault_address stops.Next so_far.1 same (sym before.0) is one (quiet stops.Next mid ram' mid_regs regs' cache' one next-no-fault) in
+      ((old, h, so_far.0, step), after-step old new slot h (at regs' cache') stops.Next step)
+  series (suc count) ram' regs' cache' new same is (mid, mid_regs, mid_cache, before, one) =
+      let m = with-ram mid in
+      let h = at mid_regs mid_cache in
+      let so_far = series count mid mid_regs mid_cache m (record { pool = refl; each = refl; pipes = refl }) refl before in
+      let beside : OnlyRam m new = record { pool = same.pool; each = same.each; pipes = same.pipes } in
+      let step = one-step m new slot h mid ram' regs' cache' hart.fault_address stops.Next so_far.1 beside refl is one (quiet stops.Next mid ram' mid_regs regs' cache' one next-no-fault) in
+      ((m, h, so_far.0, step), after-step m new slot h (at regs' cache') stops.Next step)
+
+  -- where so many lead
+  record Reached (count : ℕ) (ram : List (List ℕ)) (h : Hart) (new : Memories) : Type 0 where
+    memories : Memories
+    is : memories.ram ≡ ram
+    same : OnlyRam memories new
+    there : AreThere count memories h
+
+  reached : (count : ℕ) (mid : List (List ℕ)) (mid_regs : Registers) (mid_cache : Translations) (new : Memories) → OnlyRam old new
+      → AreDone count (root_of hart.root) old.ram hart.regs hart.cache mid mid_regs mid_cache → Reached count mid (at mid_regs mid_cache) new
+  reached zero mid mid_regs mid_cache new same done = record { memories = old; is = sym done.0; same = same; there = still mid_regs mid_cache done.1 done.2 }
+  reached (suc count) mid mid_regs mid_cache new same done = record {
+    memories = with-ram mid;
+    is = refl;
+    same = record { pool = same.pool; each = same.each; pipes = same.pipes };
+    there = series count mid mid_regs mid_cache (with-ram mid) (record { pool = refl; each = refl; pipes = refl }) refl done;
+  }
+
+  in-a-row : (most made : ℕ) (stop : Stop) (new : Memories) (ram' : List (List ℕ)) (regs' : Registers) (cache' : Translations) (fault' : ℕ) → 1 ≤ most → OnlyRam old new → new.ram ≡ ram'
       → InARow (root_of hart.root) most made stop old.ram hart.regs hart.cache hart.fault_address ram' regs' cache' fault'
-      → StepsInARow slot most made stop old hart (record old { ram = ram' }) (record hart { regs = regs'; cache = cache'; fault_address = fault' })
-  in-a-row most made stop ram' regs' cache' fault' row =
-      let there = series made row.mid row.mid_regs row.mid_cache row.done in
+      → StepsInARow slot most made stop old hart new (record hart { regs = regs'; cache = cache'; fault_address = fault' })
+  in-a-row most zero stops.Next new ram' regs' cache' fault' some same is row = let none = row.last.0 in absurd (omega (arith, some, none))
+  in-a-row most (suc made) stops.Next new ram' regs' cache' fault' some same is row =
+      let last = row.last in
+      let there = series made row.mid row.mid_regs row.mid_cache new same (is ∙ last.1) row.done in
       record {
-        mid = record old { ram = row.mid };
-        between = record hart { regs = row.mid_regs; cache = row.mid_cache };
+        mid = new;
+        between = at row.mid_regs row.mid_cache;
         done = there.0;
-        last = last-step most made stop row.mid row.mid_regs row.mid_cache ram' regs' cache' fault' there.1 row.last;
+        last = (last.0, refl, λ t. record hart { regs = last.2 t; cache = last.3 t; fault_address = last.4 t });
+      }
+  in-a-row most made stops.Ecall new ram' regs' cache' fault' some same is row =
+      let last = row.last in
+      let r = reached made row.mid row.mid_regs row.mid_cache new same row.done in
+      record {
+        mid = r.memories;
+        between = at row.mid_regs row.mid_cache;
+        done = r.there.0;
+        last = (
+          last.0,
+          one-step r.memories new slot (at row.mid_regs row.mid_cache) row.mid ram' regs' cache' fault' stops.Ecall r.there.1 r.same r.is is last.1
+              (last.2 ∙ quiet stops.Ecall row.mid ram' row.mid_regs regs' cache' last.1 ecall-no-fault),
+        );
+      }
+  in-a-row most made (stops.Fault cause) new ram' regs' cache' fault' some same is row =
+      let last = row.last in
+      let r = reached made row.mid row.mid_regs row.mid_cache new same row.done in
+      record {
+        mid = r.memories;
+        between = at row.mid_regs row.mid_cache;
+        done = r.there.0;
+        last = (last.0, one-step r.memories new slot (at row.mid_regs row.mid_cache) row.mid ram' regs' cache' fault' (stops.Fault cause) r.there.1 r.same r.is is last.1 last.2);
       }
 
 -- the hart as it is behind them
-pub steps-in-a-row : (old : Memories) (slot : ℕ) (hart hart' : Hart) (ram' : List (List ℕ)) (most made : ℕ) (stop : Stop) → AreSound old → RunsIn old slot hart → hart'.root ≡ hart.root
-    → InARow (root_of hart.root) most made stop old.ram hart.regs hart.cache hart.fault_address ram' hart'.regs hart'.cache hart'.fault_address
-    → StepsInARow slot most made stop old hart (record old { ram = ram' }) hart'
-steps-in-a-row old slot hart hart' ram' most made stop sound runs root row =
-    let P = λ (h : Hart). StepsInARow slot most made stop old hart (record old { ram = ram' }) h in
-    subst P (λ t. record hart' { root = sym root t }) (in-a-row old slot hart (record { sound = sound; runs = runs }) most made stop ram' hart'.regs hart'.cache hart'.fault_address row)
+pub steps-in-a-row : (old new : Memories) (slot : ℕ) (hart hart' : Hart) (most made : ℕ) (stop : Stop) → 1 ≤ most → AreSound old → RunsIn old slot hart → hart'.root ≡ hart.root
+    → new.pool ≡ old.pool → new.each.items ≡ old.each.items → new.pipes.items ≡ old.pipes.items
+    → InARow (root_of hart.root) most made stop old.ram hart.regs hart.cache hart.fault_address new.ram hart'.regs hart'.cache hart'.fault_address
+    → StepsInARow slot most made stop old hart new hart'
+steps-in-a-row old new slot hart hart' most made stop some sound runs root pool each pipes row =
+    let P = λ (h : Hart). StepsInARow slot most made stop old hart new h in
+    let same : OnlyRam old new = record { pool = pool; each = each; pipes = pipes } in
+    subst P (λ t. record hart' { root = sym root t })
+    (in-a-row old slot hart (record { sound = sound; runs = runs }) most made stop new new.ram hart'.regs hart'.cache hart'.fault_address some same refl row)
 
 -- ---- one that uses nothing that is watched
 
@@ -213,30 +273,33 @@ pub record Guarded (addresses bytes : List ℕ) (made : Bool) (ram ram' : List (
   pub fault : hart'.fault_address ≡ hart.fault_address
   pub fits : FitsHart ram' hart'.root hart'.cache
 
-module _ (old : Memories) (slot : ℕ) (hart hart' : Hart) (ram' : List (List ℕ)) (addresses bytes : List ℕ) (sound : AreSound old) (r : RunsIn old slot hart) where
+module _ (old new : Memories) (slot : ℕ) (hart hart' : Hart) (addresses bytes : List ℕ) (sound : AreSound old) (r : RunsIn old slot hart) where
   seen-here : user_at old.ram (root_of hart.root) ≡ user (held_at (each_of old) slot).image
   seen-here =
       ap (user_at old.ram) (ap root_of r.root) ∙ user-space old.ram r.memory.space
       ∙ ap user (sym (image-seen (runs-stands old slot hart sound r (runs-inside r))))
 
-  pub steps-unwatched : (made : Bool) → Guarded addresses bytes made old.ram ram' hart hart' → StepsUnwatched addresses bytes made old (record old { ram = ram' }) slot hart hart'
-  steps-unwatched true g =
-      let (one, free) = g.done refl in
+  pub unwatched-done : (made : Bool) → made ≡ true → Guarded addresses bytes made old.ram new.ram hart hart' → new.pool ≡ old.pool → new.each.items ≡ old.each.items → new.pipes.items ≡ old.pipes.items
+      → StepsUnwatched addresses bytes true old new slot hart hart'
+  unwatched-done made is g pool each pipes =
+      let (one, free) = g.done is in
       let before = user_at old.ram (root_of hart.root) in (
         record { spares = subst (IsUnwatched addresses bytes hart.regs) seen-here free; done = sym (ap (λ m. stop_of (instr hart.regs m)) seen-here) ∙ sym one.ends },
-        steps old (record old { ram = ram' }) slot hart hart' stops.Next r (runs-stands old slot hart sound r (runs-inside r)) (record {
+        steps old new slot hart hart' stops.Next r (runs-stands old slot hart sound r (runs-inside r)) (record {
           ends = one.ends;
           regs = one.regs_are;
           stepped = one.stepped;
           root = g.root;
           fits = g.fits;
           fault = g.fault ∙ fault-stays stops.Next (instr hart.regs before) hart.fault_address (address_used hart.regs before) one.ends next-no-fault;
-        }) refl refl refl,
+        }) pool each pipes,
       )
-  steps-unwatched false g =
-      let (ram, regs) = g.kept refl in (
-        λ goes. g.refused refl (subst (IsUnwatched addresses bytes hart.regs) (sym seen-here) goes.spares) (ap (λ m. stop_of (instr hart.regs m)) seen-here ∙ goes.done),
-        ap (λ x. record old { ram = x }) ram,
+
+  pub unwatched-refused : (made : Bool) → made ≡ false → Guarded addresses bytes made old.ram new.ram hart hart' → new ≡ old → StepsUnwatched addresses bytes false old new slot hart hart'
+  unwatched-refused made is g same =
+      let (ram, regs) = g.kept is in (
+        λ goes. g.refused is (subst (IsUnwatched addresses bytes hart.regs) (sym seen-here) goes.spares) (ap (λ m. stop_of (instr hart.regs m)) seen-here ∙ goes.done),
+        same,
         regs,
         record {
           memory = r.memory;

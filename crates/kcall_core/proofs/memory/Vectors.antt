@@ -1,5 +1,7 @@
--- A vector is told by its parts: two with the same elements in the same place are one.
-use Rattle.kcall_core.proofs.Prelude.{◌≡◌, ap, List, subst, sym}
+-- A vector is told by its parts: two with the same elements in the same place are one. So it is with the memories of a kernel.
+use Rattle.kcall_core.proofs.Prelude.{ℕ, ◌∙◌, ◌≡◌, ap, List, Memories, Pool, subst, sym}
+use Rattle.std.proofs.Props.{props}
+use Rattle.hart_core.specs.Rooms as rooms
 use Rattle.std.specs.declared.vec.Vec.{Vec, ok-type}
 use Rattle.std.proofs.Math.Bridge.{le_prop}
 use native.Mathlib.Nat.{ℕ_set}
@@ -11,3 +13,14 @@ vec-same {X} {Z} v items ok e =
   where
     one-fact : (xs : List X) (a b : ok-type X Z v.ptr v.len v.cap v.alloc xs) → a ≡ b
     one-fact xs = hlevel (le_prop, ℕ_set)
+
+-- memories are told by RAM, the free frames and the slots, if the rest is the same
+pub memories-same : (m : Memories) (ram : List (List ℕ)) (fact : rooms.Stands ram m.known.root m.known.room) → ram ≡ m.ram → record m { ram = ram; stands = fact } ≡ m
+memories-same m ram fact e =
+    let one : (f g : rooms.Stands m.ram m.known.root m.known.room) → f ≡ g = hlevel (props) in
+    subst (λ (x : List (List ℕ)). (f : rooms.Stands x m.known.root m.known.room) → record m { ram = x; stands = f } ≡ m) (sym e)
+    (λ f. ap (λ (g : rooms.Stands m.ram m.known.root m.known.room). record m { stands = g }) (one f m.stands)) fact
+
+pub memories-back : (m : Memories) (ram : List (List ℕ)) (fact : rooms.Stands ram m.known.root m.known.room) (pool : Pool) (each : _) → ram ≡ m.ram → pool ≡ m.pool
+    → each ≡ m.each → record m { ram = ram; stands = fact; pool = pool; each = each } ≡ m
+memories-back m ram fact pool each a b d = (λ t. record m { ram = ram; stands = fact; pool = b t; each = d t }) ∙ memories-same m ram fact a

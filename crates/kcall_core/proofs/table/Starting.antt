@@ -3,7 +3,7 @@ use Rattle.kcall_core.proofs.Prelude.{ℕ, ℤ, ◌+◌, ◌-◌, ◌<◌, ◌�
 use Rattle.kcall_core.proofs.Prelude.{first_process, first_regs, first_state, free_of, fresh, gathered, get_or, get_or-set_other, get_or-set_same, Hart, HasMemory, HasNoProcess, Held, held_at}
 use Rattle.kcall_core.proofs.Prelude.{held_cost, held_in, inl, inr, insert, is_this, IsSome, IsSound, IsTable, IsVacant, Kernel, length, length-map, Loaded, map, Memories, Memory, named_file, newborn}
 use Rattle.kcall_core.proofs.Prelude.{no_process, None, none-some, none_named, none_open, NPROC, open_file_at, OPEN_FILES, or_nothing, pipes_of, place_at, price, Process, process_of, refl, Registers}
-use Rattle.kcall_core.proofs.Prelude.{Same, same_Some, set, slot_for_new, SlotChanges, Slots, Some, State, state_of, status_of, subst, sym, table_new, with_new, with_saved}
+use Rattle.kcall_core.proofs.Prelude.{same_Some, set, slot_for_new, SlotChanges, Slots, Some, State, state_of, status_of, subst, sym, table_new, with_new, with_saved}
 use Rattle.kcall_core.proofs.table.ByPid.{by_pid-insert}
 use Rattle.kcall_core.proofs.memory.Births.{get_or-same}
 use Rattle.kcall_core.proofs.memory.Changes.{each-at}

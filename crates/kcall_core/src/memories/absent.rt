@@ -66,7 +66,12 @@ impl Memories {
             .space
             .map_zeroed(&mut self.pool, &mut self.ram, vpn, Perm::data());
         self.each[slot] = Some(memory);
-        came.is_ok()
+        let is_there = came.is_ok();
+        if !is_there {
+            return false;
+        }
+        self.known.root = None;
+        true
     }
 
     /// The absent pages in which one of so many bytes from an address on lies come, with zeros. They come if
@@ -108,6 +113,7 @@ impl Memories {
         let Some(mut memory) = self.each[slot].take() else {
             unreachable!();
         };
+        self.known.root = None;
         let Ok(()) = memory
             .space
             .touch(&mut self.pool, &mut self.ram, address, len)

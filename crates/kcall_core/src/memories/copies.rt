@@ -59,6 +59,7 @@ impl Memories {
         ensures runs { (hart : Hart) → RunsIn self.old slot hart → RunsIn self.new slot hart }
     {
         let memory = memory_in(&self.each, slot);
+        self.known.root = None;
         memory.space.write_across(&mut self.ram, address, bytes);
     }
 
@@ -80,6 +81,7 @@ impl Memories {
             × Same self.old self.new) }
     {
         let memory = memory_in(&self.each, slot);
+        self.known.root = None;
         user_copy::copy_out(&memory.space, &mut self.ram, address, bytes)
     }
 

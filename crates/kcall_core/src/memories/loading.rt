@@ -31,6 +31,7 @@ impl Memories {
         if u64::from(self.pool.free()) <= plan.price() {
             return Err(NoFrames);
         }
+        self.known.root = None;
         let Some(trapframe) = self.pool.take(&mut self.ram) else {
             unreachable!();
         };
@@ -67,6 +68,7 @@ impl Memories {
         ensures refused { IfErr result (λ _.
             (free_of self.old < price plan.entry.image) × Same self.old self.new × (hart.new ≡ hart.old)) }
     {
+        self.known.root = None;
         let Ok((new, start)) = build(plan, &mut self.pool, &mut self.ram) else {
             return Err(NoFrames);
         };

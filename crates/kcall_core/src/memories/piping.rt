@@ -37,6 +37,7 @@ impl Memories {
         ensures made { IfSome result (λ f. PipeChanges self.old self.new f (Some new_pipe)) }
         ensures refused { IfNone result ((free_of self.old ≡ 0) × Same self.old self.new) }
     {
+        self.known.root = None;
         let frame = self.pool.take(&mut self.ram)?;
         pipe_core::make(&mut self.ram, frame);
         self.pipes[frame.index()] = true;
@@ -50,6 +51,7 @@ impl Memories {
         ensures { PipeChanges self.old self.new frame None }
     {
         self.pipes[frame.index()] = false;
+        self.known.root = None;
         self.pool.give(&mut self.ram, frame);
     }
 
@@ -137,6 +139,7 @@ impl Memories {
         requires room { count_on end (pipe_named (pipes_of self.old) frame) < END_COUNT_MAX }
         ensures { PipeChanges self.old self.new frame (Some (joined (pipe_named (pipes_of self.old) frame) end 1)) }
     {
+        self.known.root = None;
         match end {
             End::Reading => pipe_core::add_reader(&mut self.ram, frame),
             End::Writing => pipe_core::add_writer(&mut self.ram, frame),
@@ -150,6 +153,7 @@ impl Memories {
         requires some { 1 ≤ count_on end (pipe_named (pipes_of self.old) frame) }
         ensures { PipeChanges self.old self.new frame (Some (parted (pipe_named (pipes_of self.old) frame) end 1)) }
     {
+        self.known.root = None;
         match end {
             End::Reading => pipe_core::drop_reader(&mut self.ram, frame),
             End::Writing => pipe_core::drop_writer(&mut self.ram, frame),
@@ -208,6 +212,7 @@ impl Memories {
             (pipe_named (pipes_of self.old) frame))) }
     {
         let memory = memory_in(&self.each, slot);
+        self.known.root = None;
         user_copy::push_to_pipe(&memory.space, &mut self.ram, frame, address, count);
     }
 
@@ -247,6 +252,7 @@ impl Memories {
         ensures runs { (hart : Hart) → RunsIn self.old slot hart → RunsIn self.new slot hart }
     {
         let memory = memory_in(&self.each, slot);
+        self.known.root = None;
         user_copy::copy_from_pipe(&memory.space, &mut self.ram, frame, address, count);
     }
 
@@ -258,6 +264,7 @@ impl Memories {
         ensures { PipeChanges self.old self.new frame
             (Some (without_first count (pipe_named (pipes_of self.old) frame))) }
     {
+        self.known.root = None;
         pipe_core::drop_first(&mut self.ram, frame, count);
     }
 

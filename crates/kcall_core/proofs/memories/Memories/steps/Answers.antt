@@ -1,4 +1,4 @@
-use Rattle.kcall_core.proofs.Prelude.{ℕ, ap, IsTree, root_of, subst, sym}
+use Rattle.kcall_core.proofs.Prelude.{ℕ, ◌≤◌, ap, arith, IsTree, refl, root_of, subst, sym}
 use Rattle.kcall_core.proofs.memory.Stepping.{steps-in-a-row}
 use Rattle.kcall_core.proofs.memories.Memories.steps.Goals as goal
 
@@ -10,4 +10,9 @@ steps-requires-clause-tree c =
 
 pub returns : goal.returns
 returns c slot r =
-    steps-in-a-row c.args.self.now slot c.args.hart.now c.steps.new.self _ c.args.most c.steps.result.made c.steps.result.stop c.requires.sound r c.steps.ensures.root c.steps.ensures.row
+    let some : 1 ≤ c.args.most = let none = c.if-most-eq0.false in omega (arith, none) in
+    steps-in-a-row c.args.self.now _ slot c.args.hart.now c.steps.new.hart c.args.most c.steps.result.made c.steps.result.stop some
+    c.requires.sound r c.steps.ensures.root refl refl refl c.steps.ensures.row
+
+pub returns-then-most-eq0 : goal.returns-then-most-eq0
+returns-then-most-eq0 c slot r = record { mid = c.args.self.now; between = c.args.hart.now; done = (refl, refl); last = (sym c.if-most-eq0.true, refl, refl) }

@@ -1,5 +1,5 @@
 use Rattle.kcall_core.proofs.Prelude.{ℕ, ◌<◌, ◌≡◌, ◌≤◌, FitsBut, is_between, kept_frame, List}
-use Rattle.kcall_core.proofs.memories.forget_from.Given as goal
+use Rattle.kcall_core.proofs.memories.forgetting.forget_from.Given as goal
 
 abbrev pub invariant-loop-page : goal.invariant-loop-page
 invariant-loop-page l = record {

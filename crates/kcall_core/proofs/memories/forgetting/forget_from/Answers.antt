@@ -1,6 +1,6 @@
 use Rattle.kcall_core.proofs.Prelude.{ℕ, ◌∙◌, ap, arith, but_not, fits_root, FitsBut, Hart, is_between, subst}
 use Rattle.kcall_core.proofs.memory.Runs.{but-next, but-none}
-use Rattle.kcall_core.proofs.memories.forget_from.Goals as goal
+use Rattle.kcall_core.proofs.memories.forgetting.forget_from.Goals as goal
 
 pub returns-then-first-end-clause-fits : goal.returns-then-first-end-clause-fits
 returns-then-first-end-clause-fits c ram f = fits_root ram c.switch.new.self.root c.args.root c.switch.new.self.cache (ap (λ (h : Hart). h.root) c.switch.ensures.value) (c.switch.ensures.fits ram)
