@@ -11,4 +11,5 @@ pub mod Serving
 pub mod Shows
 pub mod Stood
 pub mod Watching
+mod WorkedBefore
 mod WorkedRows

@@ -1,10 +1,11 @@
 -- Stretches and looks, one after another.
-use Rattle.std.proofs.Common.{◌≡◌, ◌∙◌, ℕ, zero, suc, ◌+◌, ◌<◌, inl, inr, length, refl, sym, ap, subst, arith, Option, None, Some}
+use Rattle.std.proofs.Common.{◌≡◌, ◌⊎◌, ◌∙◌, ℕ, zero, suc, ◌+◌, ◌<◌, ◌≤◌, inl, inr, length, refl, sym, ap, subst, arith, Option, None, Some}
 use Rattle.std.specs.Prelude.{IfSome}
 use Rattle.kernel_spec.specs.runs.Run.{Outcome}
 use Rattle.gdb_packets.specs.declared.answers.StopReason.{StopReason}
 use Rattle.gdb_packets.specs.declared.answers.StopReason.TheVariants.{Watch}
-use Rattle.gdb_target.specs.Forth.{Passed, Stretch, IsJudged, IsStopFor, Goes, GoesBy, halted_of, is_step, standing}
+use Rattle.gdb_target.specs.Before.{told_before}
+use Rattle.gdb_target.specs.Forth.{Passed, Stretch, IsJudged, IsStopFor, Goes, GoesBy, Stands, TellsIf, halted_of, is_step, standing}
 use Rattle.gdb_target.specs.LastHit.{IsPointHit, Looked, Looks, later}
 use Rattle.gdb_target.specs.declared.reverse.Back.{Back}
 use Rattle.gdb_target.specs.declared.reverse.Back.TheVariants as backs
@@ -19,21 +20,33 @@ use Rattle.gdb_target.proofs.Rows.{IsRow}
 
 -- ---- forth
 
+-- Runs, one at most or as many as it is, are one
+pub one-or : {U : Type 0} (most old new : ℕ) → (most ≡ 1) ⊎ U → old < new → new ≤ old + most → (new ≡ old + 1) ⊎ U
+one-or most old new (inl one) more within = inl (omega (arith, one, more, within))
+one-or most old new (inr free) more within = inr free
+
 module _ (until : Until) where
-  pub judged-goes : (from mid new : Target) (o : Outcome) (p : Option Pause) → Stretch until from mid o → IsJudged (is_step until o) mid p new → Goes until from p new
-  judged-goes from mid new o None stretch (inl told) = absurd told
-  judged-goes from mid new o None stretch (inr (same, stands)) =
+  -- the stop before what came is told
+  told-goes : (from mid new : Target) (o : Outcome) (p : Option Pause) (before : Option stops.Stopped) → Stretch until from mid o → told_before o ≡ before → TellsIf before mid p new
+      → Goes until from p new
+  told-goes from mid new o p None stretch is told = absurd told
+  told-goes from mid new o p (Some s) stretch is told = subst (λ (q : Option Pause). Goes until from q new) (sym told.pause_is)
+      (inl (record { happened = mid; outcome = o; stretch = stretch; told = is; back = told.back }))
+
+  stands-goes : (from mid new : Target) (o : Outcome) (p : Option Pause) → Stretch until from mid o → new ≡ mid → Stands (is_step until o) new p → Goes until from p new
+  stands-goes from mid new o None stretch same stands =
       record { outcome = o; stretch = subst (λ (t : Target). Stretch until from t o) (sym same) stretch; no_step = stands.0; nobody = stands.1 }
-  judged-goes from mid new o (Some Shows) stretch (inl told) = absurd told
-  judged-goes from mid new o (Some Shows) stretch (inr (same, stands)) = absurd stands
-  judged-goes from mid new o (Some (Stopped s)) stretch (inl told) = inl told
-  judged-goes from mid new o (Some (Stopped s)) stretch (inr (same, (why, trap))) = inr (record {
+  stands-goes from mid new o (Some Shows) stretch same stands = absurd stands
+  stands-goes from mid new o (Some (Stopped s)) stretch same (why, trap) = inr (record {
     outcome = o;
     stretch = subst (λ (t : Target). Stretch until from t o) (sym same) stretch;
     is = subst (λ (r : StopReason). IsStopFor (is_step until o) r s.pid new) (sym why) trap;
   })
-  judged-goes from mid new o (Some (Ended status)) stretch (inl told) = absurd told
-  judged-goes from mid new o (Some (Ended status)) stretch (inr (same, stands)) = absurd stands
+  stands-goes from mid new o (Some (Ended status)) stretch same stands = absurd stands
+
+  pub judged-goes : (from mid new : Target) (o : Outcome) (p : Option Pause) → Stretch until from mid o → IsJudged (told_before o) (is_step until o) mid p new → Goes until from p new
+  judged-goes from mid new o p stretch (inl told) = told-goes from mid new o p (told_before o) stretch refl told
+  judged-goes from mid new o p stretch (inr (same, stands)) = stands-goes from mid new o p stretch same stands
 
   pub passed-join : (n m : ℕ) (a b c : Target) → Passed until n a b → Passed until m b c → (k : ℕ) × Passed until k a c
   passed-join n zero a b c p same = (n, subst (λ (t : Target). Passed until n a t) (sym same) p)
@@ -52,7 +65,7 @@ module _ (until : Until) where
   all-passed a c g = (g.stretches, subst (λ (t : Target). Passed until g.stretches a t) (sym g.ends) g.passed)
 
 -- a row, and what is judged of it
-pub row-goes : (a mid new : Target) (o : Outcome) (p : Option Pause) → IsRow a o mid → IsJudged (is_step Point o) mid p new → GoesBy Point a p new
+pub row-goes : (a mid new : Target) (o : Outcome) (p : Option Pause) → IsRow a o mid → IsJudged (told_before o) (is_step Point o) mid p new → GoesBy Point a p new
 row-goes a mid new o p row judged =
     goes-further Point row.stretches a row.last new p row.passed (goes-once Point row.last new p (judged-goes Point row.last mid new o p row.stretch judged))
 

@@ -1,15 +1,18 @@
 -- What a command that goes on goes by, and where it ends.
-use Rattle.std.specs.Prelude.{◌≡◌, ◌⊎◌, ℕ, ℤ, zero, suc, ◌+◌, Bool, true, false, not, ◌==◌, ◌&&◌, length, Option, None, Some, is_none}
+use Rattle.std.specs.Prelude.{◌≡◌, ◌⊎◌, ℕ, ℤ, zero, suc, ◌+◌, ◌-◌, Bool, true, false, not, ◌==◌, ◌&&◌, length, Option, None, Some, is_none}
 use Rattle.kernel_spec.specs.steps.Own.{Answer, Stepped, Called, Blocked, Exited, Faulted}
 use Rattle.kernel_spec.specs.runs.Run as runs
 use Rattle.kernel_spec.specs.runs.Run.{Outcome}
 use Rattle.gdb_packets.specs.declared.answers.StopReason.{StopReason}
 use Rattle.gdb_packets.specs.declared.answers.StopReason.TheVariants as why
+use Rattle.gdb_target.specs.Before.{told_before}
 use Rattle.gdb_target.specs.Came.{Comes}
+use Rattle.gdb_target.specs.SameRun.{beginning}
 use Rattle.gdb_target.specs.Standing.{stander}
 use Rattle.gdb_target.specs.declared.points.Points.{Points}
 use Rattle.gdb_target.specs.declared.target.Pause.{Pause}
 use Rattle.gdb_target.specs.declared.target.Pause.TheVariants.{Shows, Stopped, Ended}
+use Rattle.gdb_target.specs.declared.target.Stopped as stops
 use Rattle.gdb_target.specs.declared.target.Target.{Target}
 use Rattle.gdb_target.specs.declared.target.Until.{Until}
 use Rattle.gdb_target.specs.declared.target.Until.TheVariants.{Point, StepOf, AnyStep}
@@ -103,9 +106,19 @@ IsStopFor done why.Trap p t = IsTrap done p t
 IsStopFor done (why.Watch address) p t = halted_of t ≡ None
 IsStopFor done _ p t = ⊥
 
--- the machine stands right before a fault, or before its end, which is told before it happens
-abbrev pub IsBeforeTold : Target → Type 0
-IsBeforeTold t = t.told ≡ Some (length t.run.session.events)
+-- From the place to which the run had come it went back by one event, and notes that this place was told
+pub record IsOneBack (old new : Target) : Type 0 where
+  pub same : beginning new.run ≡ beginning old.run
+  pub back : length new.run.session.events ≡ length old.run.session.events - 1
+  pub noted : new.told ≡ Some (length new.run.session.events)
+
+-- The next event of the run makes the fault, or ends process 1, and the stop is the one that is told before that. The last stretch led to there, and the run went back by this event
+pub record IsBeforeTold (until : Until) (from : Target) (stopped : stops.Stopped) (to : Target) : Type 0 where
+  pub happened : Target
+  pub outcome : Outcome
+  pub stretch : Stretch until from happened outcome
+  pub told : told_before outcome ≡ Some stopped
+  pub back : IsOneBack happened to
 
 -- the last stretch led to the stop
 pub record IsStop (until : Until) (from : Target) (reason : StopReason) (p : ℕ) (to : Target) : Type 0 where
@@ -117,7 +130,7 @@ pub record IsStop (until : Until) (from : Target) (reason : StopReason) (p : ℕ
 abbrev pub Goes : Until → (from : Target) → Option Pause → (to : Target) → Type 0
 Goes until from None to = IsPassed until from to
 Goes until from (Some Shows) to = IsPassed until from to
-Goes until from (Some (Stopped s)) to = IsBeforeTold to ⊎ IsStop until from s.reason s.pid to
+Goes until from (Some (Stopped s)) to = IsBeforeTold until from s to ⊎ IsStop until from s.reason s.pid to
 Goes until from (Some (Ended status)) to = halted_of to ≡ Some status
 
 abbrev pub EndsBy : Until → (from : Target) → Option Pause → (to : Target) → Type 0
@@ -140,15 +153,18 @@ Stands done t (Some Shows) = ⊥
 Stands done t (Some (Stopped s)) = (s.reason ≡ why.Trap) × IsTrap done s.pid t
 Stands done t (Some (Ended status)) = ⊥
 
--- it went back by one event, and tells of it
-abbrev pub Tells : Option Pause → Target → Type 0
-Tells None t = ⊥
-Tells (Some Shows) t = ⊥
-Tells (Some (Stopped s)) t = IsBeforeTold t
-Tells (Some (Ended status)) t = ⊥
+-- this stop is told, and the run went back by one event
+pub record Tells (stopped : stops.Stopped) (old : Target) (pause : Option Pause) (new : Target) : Type 0 where
+  pub pause_is : pause ≡ Some (Stopped stopped)
+  pub back : IsOneBack old new
 
-abbrev pub IsJudged : (done : Bool) → (old : Target) → Option Pause → (new : Target) → Type 0
-IsJudged done old pause new = Tells pause new ⊎ ((new ≡ old) × Stands done new pause)
+abbrev pub TellsIf : Option stops.Stopped → (old : Target) → Option Pause → (new : Target) → Type 0
+TellsIf None old pause new = ⊥
+TellsIf (Some stopped) old pause new = Tells stopped old pause new
+
+-- the stop that is told before what came, if there is one; or what stands here
+abbrev pub IsJudged : (before : Option stops.Stopped) → (done : Bool) → (old : Target) → Option Pause → (new : Target) → Type 0
+IsJudged before done old pause new = TellsIf before old pause new ⊎ ((new ≡ old) × Stands done new pause)
 
 -- the console shows bytes, and then it goes on
 abbrev pub shows : Option Pause → Bool

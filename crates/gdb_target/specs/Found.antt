@@ -17,13 +17,13 @@ abbrev pub trapped : Target → Back → ℕ → Type 0
 trapped t (StepOf q) p = (p ≡ q) × Starts t.run q
 trapped t Point p = StandsAt t.run t.program t.points.breakpoints.items p
 
--- What is told of the stop of a process stands there
+-- What is told of the stop of a process stands there; a way back ends for no other reason than a trap, a change of watched bytes, or its begin
 abbrev pub StandsFor : Target → Back → StopReason → ℕ → Type 0
 StandsFor t back Trap p = trapped t back p
 StandsFor t back (Watch address) p = Unit {0}
-StandsFor t back Interrupt p = Unit {0}
-StandsFor t back Illegal p = Unit {0}
-StandsFor t back Segmentation p = Unit {0}
-StandsFor t back Misaligned p = Unit {0}
+StandsFor t back Interrupt p = ⊥
+StandsFor t back Illegal p = ⊥
+StandsFor t back Segmentation p = ⊥
+StandsFor t back Misaligned p = ⊥
 StandsFor t back Begin p = Unit {0}
-StandsFor t back End p = Unit {0}
+StandsFor t back End p = ⊥

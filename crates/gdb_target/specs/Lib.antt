@@ -1,3 +1,4 @@
+pub mod Before
 pub mod Came
 pub mod Choices
 pub mod Chosen

@@ -2,6 +2,7 @@
 ghost use Rattle.std.specs.Prelude.{◌≡◌, ◌⊎◌, ◌+◌, ◌≤◌, ◌<◌, None, Some, false, IfOk, IfSome, IsSome, length, max};
 ghost use Rattle.kernel_spec.specs.views.State.{live};
 ghost use Rattle.xv_machine.specs.Events.{outcome_of};
+ghost use Rattle.gdb_target.specs.Before as meant;
 ghost use Rattle.gdb_target.specs.Choices.{IsAlive, StopsAt, choices};
 ghost use Rattle.gdb_target.specs.Forth.{Goes, GoesBy, IsJudged, IsUnseen, Stands};
 ghost use Rattle.gdb_target.specs.Forth.{current_of, halted_of, is_reached, is_step, looks_at_each, or_shows};
@@ -101,7 +102,9 @@ pub enum Pause {
 }
 
 /// Why a process stops that has this fault.
-fn reason_of(cause: Cause) -> StopReason {
+fn reason_of(cause: Cause) -> StopReason
+    ensures { result ≡ meant.reason_of cause }
+{
     match cause {
         Cause::Breakpoint => StopReason::Trap,
         Cause::IllegalInstruction => StopReason::Illegal,
@@ -114,17 +117,29 @@ fn reason_of(cause: Cause) -> StopReason {
     }
 }
 
+/// The stop that is told before the end of this process, if it is process 1.
+fn end_told(pid: Pid) -> Option<Stopped>
+    ensures { result ≡ meant.end_told pid }
+{
+    if pid.number() == 1 {
+        return Some(Stopped {
+            reason: StopReason::End,
+            pid,
+        });
+    }
+    None
+}
+
 /// The stop that is told before this comes: a fault of a process, and the end of process 1.
-fn told_before(outcome: &Outcome) -> Option<Stopped> {
+fn told_before(outcome: &Outcome) -> Option<Stopped>
+    ensures { result ≡ meant.told_before (outcome_of outcome.now) }
+{
     match outcome {
         Outcome::Faulted { pid, cause } => Some(Stopped {
             reason: reason_of(*cause),
             pid: *pid,
         }),
-        Outcome::Exited { pid, .. } if pid.number() == 1 => Some(Stopped {
-            reason: StopReason::End,
-            pid: *pid,
-        }),
+        Outcome::Exited { pid, .. } => end_told(*pid),
         _ => None,
     }
 }
@@ -262,7 +277,7 @@ impl Target {
         done: bool,
     ) -> Result<Option<Pause>, SessionError>
         ensures within { length self.new.run.session.events ≤ length self.old.run.session.events }
-        ensures judged { IfOk result (λ p. IsJudged done self.old p self.new) }
+        ensures judged { IfOk result (λ p. IsJudged (Some stopped) done self.old p self.new) }
         ensures same { beginning self.new.run ≡ beginning self.old.run }
         ensures choices { choices self.new ≡ choices self.old }
     {
@@ -335,7 +350,8 @@ impl Target {
         outcome: &Outcome,
     ) -> Result<Option<Pause>, SessionError>
         ensures within { length self.new.run.session.events ≤ length self.old.run.session.events }
-        ensures judged { IfOk result (λ p. IsJudged (is_step going.now.until (outcome_of outcome.now)) self.old p self.new) }
+        ensures judged { IfOk result
+            (λ p. IsJudged (meant.told_before (outcome_of outcome.now)) (is_step going.now.until (outcome_of outcome.now)) self.old p self.new) }
         ensures same { beginning self.new.run ≡ beginning self.old.run }
         ensures choices { choices self.new ≡ choices self.old }
     {

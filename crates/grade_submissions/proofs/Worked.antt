@@ -1,12 +1,12 @@
 -- Worked cases of the definitions.
-use Rattle.std.proofs.Common.{◌≢◌, ℕ, zero, suc, ◌<◌, List, ap, arith, inl, inr}
+use Rattle.std.proofs.Common.{◌≢◌, ◌++◌, ℕ, zero, suc, ◌<◌, List, ap, arith, inl, inr, length-append}
 use Rattle.std.specs.Prelude.{◌≡◌, true, false, [], ◌∷◌, None, Some, String, length, slice_index, string_bytes, codes, refl}
 use Rattle.std.specs.declared.alloc.Global.{Global}
 use Rattle.grade_rules.specs.declared.ending.End.TheVariants as ends
 use Rattle.kernel_spec.specs.runs.Run.{Run, Tick, Sent, Idle}
 use Rattle.grade_submissions.specs.declared.disk.Found.TheVariants.{Nothing, NoFile}
 use Rattle.grade_submissions.specs.declared.submission.HandedIn.TheVariants.{Refused}
-use Rattle.grade_submissions.specs.Files.{path_in, without_mark, without_returns, speaks_of, no_file_text, IsFolderOf, IsFoundAs}
+use Rattle.grade_submissions.specs.Files.{path_in, without_mark, without_returns, speaks_of, no_file_text, IsFolderOf, IsFoundAs, IsLastPart}
 use Rattle.grade_submissions.specs.Plays.{sending_after, runs_among, waiting}
 
 -- a file `b` in the folder `a`
@@ -27,6 +27,33 @@ not_the_present_one (inr is) = is.1 1 (omega arith) refl
 
 alone : IsFolderOf (codes "b") (codes ".")
 alone = inr (refl, no-slash)
+
+-- the last part of `c/b` and of `c/b/` is `b`, and no part of a name is one
+last_of_two : IsLastPart (codes "c/b") (codes "b")
+last_of_two = inr (ends-otherwise, (no-slash, inr (codes "c", refl)))
+  where
+    ends-otherwise : (bare : List ℕ) → codes "c/b" ≡ bare ++ codes "/" → ⊥
+    ends-otherwise [] is = absurd (omega (arith, ap length is))
+    ends-otherwise (a ∷ []) is = absurd (omega (arith, ap length is))
+    ends-otherwise (a ∷ b ∷ []) is = absurd (omega (arith, ap (λ (path : List ℕ). slice_index path 2) is))
+    ends-otherwise (a ∷ b ∷ c ∷ rest) is = absurd (omega (arith, ap length is, length-append rest (codes "/")))
+
+a_slash_behind_it : IsLastPart (codes "c/b/") (codes "b")
+a_slash_behind_it = inl (codes "c/b", refl, (no-slash, inr (codes "c", refl)))
+
+no_part_of_a_name : IsLastPart (codes "ab") (codes "b") → ⊥
+no_part_of_a_name (inl (bare, is, name)) = ends-otherwise bare is
+  where
+    ends-otherwise : (bare : List ℕ) → codes "ab" ≡ bare ++ codes "/" → ⊥
+    ends-otherwise [] is = absurd (omega (arith, ap length is))
+    ends-otherwise (a ∷ []) is = absurd (omega (arith, ap (λ (path : List ℕ). slice_index path 1) is))
+    ends-otherwise (a ∷ b ∷ rest) is = absurd (omega (arith, ap length is, length-append rest (codes "/")))
+no_part_of_a_name (inr (bare, (free, inl is))) = absurd (omega (arith, ap length is))
+no_part_of_a_name (inr (bare, (free, inr (folder, is)))) = behind folder is
+  where
+    behind : (folder : List ℕ) → codes "ab" ≡ path_in folder (codes "b") → ⊥
+    behind [] is = absurd (omega (arith, ap (λ (path : List ℕ). slice_index path 0) is))
+    behind (a ∷ rest) is = absurd (omega (arith, ap length is, length-append rest (codes "/b")))
 
 -- a byte order mark goes, if it stands first
 a_mark : without_mark (0xef ∷ 0xbb ∷ 0xbf ∷ 65 ∷ []) ≡ (65 ∷ [])

@@ -27,17 +27,23 @@ HasNoSlash text = (place : ℕ) → place < length text → slice_index text pla
 abbrev pub IsFolderOf : (path folder : List ℕ) → Type 0
 IsFolderOf path folder = ((name : List ℕ) × (path ≡ folder ++ (codes "/" ++ name)) × HasNoSlash name) ⊎ ((folder ≡ codes ".") × HasNoSlash path)
 
--- a text ends with another one
-abbrev pub IsEnd : (text end : List ℕ) → Type 0
-IsEnd text end = (front : List ℕ) × (text ≡ front ++ end)
-
--- a name at the end of a path, which may have a slash behind it
-abbrev pub IsLastPart : (path name : List ℕ) → Type 0
-IsLastPart path name = IsEnd path name ⊎ IsEnd path (name ++ codes "/")
-
 -- the path of a file in a folder
 abbrev pub path_in : (folder file : List ℕ) → List ℕ
 path_in folder file = folder ++ (codes "/" ++ file)
+
+-- the name in a path: what stands behind its last slash; all of it, if it has no slash
+abbrev pub IsNameIn : (path name : List ℕ) → Type 0
+IsNameIn path name = HasNoSlash name × ((path ≡ name) ⊎ ((folder : List ℕ) × (path ≡ path_in folder name)))
+
+-- a path ends with a slash, behind this
+abbrev pub IsBeforeSlash : (path bare : List ℕ) → Type 0
+IsBeforeSlash path bare = path ≡ bare ++ codes "/"
+
+-- the last part of a path: the name in it; a slash at its end doesn't count
+abbrev pub IsLastPart : (path name : List ℕ) → Type 0
+IsLastPart path name =
+    ((bare : List ℕ) × IsBeforeSlash path bare × IsNameIn bare name)
+    ⊎ (((bare : List ℕ) → ¬ IsBeforeSlash path bare) × IsNameIn path name)
 
 -- ---- the files of an exercise
 

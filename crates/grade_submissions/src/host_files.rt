@@ -1,6 +1,6 @@
 //! Small files, and their paths.
 ghost use Rattle.std.specs.Prelude.{IfOk, string_bytes};
-ghost use Rattle.grade_submissions.specs.Files.{IsEnd, IsFolderOf, IsLastPart};
+ghost use Rattle.grade_submissions.specs.Files.{IsFolderOf, IsLastPart, IsNameIn};
 
 use crate::disk::Disk;
 use program_files::Failure;
@@ -18,7 +18,7 @@ pub(crate) fn folder_of(path: &str) -> &str
 
 // The part of a path behind its last slash.
 fn behind_slash(path: &str) -> &str
-    ensures { IsEnd path.now result.now }
+    ensures { IsNameIn path.now result.now }
 {
     match path.rsplit_once('/') {
         Some((_, name)) => name,

@@ -2,6 +2,7 @@ use Rattle.std.proofs.Common.{◌≡◌, None, Option, Some, subst, sym}
 use Rattle.std.specs.Prelude.{IfOk, IfSome}
 use Rattle.std.proofs.lemmas.Result.{IfOk-weaker}
 use Rattle.xv_machine.specs.Events.{outcome_of}
+use Rattle.gdb_target.specs.Before.{told_before}
 use Rattle.gdb_target.specs.Forth.{GoesBy, IsJudged, halted_of, is_step}
 use Rattle.gdb_target.specs.declared.places.Change.{Change}
 use Rattle.gdb_target.specs.declared.target.Pause.TheVariants.{Stopped}
@@ -30,4 +31,4 @@ returns-clause-goes c =
     let row = row-of t mid c.args.bytes.now o c.requires.watched starts.1 c.in_ok-row.ensures.row in
     subst (λ (u : Until). IfOk c.judged.result (λ p. GoesBy u t p c.judged.new.self)) (sym starts.0)
     (IfOk-weaker c.judged.result _ _ (λ p judged.
-    row-goes t mid c.judged.new.self o p row (subst (λ (u : Until). IsJudged (is_step u o) mid p c.judged.new.self) starts.0 judged)) c.judged.ensures.judged)
+    row-goes t mid c.judged.new.self o p row (subst (λ (u : Until). IsJudged (told_before o) (is_step u o) mid p c.judged.new.self) starts.0 judged)) c.judged.ensures.judged)
