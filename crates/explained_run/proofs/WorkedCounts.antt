@@ -1,27 +1,56 @@
 -- Worked cases of the table.
-use Rattle.std.specs.Prelude.{◌≡◌, true, false, pos, negsuc, [], ◌∷◌, None, Some, refl}
+use Rattle.std.specs.Prelude.{◌≡◌, Bool, true, false, pos, negsuc, [], ◌∷◌, Option, None, Some, refl}
+use Rattle.kernel_calls.specs.declared.call.KernelCall.{KernelCall}
+use Rattle.kernel_calls.specs.declared.call.KernelCall.TheVariants.{Kill}
 use Rattle.kernel_spec.specs.runs.Run.{Step_of, Turn}
 use Rattle.kernel_spec.specs.steps.Own.{Stepped, Called, Exited}
-use Rattle.explained_run.specs.Counts.{added, done_by, row}
+use Rattle.explained_run.specs.Counts.{added, counted, done_by, row}
+use Rattle.explained_run.specs.declared.choice.Choice.{Choice}
+
+abbrev chosen : (call : Option KernelCall) → (failed : Bool) → Choice
+chosen call failed = record { lines = false; pid = None; call = call; failed = failed }
+
+abbrev all : Choice
+all = chosen None false
 
 -- a call that answers -1 has failed, and exit is a call unless the process was killed
-a_failed_call : done_by 3 (Some 1) false (Step_of 3 (Called (pos 6) (negsuc 0))) ≡ row 3 (Some 1) 1 1 0
+a_failed_call : done_by all 3 (Some 1) false (Step_of 3 (Called (pos 6) (negsuc 0))) ≡ row 3 (Some 1) 1 1 0
 a_failed_call = refl
 
-a_call : done_by 3 (Some 1) false (Step_of 3 (Called (pos 5) (pos 8))) ≡ row 3 (Some 1) 1 0 0
+a_call : done_by all 3 (Some 1) false (Step_of 3 (Called (pos 5) (pos 8))) ≡ row 3 (Some 1) 1 0 0
 a_call = refl
 
-an_exit : done_by 3 (Some 1) false (Step_of 3 (Exited (pos 0))) ≡ row 3 (Some 1) 1 0 0
+an_exit : done_by all 3 (Some 1) false (Step_of 3 (Exited (pos 0))) ≡ row 3 (Some 1) 1 0 0
 an_exit = refl
 
-a_kill : done_by 3 (Some 1) true (Step_of 3 (Exited (negsuc 0))) ≡ row 3 (Some 1) 0 0 0
+a_kill : done_by all 3 (Some 1) true (Step_of 3 (Exited (negsuc 0))) ≡ row 3 (Some 1) 0 0 0
 a_kill = refl
 
-an_instruction : done_by 3 None false (Step_of 3 Stepped) ≡ row 3 None 0 0 1
+an_instruction : done_by all 3 None false (Step_of 3 Stepped) ≡ row 3 None 0 0 1
 an_instruction = refl
 
-a_turn : done_by 3 None false (Turn 3) ≡ row 3 None 0 0 0
+a_turn : done_by all 3 None false (Turn 3) ≡ row 3 None 0 0 0
 a_turn = refl
+
+-- if calls are asked for that have failed, no other counts; if one call is asked for, no other counts
+no_failure : done_by (chosen None true) 3 (Some 1) false (Step_of 3 (Called (pos 5) (pos 8))) ≡ row 3 (Some 1) 0 0 0
+no_failure = refl
+
+a_failure : done_by (chosen None true) 3 (Some 1) false (Step_of 3 (Called (pos 6) (negsuc 0))) ≡ row 3 (Some 1) 1 1 0
+a_failure = refl
+
+another_call : done_by (chosen (Some Kill) false) 3 (Some 1) false (Step_of 3 (Called (pos 5) (negsuc 0))) ≡ row 3 (Some 1) 0 0 0
+another_call = refl
+
+the_call : done_by (chosen (Some Kill) false) 3 (Some 1) false (Step_of 3 (Called (pos 6) (negsuc 0))) ≡ row 3 (Some 1) 1 1 0
+the_call = refl
+
+-- a process that isn't asked for has no row
+another_process : counted (record { lines = false; pid = Some 2; call = None; failed = false }) [] (row 3 (Some 1) 1 1 0) ≡ []
+another_process = refl
+
+the_process : counted (record { lines = false; pid = Some 3; call = None; failed = false }) [] (row 3 (Some 1) 1 1 0) ≡ row 3 (Some 1) 1 1 0 ∷ []
+the_process = refl
 
 -- the first of a process makes a row behind the others; more of it is added there, and its program is the last one
 first_of_it : added (row 1 (Some 0) 2 0 40 ∷ []) (row 3 (Some 1) 0 0 7) ≡ row 1 (Some 0) 2 0 40 ∷ row 3 (Some 1) 0 0 7 ∷ []

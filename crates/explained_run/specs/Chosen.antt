@@ -25,11 +25,11 @@ is_call (Some call) number = int_eq (pos (entry_of call).number) number
 abbrev pub shows_call : Choice → (number : ℤ) → Bool
 shows_call choice number = is_call choice.call number
 
--- lines of calls are asked for that haven't failed
+-- calls of this number are asked for that haven't failed
 abbrev pub shows_unfailed : Choice → (number : ℤ) → Bool
 shows_unfailed choice number = not choice.failed && shows_call choice number
 
--- the line of a call that has answered: one that has answered less than 0 has failed
+-- a call with this answer is asked for: one that has answered less than 0 has failed
 abbrev pub shows_answer : Choice → (number value : ℤ) → Bool
 shows_answer choice number (pos n) = shows_unfailed choice number
 shows_answer choice number (negsuc k) = shows_call choice number

@@ -1,8 +1,10 @@
--- What the table tells of each process: how many calls and instructions it has done.
+-- What the table tells of a process: how many calls and instructions it has done. Of calls those alone count that are asked for.
 use Rattle.std.specs.Prelude.{ℕ, zero, suc, ◌+◌, ◌^◌, ◌-◌, ℤ, pos, negsuc, Bool, true, false, if◌then◌else◌, nat_eq, min, List, [], ◌∷◌, ◌++◌, length, slice_get, slice_set, Option, None, Some}
 use Rattle.std.specs.Option.{option_or}
 use Rattle.kernel_spec.specs.runs.Run.{Outcome, Step_of}
 use Rattle.kernel_spec.specs.steps.Own.{Answer, Stepped, Called, Blocked, Exited, Faulted}
+use Rattle.explained_run.specs.Chosen.{is_process, shows_answer, shows_unfailed}
+use Rattle.explained_run.specs.declared.choice.Choice.{Choice}
 use Rattle.explained_run.specs.declared.counts.Count.{Count}
 
 -- ---- what is done by one step
@@ -21,17 +23,26 @@ abbrev pub exits_of : (marked : Bool) → ℕ
 exits_of true = 0
 exits_of false = 1
 
-abbrev pub done_by_step : (p : ℕ) → (place : Option ℕ) → (marked : Bool) → Answer → Count
-done_by_step p place marked (Called number value) = row p place 1 (failed_of value) 0
-done_by_step p place marked (Exited status) = row p place (exits_of marked) 0 0
-done_by_step p place marked Stepped = row p place 0 0 1
-done_by_step p place marked (Blocked number) = row p place 0 0 0
-done_by_step p place marked (Faulted cause) = row p place 0 0 0
+-- a number of calls, if they are asked for
+abbrev pub if_asked : (asked : Bool) → (number : ℕ) → ℕ
+if_asked true number = number
+if_asked false number = 0
+
+abbrev pub called : (p : ℕ) → (place : Option ℕ) → (asked : Bool) → (value : ℤ) → Count
+called p place asked value = row p place (if_asked asked 1) (if_asked asked (failed_of value)) 0
+
+-- call 2 is exit
+abbrev pub done_by_step : Choice → (p : ℕ) → (place : Option ℕ) → (marked : Bool) → Answer → Count
+done_by_step choice p place marked (Called number value) = called p place (shows_answer choice number value) value
+done_by_step choice p place marked (Exited status) = row p place (if_asked (shows_unfailed choice (pos 2)) (exits_of marked)) 0 0
+done_by_step choice p place marked Stepped = row p place 0 0 1
+done_by_step choice p place marked (Blocked number) = row p place 0 0 0
+done_by_step choice p place marked (Faulted cause) = row p place 0 0 0
 
 -- what process p has done if this came of its step
-abbrev pub done_by : (p : ℕ) → (place : Option ℕ) → (marked : Bool) → Outcome → Count
-done_by p place marked (Step_of q answer) = done_by_step p place marked answer
-done_by p place marked _ = row p place 0 0 0
+abbrev pub done_by : Choice → (p : ℕ) → (place : Option ℕ) → (marked : Bool) → Outcome → Count
+done_by choice p place marked (Step_of q answer) = done_by_step choice p place marked answer
+done_by choice p place marked _ = row p place 0 0 0
 
 -- ---- what is done in all
 
@@ -68,6 +79,10 @@ added_at counts more (Some k) = slice_set counts k (with_more (slice_get counts 
 -- the rows, once a process has done more: it has a row of its own, the last one if it had none
 abbrev pub added : List Count → (more : Count) → List Count
 added counts more = added_at counts more (place_of counts more.pid)
+
+-- the same, if the process is asked for; else they stay
+abbrev pub counted : Choice → List Count → (more : Count) → List Count
+counted choice counts more = if is_process choice.pid more.pid then added counts more else counts
 
 -- if there was memory for all rows
 abbrev pub if_complete : (complete : Bool) → List Count → Option (List Count)

@@ -10,7 +10,7 @@ use xk_base::Pid;
 use xv_machine::Outcome;
 
 /// The number of the kernel call exit.
-const EXIT: i32 = 2;
+pub(crate) const EXIT: i32 = 2;
 
 /// Which lines are asked for.
 #[derive(Clone, Copy)]
@@ -26,14 +26,21 @@ pub struct Choice {
 }
 
 impl Choice {
+    /// Whether it is a process that is asked for.
+    pub(crate) fn is_process(&self, pid: Pid) -> bool
+        ensures { result ≡ meant.is_process self.now.pid pid }
+    {
+        match self.pid {
+            Some(chosen) => chosen.number() == pid.number(),
+            None => true,
+        }
+    }
+
     /// Whether lines of a process are asked for.
     pub(crate) fn shows_process(&self, pid: Pid) -> bool
         ensures { result ≡ meant.shows_process self.now pid }
     {
-        match self.pid {
-            Some(chosen) => self.lines && chosen.number() == pid.number(),
-            None => self.lines,
-        }
+        self.lines && self.is_process(pid)
     }
 
     // Whether lines of a call are asked for.
@@ -46,15 +53,15 @@ impl Choice {
         }
     }
 
-    // Whether lines of calls that haven't failed are asked for.
-    fn shows_unfailed(&self, number: i32) -> bool
+    /// Whether calls of this number are asked for that haven't failed.
+    pub(crate) fn shows_unfailed(&self, number: i32) -> bool
         ensures { result ≡ meant.shows_unfailed self.now number }
     {
         !self.failed && self.shows_call(number)
     }
 
-    // Whether the line of a call with this answer is asked for.
-    fn shows_answer(&self, number: i32, value: i64) -> bool
+    /// Whether a call with this answer is asked for.
+    pub(crate) fn shows_answer(&self, number: i32, value: i64) -> bool
         ensures { result ≡ meant.shows_answer self.now number value }
     {
         if value < 0 {

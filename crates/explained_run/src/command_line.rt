@@ -47,7 +47,8 @@ done. Bytes are written as strings of C, 32 at most. Of what a process reads or 
 what was stored. `killed` and `fault` tell that a process is gone without a call; xv_why tells more.
 
 With --count a table tells at the end how many calls each process has done, how many of them
-answered less than 0, and how many instructions it has done. It stands in place of the lines.";
+answered less than 0, and how many instructions it has done. It stands in place of the lines, and of
+processes and calls it counts those that --pid, --call and --failed leave.";
 
 const COMMAND_LINE: CommandLine = CommandLine {
     name: NAME,

@@ -3,6 +3,7 @@ ghost use Rattle.std.specs.Prelude.{◌≡◌, ◌<◌, [], true, OnOk, IfSome, 
 ghost use Rattle.xv_machine.specs.Events.{outcome_of};
 ghost use Rattle.explained_run.specs.Counts as meant;
 
+use crate::choice::{Choice, EXIT};
 use std::alloc::{AllocFailed, Global};
 use xk_base::Pid;
 use xv_machine::Outcome;
@@ -13,7 +14,7 @@ pub(crate) struct Count {
     pub pid: Pid,
     /// The place of the program that it ran last.
     pub program: Option<usize>,
-    /// Calls that have answered, and exit.
+    /// Calls that have answered, and exit, as far as they are asked for.
     pub calls: u64,
     /// Those that have answered less than 0.
     pub failed: u64,
@@ -124,17 +125,33 @@ fn exits_of(is_marked: bool) -> u64
     if is_marked { 0 } else { 1 }
 }
 
-// What a process has done if this came of its step.
-fn done_by(pid: Pid, program: Option<usize>, is_marked: bool, outcome: &Outcome) -> Count
-    ensures { result ≡ meant.done_by pid program is_marked (outcome_of outcome.now) }
+// A number of calls, if they are asked for.
+fn if_asked(is_asked: bool, number: u64) -> u64
+    ensures { result ≡ meant.if_asked is_asked number }
+{
+    if is_asked { number } else { 0 }
+}
+
+// What a process has done if this came of its step, of calls those that are asked for.
+fn done_by(
+    choice: &Choice,
+    pid: Pid,
+    program: Option<usize>,
+    is_marked: bool,
+    outcome: &Outcome,
+) -> Count
+    ensures { result ≡ meant.done_by choice.now pid program is_marked (outcome_of outcome.now) }
 {
     let mut count = nothing(pid, program);
     match outcome {
-        Outcome::Called { value, .. } => {
-            count.calls = 1;
-            count.failed = failed_of(*value);
+        Outcome::Called { number, value, .. } => {
+            let is_asked = choice.shows_answer(*number, *value);
+            count.calls = if_asked(is_asked, 1);
+            count.failed = if_asked(is_asked, failed_of(*value));
         }
-        Outcome::Exited { .. } => count.calls = exits_of(is_marked),
+        Outcome::Exited { .. } => {
+            count.calls = if_asked(choice.shows_unfailed(EXIT), exits_of(is_marked));
+        }
         Outcome::Stepped { .. } => count.instructions = 1,
         _ => {}
     }
@@ -164,38 +181,42 @@ impl Counts {
         }
     }
 
-    // Adds what a process has done.
-    fn add(&mut self, more: &Count)
-        ensures counts { self.new.complete ≡ true → self.new.counts.items ≡ meant.added self.old.counts.items more.now }
+    // Adds what a process has done, if it is asked for.
+    fn add(&mut self, choice: &Choice, more: &Count)
+        ensures counts { self.new.complete ≡ true → self.new.counts.items ≡ meant.counted choice.now self.old.counts.items more.now }
         ensures complete { self.new.complete ≡ true → self.old.complete ≡ true }
     {
+        if !choice.is_process(more.pid) {
+            return;
+        }
         if add(&mut self.counts, more).is_err() {
             self.complete = false;
         }
     }
 
     /// A process has done so many instructions.
-    pub fn add_instructions(&mut self, pid: Pid, program: Option<usize>, made: u32)
-        ensures counts { self.new.complete ≡ true → self.new.counts.items ≡ meant.added self.old.counts.items (meant.row pid program 0 0 made) }
+    pub fn add_instructions(&mut self, choice: &Choice, pid: Pid, program: Option<usize>, made: u32)
+        ensures counts { self.new.complete ≡ true → self.new.counts.items ≡ meant.counted choice.now self.old.counts.items (meant.row pid program 0 0 made) }
         ensures complete { self.new.complete ≡ true → self.old.complete ≡ true }
     {
         let mut count = nothing(pid, program);
         count.instructions = u64::from(made);
-        self.add(&count);
+        self.add(choice, &count);
     }
 
     /// This came of a step of a process, which runs this program now, and was marked before or not.
     pub fn add_outcome(
         &mut self,
+        choice: &Choice,
         pid: Pid,
         program: Option<usize>,
         is_marked: bool,
         outcome: &Outcome,
     )
-        ensures counts { self.new.complete ≡ true → self.new.counts.items ≡ meant.added self.old.counts.items (meant.done_by pid program is_marked (outcome_of outcome.now)) }
+        ensures counts { self.new.complete ≡ true → self.new.counts.items ≡ meant.counted choice.now self.old.counts.items (meant.done_by choice.now pid program is_marked (outcome_of outcome.now)) }
         ensures complete { self.new.complete ≡ true → self.old.complete ≡ true }
     {
-        let count = done_by(pid, program, is_marked, outcome);
-        self.add(&count);
+        let count = done_by(choice, pid, program, is_marked, outcome);
+        self.add(choice, &count);
     }
 }

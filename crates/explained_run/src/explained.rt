@@ -111,7 +111,7 @@ impl Explained {
         };
         let place = self.running.names.place(pid);
         let made = self.running.machine.instructions(most);
-        self.counts.add_instructions(pid, place, made);
+        self.counts.add_instructions(&self.choice, pid, place, made);
         if made == most {
             return Runs {
                 sent: most,
@@ -121,7 +121,8 @@ impl Explained {
         let marked = is_marked(&self.running.machine.process(pid));
         let outcome = self.step(pid);
         let place = self.running.names.place(pid);
-        self.counts.add_outcome(pid, place, marked, &outcome);
+        self.counts
+            .add_outcome(&self.choice, pid, place, marked, &outcome);
         Runs {
             sent: made + 1,
             last: Some(outcome),

@@ -9,7 +9,8 @@ use crate::command_line::settings;
 use crate::explained::Explained;
 use crate::line::Settings;
 use crate::watching::{Stop, Watched};
-use kernel_calls::KernelCall;
+use kernel_calls::{CALLS, KernelCall};
+use program_files::exit_statuses::WORDS_REFUSED;
 use program_files::{Failure, close_run, programs, show_trace};
 use run_work::{Work, budget_of, close_over_budget};
 use std::alloc::Global;
@@ -79,14 +80,14 @@ pub(crate) fn run_with<R: KeySource, W: ByteSink, E: Write + Drop>(
     }
 }
 
-// Which lines the settings ask for.
-fn choice_of(alloc: Global, settings: &Settings) -> Result<Choice, Failure<'static>> {
+// Which lines the settings ask for; if no call has the name that they have, that name.
+fn choice_of(settings: &Settings) -> Result<Choice, &str> {
     let call = match &settings.call {
         None => None,
         Some(name) => {
             let name = name.as_str();
             let Some(call) = KernelCall::of_name(name) else {
-                return Err(Failure::in_words(format!(in alloc; "no kernel call is called {name}")));
+                return Err(name);
             };
             Some(call)
         }
@@ -99,11 +100,23 @@ fn choice_of(alloc: Global, settings: &Settings) -> Result<Choice, Failure<'stat
     })
 }
 
+// Tells that no call has this name, and which names there are, and gives the status.
+fn refuse_call<E: Write>(name: &str, errors: &mut E) -> u8
+    ensures { result ≡ 1 }
+{
+    let _ = write!(errors, "{NAME}: no kernel call is called {name}: there are");
+    for call in CALLS {
+        let name = call.name();
+        let _ = write!(errors, " {name}");
+    }
+    let _ = writeln!(errors);
+    WORDS_REFUSED
+}
+
 // Runs the programs that the settings name, and gives the exit status.
-fn run<'a>(rt: &HostRuntime, settings: &'a Settings) -> Result<u8, Failure<'a>>
+fn run<'a>(rt: &HostRuntime, settings: &'a Settings, choice: Choice) -> Result<u8, Failure<'a>>
     ensures { IfOk result (λ status. IsRunStatus status) }
 {
-    let choice = choice_of(rt.alloc(), settings)?;
     let made = programs(rt, settings.files.as_slice())?;
     let config = Config {
         frames: settings.frames,
@@ -128,14 +141,24 @@ fn run<'a>(rt: &HostRuntime, settings: &'a Settings) -> Result<u8, Failure<'a>>
     ))
 }
 
+// Runs the programs that the settings name, and gives the exit status, also if they can't be had.
+fn run_chosen(rt: &HostRuntime, settings: &Settings, choice: Choice) -> u8
+    ensures { IsRunStatus result }
+{
+    match run(rt, settings, choice) {
+        Ok(status) => status,
+        Err(failure) => failure.close(NAME, &mut rt.stderr()),
+    }
+}
+
 /// Runs the programs that the words of a command line name, tells their calls as they come, and gives the exit status.
 pub fn explain_by_words<W: Env + AllocGlobal>(rt: &HostRuntime, words: &W) -> u8
     ensures { IsRunStatus result }
 {
     match settings(words) {
-        Ok(settings) => match run(rt, &settings) {
-            Ok(status) => status,
-            Err(failure) => failure.close(NAME, &mut rt.stderr()),
+        Ok(settings) => match choice_of(&settings) {
+            Ok(choice) => run_chosen(rt, &settings, choice),
+            Err(name) => refuse_call(name, &mut rt.stderr()),
         },
         Err(error) => error.close(NAME, &mut rt.stdout(), &mut rt.stderr()),
     }
