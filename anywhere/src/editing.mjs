@@ -18,9 +18,9 @@ const NOTHING_RUNS = 125;
 function words_of(command, args) {
   const plain = args.filter((word) => word !== "--prompt");
   const { stdout } = spawnSync(command, plain, { input: "help\nhelp until\n", stdio: ["pipe", "pipe", "ignore"] });
-  const lines = (stdout?.toString() ?? "").split("\n").filter((line) => /^[a-z]/.test(line));
-  const goals = lines.flatMap((line) => /^until \[?([a-z]+)/.exec(line)?.[1] ?? []);
-  return { words: [...new Set(lines.map((line) => line.split(" ")[0]).filter((word) => !word.includes("/")))], goals };
+  const [list, until] = `${stdout ?? ""}`.split("> help until\n").map((text) => text.split("\n").filter((line) => /^[a-z]/.test(line)));
+  const goals = (until ?? []).flatMap((line) => /^until \[?([a-z]+)/.exec(line)?.[1] ?? []);
+  return { words: list.map((line) => line.split(" ")[0]).filter((word) => !word.includes("/")), goals };
 }
 
 /** The labels of a source, or the functions of an ELF file. */
@@ -33,12 +33,15 @@ function symbols_in(file) {
   }
 }
 
-/** The function that readline asks for what may stand in a line: words at its head, and behind them goals, programs and symbols. */
-function completer_of(command, args) {
+/**
+ * The function that readline asks for what may stand in a line: words at its head, and behind them goals, programs and symbols. Behind
+ * the only one that fits stands a blank. The FILEs stand among `given`.
+ */
+function completer_of(command, args, given) {
   let known;
   const ask = () => {
     const { words, goals } = words_of(command, args);
-    const files = files_of(args).map(String);
+    const files = files_of(given).map(String);
     const programs = files.map((file) => file.split("/").at(-1).replace(/\.s$/, ""));
     return { words, others: [...new Set([...goals, ...programs, ...files.flatMap(symbols_in)])] };
   };
@@ -46,7 +49,8 @@ function completer_of(command, args) {
     known ??= ask();
     const begun = /\S*$/.exec(line)[0];
     const among = line.trimStart() === begun ? known.words : known.others;
-    return [among.filter((word) => word.startsWith(begun)), begun];
+    const fitting = among.filter((word) => word.startsWith(begun));
+    return [fitting.length === 1 ? [`${fitting[0]} `] : fitting, begun];
   };
 }
 
@@ -190,10 +194,10 @@ class Asked {
   }
 }
 
-/** Runs a command that asks for lines, at a terminal, and gives its exit status. */
-export function edited(command, args) {
+/** Runs a command that asks for lines, at a terminal, and gives its exit status. The words of a person among its own are `given`. */
+export function edited(command, args, given = args) {
   const output = shown();
-  const rl = createInterface({ input: single_keys(process.stdin), output, terminal: true, historySize: 1000, completer: completer_of(command, args) });
+  const rl = createInterface({ input: single_keys(process.stdin), output, terminal: true, historySize: 1000, completer: completer_of(command, args, given) });
   return new Asked(command, args, rl, output).over;
 }
 

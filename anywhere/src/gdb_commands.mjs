@@ -1,13 +1,14 @@
 // --gdb --commands PATH: writes commands for GDB, by which it knows the symbols of all FILEs and starts the machine, as
 // programs/host/gdb_commands.sh does.
-import { existsSync, writeFileSync } from "node:fs";
+import { existsSync, readFileSync, statSync, writeFileSync } from "node:fs";
 import { fileURLToPath } from "node:url";
 import { write_all } from "./streams.mjs";
 import { before_end, kinds_of } from "./words.mjs";
 
 const XV = fileURLToPath(new URL("../../xv.mjs", import.meta.url));
 const OPTION = "--commands";
-const UNWRITTEN = 5;
+const BEGIN = "# gdb-multiarch -x ";
+const REFUSED = 1, UNWRITTEN = 5;
 
 /** A word as a shell reads it back. */
 const quoted = (word) => `'${word.replaceAll("'", "'\\''")}'`;
@@ -27,19 +28,33 @@ function lines_for(path, words) {
   const others = known.filter((file) => file !== first).map((file) => `add-symbol-file '${file}.debug' -o 0`);
   const command = ["node", quoted(XV), "--gdb", ...words.map(quoted)].join(" ");
   const file = first ? [`file '${first}.debug'`] : [];
-  return [`# gdb-multiarch -x ${path}`, "set architecture riscv:rv64", "set remotetimeout 60", "set confirm off", ...file, ...others, `target remote | ${command}`];
+  return [`${BEGIN}${path}`, "set architecture riscv:rv64", "set remotetimeout 60", "set confirm off", ...file, ...others, `target remote | ${command}`];
 }
 
-/** The words without --commands, and its path, if it is there. */
+/** The words without --commands, and its path, if it is there; an empty one, if no path follows. */
 export function commands_among(words) {
   const options = before_end(words), place = options.findIndex((word) => word === OPTION || word.startsWith(`${OPTION}=`));
   if (place < 0) return { rest: words };
-  const path = value_of(options, OPTION), count = options[place] === OPTION ? 2 : 1;
+  const path = value_of(options, OPTION) ?? "", count = options[place] === OPTION ? 2 : 1;
   return { path, rest: words.filter((_, at) => at < place || at >= place + count) };
+}
+
+/** Whether no file is there, or one that may be written over: it is empty, or has such commands. A forgotten path costs no program. */
+function is_free(path) {
+  try {
+    const about = statSync(path);
+    return !about.isFile() || about.size === 0 || readFileSync(path).subarray(0, BEGIN.length).toString("latin1") === BEGIN;
+  } catch {
+    return true;
+  }
 }
 
 /** Writes the commands, and gives the exit status. */
 export function write_commands(path, words) {
+  if (!is_free(path)) {
+    write_all(2, `xv: ${path} is there, and has no commands for GDB: --commands takes another path\n`);
+    return REFUSED;
+  }
   try {
     writeFileSync(path, `${lines_for(path, words.map(String)).join("\n")}\n`);
   } catch {

@@ -18,6 +18,7 @@ const program = (name) => (words) => run(module_of(name), name, words);
 /** Serves GDB, or writes commands for it. */
 function gdb(words) {
   const { path, rest } = commands_among(words);
+  if (path === "") return say("--commands takes a path", REFUSED);
   return path === undefined ? program("xv_gdb")(rest) : write_commands(path, rest);
 }
 

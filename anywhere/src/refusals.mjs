@@ -11,7 +11,7 @@ const WORDS_REFUSED = 1, FILE_REFUSED = 2;
 const ALL = ["run", "terminal", "--why", "--explain", "--picture", "--debug", "--gdb"];
 const SESSION = ["terminal"], GDB = ["--gdb"], CALLS = ["--explain"];
 
-/** The kinds that take an option. The last five are given by scripts. */
+/** The kinds that take an option. */
 const TAKERS = {
   "--frames": ALL, "--rounds": ["run", "--why", "--explain", "--picture"], "--quantum": ["run", "--why", "--explain", "--picture", "--gdb"],
   "--trace": ["run", "terminal", "--why", "--explain", "--debug"],
@@ -19,7 +19,7 @@ const TAKERS = {
   "--pid": CALLS, "--call": CALLS, "--failed": CALLS, "--count": CALLS, "--explain": ["--why"],
   "--tick": SESSION, "--record": SESSION, "--replay": SESSION,
   "--most": GDB, "--keys": GDB, "--type": GDB, "--file": GDB, "--commands": GDB,
-  "--notes": ALL, "--lines": ALL, "--apart": ALL, "--terminal": ALL, "--woken": ALL, "--prompt": ALL,
+  "--notes": ["--why"],
 };
 
 const MEANINGS = {
@@ -50,6 +50,7 @@ function in_words(kinds) {
 }
 
 function look_at_option(kind, option) {
+  if (kind === "--debug" && option === "--prompt") return; // the line editor gives it
   const takers = TAKERS[option];
   if (!takers) throw new Refused(WORDS_REFUSED, `there is no option ${option}: ./xv --help tells those that there are`);
   if (takers.includes(kind)) return;

@@ -137,7 +137,7 @@ export function at_terminal(words) {
  */
 export function debug(words) {
   const prompt = isatty(0) ? ["--prompt"] : [];
-  if (isatty(0) && isatty(1)) return edited(process.execPath, [ITSELF, "--debug", ...prompt, ...words]);
+  if (isatty(0) && isatty(1)) return edited(process.execPath, [ITSELF, "--debug", ...prompt, ...words], words);
   const { option, files } = lines_of(words);
   return run(module_of("xv_debugger"), "xv_debugger", [...option, ...prompt, ...words], { files });
 }

@@ -6,10 +6,22 @@
 # The words behind PATH are those of ./xv --gdb. The symbols come from FILE.debug, as the C compiler's scripts leave it; a FILE without
 # one gives none. The program that GDB knows, which is the first that isn't init or the one that --file names, stands first, so
 # that its names win. GDB waits a minute for an answer, and not 2 seconds, since a machine may start slowly.
+#
+# A file that is there is written over only if it has such commands: so a forgotten PATH costs no program. Else the status is 1.
 set -u
 root=$(cd "$(dirname "$(readlink -f -- "$0")")/../.." && pwd) || exit 125
 path=$1
 shift
+begin='# gdb-multiarch -x '
+
+say() {
+    printf 'xv: %s\n' "$*" >&2
+}
+
+[ ! -s "$path" ] || [ ! -f "$path" ] || [ "$(head -c ${#begin} -- "$path" | tr -d '\0')" = "$begin" ] || {
+    say "$path is there, and has no commands for GDB: --commands takes another path"
+    exit 1
+}
 
 # A word as a shell reads it back.
 quoted() {
@@ -41,7 +53,7 @@ add-symbol-file '$word.debug' -o 0"
     fi
 done
 {
-    echo "# gdb-multiarch -x $path"
+    echo "$begin$path"
     echo 'set architecture riscv:rv64'
     echo 'set remotetimeout 60'
     echo 'set confirm off'
@@ -49,4 +61,4 @@ done
     [ -z "$others" ] || echo "${others#?}"
     echo "target remote | $command"
 } >"$path" || exit 5
-echo "xv: gdb-multiarch -x $path has the symbols, and starts the machine" >&2
+say "gdb-multiarch -x $path has the symbols, and starts the machine"

@@ -31,15 +31,14 @@ takers() {
         --explain) echo --why ;;
         --tick | --record | --replay) echo terminal ;;
         --most | --keys | --type | --file | --commands) echo --gdb ;;
-        # The options that scripts give.
-        --notes | --lines | --apart | --terminal | --woken | --prompt) echo 'run terminal --why --explain --picture --debug --gdb' ;;
+        --notes) echo --why ;;
         *) echo none ;;
     esac
 }
 
 has_value() {
     case $1 in
-        --explain | --failed | --count | --notes | --apart | --terminal | --woken | --prompt) return 1 ;;
+        --explain | --failed | --count | --notes) return 1 ;;
     esac
 }
 

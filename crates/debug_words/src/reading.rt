@@ -172,6 +172,11 @@ fn goal_call<'a>(tokens: &Tokens<'a>, place: usize) -> Result<Goal, WordErrorKin
     goal_ended(tokens, place.saturating_add(2), Goal::Call(number))
 }
 
+/// An address or a name, without the `*` that gdb writes before it.
+fn without_star<'a>(text: &'a str) -> &'a str {
+    text.strip_prefix('*').unwrap_or(text)
+}
+
 /// The address at a place, of this process, as a goal.
 fn goal_at<'a, N: Names>(
     tokens: &Tokens<'a>,
@@ -179,7 +184,10 @@ fn goal_at<'a, N: Names>(
     names: &N,
     pid: Option<Pid>,
 ) -> Result<Goal, WordErrorKind<'a>> {
-    match address(tokens, place, names, &pid) {
+    let Some(text) = tokens.get(place) else {
+        return Err(WordErrorKind::Missing("an address or a name"));
+    };
+    match named_number(without_star(text), names, &pid) {
         Ok(address) => Ok(Goal::Pc { address, pid }),
         Err(kind) => Err(kind),
     }
@@ -484,7 +492,7 @@ fn numbers<'a, N: Names>(
 fn number_there<'a, N: Names>(text: &'a str, names: &N) -> Result<Word, WordErrorKind<'a>>
     ensures { IfOk result IsInRange }
 {
-    match named_number(text.strip_prefix('*').unwrap_or(text), names, &None) {
+    match named_number(without_star(text), names, &None) {
         Ok(from) => Ok(Word::Numbers {
             from,
             count: 1,
@@ -544,10 +552,7 @@ fn marked<'a, N: Names>(
     let Some(text) = tokens.get(1) else {
         return Ok(Word::Marks);
     };
-    match spot_mark(
-        text,
-        named_spot(text.strip_prefix('*').unwrap_or(text), names),
-    ) {
+    match spot_mark(text, named_spot(without_star(text), names)) {
         Ok(mark) => ended(tokens, 2, Word::Mark { mark, once }),
         Err(kind) => Err(kind),
     }
@@ -612,6 +617,34 @@ fn events<'a>(tokens: &Tokens<'a>) -> Result<Word, WordErrorKind<'a>>
     ended(tokens, 2, Word::Events { from: Some(from) })
 }
 
+/// What gdb's `info` asks for.
+fn info<'a>(tokens: &Tokens<'a>) -> Result<Word, WordErrorKind<'a>>
+    ensures { IfOk result IsInRange }
+{
+    let Some(text) = tokens.get(1) else {
+        return Err(WordErrorKind::Missing("registers, breakpoints or threads"));
+    };
+    match text {
+        "registers" | "r" => info_registers(tokens),
+        "breakpoints" | "watchpoints" | "b" => ended(tokens, 2, Word::Marks),
+        "threads" => ended(tokens, 2, Word::Processes { from: 1 }),
+        _ => Err(WordErrorKind::NotThis {
+            text,
+            wanted: "registers, breakpoints or threads",
+        }),
+    }
+}
+
+/// What `info registers` asks for.
+fn info_registers<'a>(tokens: &Tokens<'a>) -> Result<Word, WordErrorKind<'a>>
+    ensures { IfOk result IsInRange }
+{
+    match owner(tokens, 2) {
+        Ok(pid) => Ok(Word::Registers { pid }),
+        Err(kind) => Err(kind),
+    }
+}
+
 /// What help is asked for.
 fn help<'a>(tokens: &Tokens<'a>) -> Result<Word, WordErrorKind<'a>>
     ensures { IfOk result IsInRange }
@@ -667,7 +700,7 @@ fn ended<'a>(tokens: &Tokens<'a>, place: usize, word: Word) -> Result<Word, Word
 
 /// A PLACE that stands alone at a place of the line, if it is of another program than the one which words look at.
 fn elsewhere<'a, N: Names>(tokens: &Tokens<'a>, place: usize, names: &N) -> Option<Mark> {
-    let spot = named_spot(tokens.get(place)?, names)?;
+    let spot = named_spot(without_star(tokens.get(place)?), names)?;
     let program = spot.program;
     if names.program() == Some(program) || tokens.end(place.saturating_add(1)).is_err() {
         return None;
@@ -819,6 +852,7 @@ fn asked<'a>(topic: Topic, tokens: &Tokens<'a>) -> Result<Word, WordErrorKind<'a
         Topic::Delete => deleted(tokens),
         Topic::Frames => frames(tokens),
         Topic::Events => events(tokens),
+        Topic::Info => info(tokens),
         Topic::Next => ended(tokens, 1, Word::Next),
         Topic::Finish => ended(tokens, 1, Word::Finish),
         Topic::Continue => ended(tokens, 1, Word::Continue),

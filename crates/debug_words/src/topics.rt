@@ -32,13 +32,14 @@ pub enum Topic {
     At,
     Events,
     Trace,
+    Info,
     Help,
     Continue,
     Quit,
 }
 
 /// All topics, in the order in which help shows them.
-pub(crate) const TOPICS: [Topic; 32] = [
+pub(crate) const TOPICS: [Topic; 33] = [
     Topic::Step,
     Topic::Next,
     Topic::Back,
@@ -69,6 +70,7 @@ pub(crate) const TOPICS: [Topic; 32] = [
     Topic::At,
     Topic::Events,
     Topic::Trace,
+    Topic::Info,
     Topic::Help,
     Topic::Quit,
 ];
@@ -139,6 +141,7 @@ impl Topic {
             Topic::Print => "p",
             Topic::Numbers => "x",
             Topic::Memory => "m",
+            Topic::Info => "i",
             Topic::Help => "h",
             Topic::Continue => "continue",
             Topic::Quit => "q",
@@ -171,55 +174,64 @@ step [N]
 send N Runs: N steps of whoever runs
 send N events Run: N steps, 1 if N is left out.
 Also: s, si, stepi.
-A Run is an instruction or a step of a call of the process that runs; where nobody runs,
-the next process has its turn. It stops early where all processes sleep.
-N is 1 to 100000000.",
+A Run is an instruction or a step of a call of the process that runs; where
+nobody runs, the next process has its turn. It stops early where all processes
+sleep. N is 1 to 100000000.",
             Topic::Next => "\
 next
 an instruction, over the call that it makes
 one instruction, over the whole function or kernel call that it calls.
 Also: n, ni, nexti.
-A jump that keeps its return address in ra is a call of a function: it is over where the
-process is back after the jump, with the stack pointer not below. An ecall is over where the kernel
-has answered. Other processes may run meanwhile. At most 100000000 events are sent.",
+A jump that keeps its return address in ra is a call of a function: it is over
+where the process is back after the jump, with the stack pointer not below. An
+ecall is over where the kernel has answered. Other processes may run meanwhile.
+At most 100000000 events are sent.",
             Topic::Back => "\
 back [N], back until GOAL
 go back by N events, or to a goal
 go back by N events, of whatever kind; 1 if N is left out.
 Also: rsi, reverse-stepi.
-back until GOAL goes back to the last Run before this place that was the goal (help until).
-The session is then as it was, exactly. The events after that place are forgotten.
-If there were fewer events, it goes back to the boot.",
+back until GOAL goes back to the last Run before this place that was the goal
+(help until). The session is then as it was, exactly. The events after that
+place are forgotten. If there were fewer events, it goes back to the boot.",
             Topic::Until => "\
 until [GOAL]
 send Runs up to a goal: help until lists them
 send Runs up to the first that is the goal.
 Also: u, advance.
-until call CALL          a step of this kernel call, by its name or number: until call write
+until call CALL          a step of this kernel call, by its name or number:
+                         until call write
 until fork               a step of fork
-until [pc] PLACE [of P]  process P runs, and its next instruction stands at PLACE
-until store PLACE        an instruction has stored to this address, of whatever process
+until [pc] PLACE [of P]  process P runs, and its next instruction stands at
+                         PLACE
+until store PLACE        an instruction has stored to this address, of whatever
+                         process: what the kernel stores isn't met, as by read
 until fault              a process is gone by a fault
 until exit               a process is gone, by a call, a kill or a fault
-until [line]             the process stands in another line of its source, also of a function that it calls
-help print tells what a PLACE may be. One of another program is met by whichever process runs that.
-The bytes that wait in the console are taken before each Run, and told. 100000000 events are sent at most.
-It stops early where all processes sleep.",
+until [line]             the process stands in another line of its source, also
+                         of a function that it calls
+help print tells what a PLACE may be. One of another program is met by
+whichever process runs that. The bytes that wait in the console are taken
+before each Run, and told. 100000000 events are sent at most. It stops early
+where all processes sleep.",
             Topic::Finish => "\
 finish
 send Runs up to the end of the function that runs
 send Runs up to the end of the function in which the process that runs is.
 Also: fin.
-It is over where the process is back at the return address, with the stack pointer not below: the
-address in ra, if that lies in another function, or else the one that the frame of s0 has.
-A program without frame pointers (most are) has no such frame. At most 100000000 events are sent.",
+It is over where the process is back at the return address, with the stack
+pointer not below: the address in ra, if that lies in another function, or else
+the one that the frame of s0 has. A program without frame pointers (most are)
+has no such frame. At most 100000000 events are sent.",
             Topic::Break => "\
 break [PLACE]
 stop c at PLACE; the marks that c stops at
-let c stop before the instruction at PLACE; without PLACE, list the marks that c stops at.
+let c stop before the instruction at PLACE; without PLACE, list the marks that
+c stops at.
 Also: b.
-PLACE is a function, a label, a line as wc.c:12, PROGRAM:NAME, or an address; help print tells more.
-It is a place of its program, whichever process runs that. There are 16 marks at most.",
+PLACE is a function, a label, a line as wc.c:12, PROGRAM:NAME, or an address;
+help print tells more. It is a place of its program, whichever process runs
+that. There are 16 marks at most.",
             Topic::BreakOnce => "\
 tbreak PLACE
 the same, once
@@ -228,7 +240,10 @@ Also: tb.",
             Topic::Watch => "\
 watch PLACE
 stop c after a store to PLACE
-let c stop after an instruction that stores to this address, of whatever process.",
+let c stop after an instruction that stores to this address, of whatever
+process.
+What the kernel stores isn't met, as by read, wait and pipe: until call read
+stops there.",
             Topic::Delete => "\
 delete [N]
 forget mark N, or all marks
@@ -239,42 +254,46 @@ run [N]
 play N rounds of 1,000 Runs, a Tick, 32 Sends
 play N rounds of 1,000 Runs, a Tick and 32 Sends; 1 if N is left out.
 Also: r.
-These are the rounds of xv_run, without its keys. What the console shows is told.
-It stops early where a process faults, and where the machine halts. N is 1 to 90000.",
+These are the rounds of xv_run, without its keys. What the console shows is
+told. It stops early where a process faults, and where the machine halts. N is
+1 to 90000.",
             Topic::Tick => "\
 tick [N]
 send N Ticks: the clock counts N more
 send N events Tick: the clock counts N more; 1 if N is left out.
-A tick ends the turn of the process that runs, and wakes those whose time has come.
-N is 1 to 1000000.",
+A tick ends the turn of the process that runs, and wakes those whose time has
+come. N is 1 to 1000000.",
             Topic::Key => "\
 key TEXT
 type the bytes of TEXT; \\n is Enter
 type the bytes of TEXT, each by an event Key.
 Also: k.
-TEXT is the rest of the line. \\n is Enter, \\b Backspace, \\t Tab, \\s a blank, \\\\ a backslash,
-\\xHH the byte of these two hexadecimal digits: \\x04 is Ctrl-D. It has 1 to 128 bytes.",
+TEXT is the rest of the line. \\n is Enter, \\b Backspace, \\t Tab, \\s a
+blank, \\\\ a backslash, \\xHH the byte of these two hexadecimal digits: \\x04
+is Ctrl-D. It has 1 to 128 bytes.",
             Topic::Send => "\
 send [N]
 send N Sends: the terminal takes N bytes
 send N events Send: the terminal takes N bytes; 1 if N is left out.
-Bytes that programs write to the console wait for it: 32 at most, then the writers sleep.
-N is 1 to 1000000.",
+Bytes that programs write to the console wait for it: 32 at most, then the
+writers sleep. N is 1 to 1000000.",
             Topic::Where => "\
 where [of P]
 who runs, and the instructions from its pc on
 who runs, and the instructions from its pc on.
 Also: w.
-=> marks the instruction that is next. An instruction is told with its function and its line, if
-they are known: of a C program by NAME.debug beside its file, of an assembler source by its labels
-and lines. Of any other file its function is told, if it has a symbol table.",
+=> marks the instruction that is next. An instruction is told with its function
+and its line, if they are known: of a C program by NAME.debug beside its file,
+of an assembler source by its labels and lines. Of any other file its function
+is told, if it has a symbol table.",
             Topic::Callers => "\
 bt [of P]
 the calls that led to where the process is
 the calls that led to where the process is, from the last one on.
 Also: backtrace.
-By the frames of s0, for a program with frame pointers; else by ra alone, which an earlier call
-may have left.",
+By the frames of s0, for a program with frame pointers; else by ra alone, which
+an earlier call may have left. Each call is told by its own address, four bytes
+before the one to which it returns.",
             Topic::Listing => "\
 disas [PLACE [N]] [of P]
 N instructions from PLACE on
@@ -286,15 +305,17 @@ print WHAT
 a number, a register or the word at a name
 a number, a register, or the eight bytes at a name.
 Also: p.
-A PLACE may be a number; a register, as $a0 or $pc; a function, a label or data by its name; a line,
-as wc.c:12; PROGRAM:NAME; and each of these with +N behind it. Names are of the program which the
-process runs. print &NAME tells the address, print *PLACE the eight bytes there.",
+A PLACE may be a number; a register, as $a0 or $pc; a function, a label or data
+by its name; a line, as wc.c:12; PROGRAM:NAME; and each of these with +N behind
+it. Names are of the program which the process runs. print &NAME tells the
+address, print *PLACE the eight bytes there.",
             Topic::Numbers => "\
 x/FORM PLACE [of P]
 memory as numbers, as gdb's x: x/8gx $sp
 memory from PLACE on, as numbers or instructions.
-FORM is how many, then a letter: b, h, w, g for 1, 2, 4, 8 bytes, or i for instructions. The numbers
-are hexadecimal. -- is one of which a byte isn't there. 256 bytes or 100 instructions at most.",
+FORM is how many, then a letter: b, h, w, g for 1, 2, 4, 8 bytes, or i for
+instructions. The numbers are hexadecimal. -- is one of which a byte isn't
+there. 256 bytes or 100 instructions at most.",
             Topic::Registers => "\
 regs [of P]
 the registers
@@ -305,15 +326,16 @@ mem [PLACE [N]] [of P]
 N bytes of memory from PLACE on
 N bytes of a process's memory from PLACE on.
 Also: m.
--- is a byte that isn't there. N is 1 to 256, and 64 if it is left out. Without PLACE
-it goes on after the bytes that were shown last.",
+-- is a byte that isn't there. N is 1 to 256, and 64 if it is left out. Without
+PLACE it goes on after the bytes that were shown last.",
             Topic::Pages => "\
 pages [PLACE] [of P]
 the tables and pages, as a tree
 the tables and pages of a process's memory from PLACE on, as a tree.
-Sv39 has three levels: a root table, upper tables for 1 GiB each, lower tables for
-2 MiB each, and in them pages of 4 KiB. r, w, x: the page may be read, written, executed;
-u: by the program itself. Pages that follow one another and are alike take a line.",
+Sv39 has three levels: a root table, upper tables for 1 GiB each, lower tables
+for 2 MiB each, and in them pages of 4 KiB. r, w, x: the page may be read,
+written, executed; u: by the program itself. Pages that follow one another and
+are alike take a line.",
             Topic::Frames => "\
 frames [N]
 who owns how many frames of RAM; or frame N
@@ -338,7 +360,8 @@ A pipe has room for 2,048 bytes, and lies in a frame.",
 console
 the bytes that the console holds
 the console's lists: typed, committed, to be sent.
-Bytes of the line that is typed can still be taken back; a read takes committed ones.",
+Bytes of the line that is typed can still be taken back; a read takes committed
+ones.",
             Topic::At => "\
 at
 how many events there were, the clock, who runs
@@ -348,28 +371,37 @@ back N goes back by N of these events.",
 events [PLACE]
 the events from PLACE on, equal ones in one line
 the events from PLACE on, equal ones in one line.
-PLACE counts from 0: the first event since the boot. Without it the last 1,033 are shown,
-as many as a round has. At most 20 lines are shown at once.",
+PLACE counts from 0: the first event since the boot. Without it the last 1,033
+are shown, as many as a round has. At most 20 lines are shown at once.",
             Topic::Trace => "\
 trace [N]
 the last N notes of the machine's trace
 the last N notes of the machine's trace; 20 if N is left out.
-The machine keeps as many notes as --trace says; none without it. N is 1 to 100.",
+The machine keeps as many notes as --trace says; none without it. N is 1 to
+100.",
+            Topic::Info => "\
+info WHAT
+as gdb's: registers, breakpoints or threads
+what gdb's info tells: registers as regs, breakpoints as break alone, threads
+as ps.
+Also: i.
+info registers may end in of P.",
             Topic::Help => "\
 help [WORD]
 all words; or what one of them does
 all words; or what one of them does.
 Also: h.
-Numbers are decimal, or hexadecimal with 0x before them. of P names a process by its
-pid; without it, the words look at the process that runs, or, where nobody runs, at the
-one that made the last step.",
+Numbers are decimal, or hexadecimal with 0x before them. of P names a process
+by its pid; without it, the words look at the process that runs, or, where
+nobody runs, at the one that made the last step.",
             Topic::Continue => "\
 c
 go on to the next mark or fault
-send Runs up to the first that meets a mark, or by which a process is gone by a fault.
+send Runs up to the first that meets a mark, or by which a process is gone by a
+fault.
 Also: continue.
-100000000 at most. It stops early where all processes sleep. At the prompt that Ctrl-C opened it
-leaves the debugger, if there is no mark: the machine goes on.",
+100000000 at most. It stops early where all processes sleep. At the prompt that
+Ctrl-C opened it leaves the debugger, if there is no mark: the machine goes on.",
             Topic::Quit => "\
 quit
 end the debugger and the machine

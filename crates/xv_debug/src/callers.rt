@@ -4,6 +4,11 @@ use xk_base::Pid;
 use xv_report::{Callers, ProgramSource, Sources, callers_of, source_of};
 use xv_session::Session;
 
+/// The address of a call, which stands in the four bytes before the address to which it returns.
+fn call_before(address: u64) -> u64 {
+    address.wrapping_sub(4)
+}
+
 /// Writes a call's number, an address, and where that stands in the source, if it is known.
 fn show_call(
     source: &ProgramSource<'_>,
@@ -27,7 +32,7 @@ fn show_frames(
     answer: &mut String,
 ) -> Result<(), AllocError> {
     for place in 0..frames.len() {
-        show_call(source, place + 1, frames[place], answer)?;
+        show_call(source, place + 1, call_before(frames[place]), answer)?;
     }
     Ok(())
 }
@@ -43,7 +48,7 @@ fn show_by_ra(
     }
     match callers.ra {
         Some(address) => {
-            show_call(source, 1, address, answer)?;
+            show_call(source, 1, call_before(address), answer)?;
             answer.push_str("(by ra alone, which an earlier call may have left)\n")
         }
         None => answer.push_str("(no caller: s0 leads to no frame, and ra to no call)\n"),

@@ -7,7 +7,7 @@
      COMMAND &          isn't waited for; its pid is shown
      ( COMMANDS )       runs them by a shell of their own
      exit [STATUS]      ends the shell, with the status of the last command if none is given
-     wait               waits for all that was begun by &
+     wait               waits for all begun by &
      # ..               is passed over, as an empty line is
 
    There are no quotes: a text is what stands between blanks. There is no >, since files can't be written. */
