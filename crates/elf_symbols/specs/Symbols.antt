@@ -148,3 +148,40 @@ address_in file name None = None
 abbrev pub address_of : List ℕ → List ℕ → Option ℕ
 address_of file name =
     if has_sections file then address_in file name (symbol_table file (sections_place file) (section_count file)) else None
+
+-- All names.
+
+-- the name of a symbol that stands for an address, so its type is none, data or a function
+abbrev pub placed_name : List ℕ → Section → Symbol → Option (List ℕ)
+placed_name file strings s = if nat_le (s.info % 16) 2 then name_at file strings s.name else None
+
+-- the name of symbol i of a table, if it has so many
+abbrev pub nth_name : List ℕ → Section → Section → ℕ → Option (List ℕ)
+nth_name file table strings i = if nat_lt i (table.size / 24) then placed_name file strings (symbol file table i) else None
+
+-- by a symbol table and its string table: none if one of them isn't wholly in the file
+abbrev pub name_by : List ℕ → Section → Section → ℕ → Option (List ℕ)
+name_by file table strings i =
+    if is_within file table && (is_within file strings && (strings.kind == 3))
+    then nth_name file table strings i else None
+
+abbrev pub name_in_table : List ℕ → ℕ → Option Section → Option (List ℕ)
+name_in_table file i (Some table) =
+    if nat_lt table.link (section_count file)
+    then name_by file table (section file (sections_place file) table.link) i else None
+name_in_table file i None = None
+
+-- the name of symbol i of the file's first symbol table, if it stands for an address
+abbrev pub symbol_name : List ℕ → ℕ → Option (List ℕ)
+symbol_name file i =
+    if has_sections file then name_in_table file i (symbol_table file (sections_place file) (section_count file)) else None
+
+-- how many symbols a table has: none if it isn't wholly in the file
+abbrev pub symbols_in : List ℕ → Option Section → ℕ
+symbols_in file (Some table) = if is_within file table then table.size / 24 else 0
+symbols_in file None = 0
+
+-- how many the file's first symbol table has
+abbrev pub symbol_count : List ℕ → ℕ
+symbol_count file =
+    if has_sections file then symbols_in file (symbol_table file (sections_place file) (section_count file)) else 0

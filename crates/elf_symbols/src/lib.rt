@@ -1,7 +1,7 @@
-//! The name of the function at an address, where it begins, and the address of a name, by the symbol table of an ELF-64
-//! file.
+//! The name of the function at an address, where it begins, the address of a name, and all names, by the symbol table of an
+//! ELF-64 file.
 //!
-//! [`function_at`], [`function_start`] and [`address_of`] read the section headers of a file, its first symbol table and that table's
+//! [`function_at`], [`function_start`], [`address_of`], [`symbol_count`] and [`symbol_name`] read the section headers of a file, its first symbol table and that table's
 //! string table (ELF-64 Object File Format). A file may hold anything, so each place is tested before it is read, and
 //! what isn't wholly in the file has no name. It takes no memory of the host, and no more steps than there are section
 //! headers, symbols and bytes of a name.
@@ -13,4 +13,4 @@ mod section;
 mod symbol;
 mod table;
 
-pub use table::{address_of, function_at, function_start};
+pub use table::{address_of, function_at, function_start, symbol_count, symbol_name};

@@ -7,7 +7,7 @@ use crate::section::Section;
 use xk_base::file_number::{u32_at, u64_at};
 
 /// Bytes of a symbol.
-const SYMBOL_BYTES: usize = 24;
+pub(crate) const SYMBOL_BYTES: usize = 24;
 
 /// Where the type and the binding stand in a symbol (`st_info`, 1 byte): the type is the low half.
 const INFO: usize = 4;
@@ -106,6 +106,27 @@ pub(crate) fn first_function(file: &[u8], table: &Section, address: u64) -> Opti
         }
     }
     None
+}
+
+/// The name of the symbol of this number in a table, if it stands for an address.
+pub(crate) fn nth_name<'a>(
+    file: &'a [u8],
+    table: &Section,
+    strings: &Section,
+    number: usize,
+) -> Option<&'a [u8]>
+    requires symbols { table.now.off + table.now.size ≤ length file.now }
+    requires names { strings.now.off + strings.now.size ≤ length file.now }
+    ensures { option_map (λ n. n.now) result ≡ meant.nth_name file.now table.now strings.now number }
+{
+    if number >= table.size as usize / SYMBOL_BYTES {
+        return None;
+    }
+    let symbol = symbol_at(file, table.off as usize + SYMBOL_BYTES * number);
+    if symbol.info % 16 > PLACED_LAST {
+        return None;
+    }
+    name_at(file, strings, symbol.name)
 }
 
 /// Where the first zero byte stands.

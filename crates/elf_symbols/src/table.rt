@@ -5,7 +5,7 @@ ghost use Rattle.xk_base.specs.ProgramFile.{is_elf as elf};
 ghost use Rattle.elf_symbols.specs.Symbols as meant;
 
 use crate::section::{STRING_TABLE, Section, read_section, symbol_table};
-use crate::symbol::{first_function, first_named, name_at};
+use crate::symbol::{SYMBOL_BYTES, first_function, first_named, name_at, nth_name};
 use xk_base::file_number::{u16_at, u64_at};
 
 /// Bytes of a file header (ELF-64 Object File Format, "ELF Header": `Elf64_Ehdr`).
@@ -92,6 +92,57 @@ fn address_by(file: &[u8], table: &Section, strings: &Section, name: &[u8]) -> O
     }
     let symbol = first_named(file, table, strings, name)?;
     Some(symbol.value)
+}
+
+/// The name of the symbol of this number, by a symbol table and its string table, if it stands for an address.
+fn name_by<'a>(
+    file: &'a [u8],
+    table: &Section,
+    strings: &Section,
+    number: usize,
+) -> Option<&'a [u8]>
+    ensures { option_map (λ n. n.now) result ≡ meant.name_by file.now table.now strings.now number }
+{
+    if !table.is_within(file) || !strings.is_within(file) || strings.kind != STRING_TABLE {
+        return None;
+    }
+    nth_name(file, table, strings, number)
+}
+
+/// How many symbols the file's first symbol table has: none if the file has no symbol table, or if its section headers or
+/// that table aren't wholly in the file.
+pub fn symbol_count(file: &[u8]) -> usize
+    ensures { result ≡ meant.symbol_count file.now }
+{
+    let Some(headers) = read_headers(file) else {
+        return 0;
+    };
+    let Some(table) = symbol_table(file, headers.place, headers.count) else {
+        return 0;
+    };
+    if table.is_within(file) {
+        table.size as usize / SYMBOL_BYTES
+    } else {
+        0
+    }
+}
+
+/// The name of the symbol of this number, counted from 0, in the file's first symbol table, if the symbol is a function,
+/// data or of no type that is told. The names of all numbers below [`symbol_count`] are those of which [`address_of`] knows
+/// an address.
+///
+/// There is none if there are no more symbols, and if the file has no symbol table, or its section headers, that table or
+/// its string table aren't wholly in the file. It doesn't panic, whatever the bytes are, and takes no memory.
+pub fn symbol_name(file: &[u8], number: usize) -> Option<&[u8]>
+    ensures { option_map (λ n. n.now) result ≡ meant.symbol_name file.now number }
+{
+    let headers = read_headers(file)?;
+    let table = symbol_table(file, headers.place, headers.count)?;
+    if table.link >= u32::from(headers.count) {
+        return None;
+    }
+    let strings = read_section(file, headers.place, table.link as u16);
+    name_by(file, &table, &strings, number)
 }
 
 /// The address of a name: the value of the first symbol, in the file's first symbol table, that has the name and is a
