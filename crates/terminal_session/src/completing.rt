@@ -1,7 +1,10 @@
-//! What Tab writes out at the prompt: the debugger's words, and after them the goals of `until` and the names of programs.
+//! What Tab writes out at the prompt: the debugger's words, and after them the goals of `until`, the names of programs, and
+//! those of their labels and symbols.
 use debug_words::{Topic, show_help};
 use std::alloc::{AllocError, Global};
 use std::str;
+use xv_debug::Debugger;
+use xv_report::ProgramSource;
 use xv_session::Session;
 
 /// What is known of how a word goes on that was begun.
@@ -9,7 +12,7 @@ use xv_session::Session;
 struct Rest {
     /// The bytes that each word has which begins so.
     common: String,
-    /// How many there are.
+    /// How many there are. (It may count one again that came before, if there are others.)
     count: usize,
 }
 
@@ -31,6 +34,9 @@ impl Rest {
         let Some(rest) = word.strip_prefix(begun) else {
             return Ok(());
         };
+        if self.count == 1 && rest == self.common.as_str() {
+            return Ok(());
+        }
         let kept = if self.count == 0 {
             rest
         } else {
@@ -64,16 +70,52 @@ impl Rest {
         Ok(())
     }
 
+    // The labels and symbols of a program. (What begins with `$` is read as a register.)
+    fn add_names(
+        &mut self,
+        alloc: Global,
+        begun: &str,
+        source: &ProgramSource<'_>,
+    ) -> Result<(), AllocError> {
+        for place in 0..source.name_count() {
+            let name = source.nth_name(place).unwrap_or(b"");
+            match str::from_utf8(name) {
+                Ok(name) if !name.starts_with('$') => self.add(alloc, begun, name)?,
+                _ => {}
+            }
+        }
+        Ok(())
+    }
+
+    // The name of a program, alone and with a colon, behind which its labels and symbols stand.
+    fn add_program(
+        &mut self,
+        alloc: Global,
+        begun: &str,
+        name: &str,
+        source: &ProgramSource<'_>,
+    ) -> Result<(), AllocError> {
+        let with_colon = format!(in alloc; "{name}:")?;
+        self.add(alloc, begun, name)?;
+        self.add(alloc, begun, with_colon.as_str())?;
+        match begun.strip_prefix(with_colon.as_str()) {
+            Some(behind) => self.add_names(alloc, behind, source),
+            None => Ok(()),
+        }
+    }
+
     // The names of programs.
     fn add_programs(
         &mut self,
         alloc: Global,
         begun: &str,
         session: &Session,
+        debugger: &Debugger,
     ) -> Result<(), AllocError> {
-        for program in session.machine().programs() {
+        for (place, program) in session.machine().programs().iter().enumerate() {
             if let Ok(name) = str::from_utf8(program.name.as_slice()) {
-                self.add(alloc, begun, name)?;
+                let source = debugger.source(session, Some(place));
+                self.add_program(alloc, begun, name, &source)?;
             }
         }
         Ok(())
@@ -84,6 +126,7 @@ impl Rest {
 fn found(
     alloc: Global,
     session: &Session,
+    debugger: &Debugger,
     begun: &str,
     is_first: bool,
 ) -> Result<Rest, AllocError> {
@@ -98,16 +141,22 @@ fn found(
     } else {
         show_help(Some(Topic::Until), &mut text)?;
         rest.add_goals(alloc, begun, text.as_str())?;
-        rest.add_programs(alloc, begun, session)?;
+        rest.add_programs(alloc, begun, session, debugger)?;
+        rest.add_names(alloc, begun, &debugger.source_looked_at(session))?;
     }
     Ok(rest)
 }
 
 /// What is left of the word that a line ends with, as far as it is one alone; with a blank, if there is no other.
-pub fn rest_of_word(alloc: Global, session: &Session, line: &[u8]) -> Result<String, AllocError> {
+pub fn rest_of_word(
+    alloc: Global,
+    session: &Session,
+    debugger: &Debugger,
+    line: &[u8],
+) -> Result<String, AllocError> {
     let line = str::from_utf8(line).unwrap_or("");
     let (before, begun) = line.rsplit_once(' ').unwrap_or(("", line));
-    let mut rest = found(alloc, session, begun, before.trim().is_empty())?;
+    let mut rest = found(alloc, session, debugger, begun, before.trim().is_empty())?;
     if rest.count == 1 {
         rest.common.push(' ')?;
     }

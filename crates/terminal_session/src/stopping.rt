@@ -95,9 +95,15 @@ fn recall(edit: Edit, editor: &mut LineEditor, history: &mut History) {
 }
 
 // Writes out what was begun, if the key asks for it. Without memory nothing is written out.
-fn complete(edit: Edit, editor: &mut LineEditor, session: &Session, alloc: Global) {
+fn complete(
+    edit: Edit,
+    editor: &mut LineEditor,
+    session: &Session,
+    debugger: &Debugger,
+    alloc: Global,
+) {
     if let Edit::Completes = edit {
-        if let Ok(rest) = rest_of_word(alloc, session, editor.begun()) {
+        if let Ok(rest) = rest_of_word(alloc, session, debugger, editor.begun()) {
             editor.add_all(rest.as_bytes());
         }
     }
@@ -106,6 +112,7 @@ fn complete(edit: Edit, editor: &mut LineEditor, session: &Session, alloc: Globa
 // What a key does to the line, and shows.
 fn take_key<E: Write>(
     session: &Session,
+    debugger: &Debugger,
     editor: &mut LineEditor,
     key: Key,
     notes: &mut Notes<E>,
@@ -113,7 +120,7 @@ fn take_key<E: Write>(
     let before = editor.place();
     let edit = editor.key(key);
     recall(edit, editor, &mut notes.history);
-    complete(edit, editor, session, notes.alloc);
+    complete(edit, editor, session, debugger, notes.alloc);
     show_edit(edit, editor, before, &mut notes.errors);
     edit
 }
@@ -121,6 +128,7 @@ fn take_key<E: Write>(
 // Reads a line of the keyboard. At its end the machine ends, since nobody is there to let it go on.
 fn read_line<H: Host, E: Write>(
     session: &Session,
+    debugger: &Debugger,
     host: &mut H,
     editor: &mut LineEditor,
     notes: &mut Notes<E>,
@@ -138,7 +146,7 @@ fn read_line<H: Host, E: Write>(
         let Some(key) = keys.next(byte) else {
             continue;
         };
-        match take_key(session, editor, key, notes) {
+        match take_key(session, debugger, editor, key, notes) {
             Edit::Over => return Ok(Line::Typed),
             Edit::GoesOn => return Ok(Line::GoesOn),
             Edit::Ends => return Ok(Line::Ends),
@@ -178,7 +186,7 @@ fn exchange<H: Host + Patience, E: Write>(
 {
     notes.write_text(PROMPT);
     let mut editor = LineEditor::new();
-    let line = read_line(session, host, &mut editor, notes)?;
+    let line = read_line(session, debugger, host, &mut editor, notes)?;
     notes.history.keep(editor.bytes());
     match line {
         Line::Typed => answer(session, editor.bytes(), debugger, host, notes),

@@ -3,7 +3,11 @@ use Rattle.std.specs.Prelude.{◌≡◌, ℕ, Bool, true, false, is_some, Option
 use Rattle.kernel_spec.specs.views.State.{State, live}
 use Rattle.xv_session.specs.LastStep.{IsLastStep}
 use Rattle.xv_session.specs.Recorded.{Recorded}
+use Rattle.xv_session.specs.Names.{place_in}
 use Rattle.debug_views.specs.Focus.{IsLeastFrom}
+use Rattle.xv_report.specs.Locations.{IsSourceOf}
+use Rattle.xv_report.specs.declared.sources.ProgramSource.{ProgramSource}
+use Rattle.xv_report.specs.declared.sources.Sources.{Sources}
 
 -- the one whose step was last, if it lives, else the one of the least pid
 abbrev pub IsLastOrLeast : (lives : Bool) → (last : Option ℕ) → State → Option ℕ → Type 0
@@ -26,3 +30,16 @@ IsUsual s answer = (last : Option ℕ) × IsLastStep s last × IsRunningOr s.mac
 abbrev pub IsFocus : (named : Option ℕ) → Recorded → Option ℕ → Type 0
 IsFocus (Some p) s answer = answer ≡ Some p
 IsFocus None s answer = IsUsual s answer
+
+-- the place of the program that a process runs
+abbrev pub place_of : Recorded → Option ℕ → Option ℕ
+place_of s None = None
+place_of s (Some p) = place_in p s.names
+
+-- the program of the process that a word looks at which names none
+abbrev pub IsProgramLookedAt : Recorded → (place : Option ℕ) → Type 0
+IsProgramLookedAt s place = (p : Option ℕ) × IsFocus None s p × (place ≡ place_of s p)
+
+-- this is known of that program's source
+abbrev pub IsSourceLookedAt : Option Sources → Recorded → ProgramSource → Type 0
+IsSourceLookedAt known s source = (place : Option ℕ) × IsProgramLookedAt s place × IsSourceOf known s.machine.world.state.programs place source

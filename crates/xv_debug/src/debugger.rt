@@ -5,7 +5,7 @@ ghost use Rattle.xv_debug.specs.Kept.{goes_on, marks_after};
 ghost use Rattle.xv_debug.specs.StopText.{never, no_return};
 
 use crate::callers::told_calls;
-use crate::focus::focus;
+use crate::focus::{focus, program_looked_at};
 use crate::instruction::listed_from;
 use crate::kept::KeptMarks;
 use crate::looks::{
@@ -25,7 +25,7 @@ use debug_words::{
 use std::alloc::{AllocError, Global};
 use xk_base::Pid;
 use xv_machine::Event;
-use xv_report::Sources;
+use xv_report::{ProgramSource, Sources, source_of};
 use xv_session::{Condition, Patience, Session};
 
 /// The instructions that `where` lists.
@@ -156,6 +156,8 @@ impl Debugger {
     ghost use Rattle.xv_debug.specs.Effects.{Does, DoesOrStays, DoesSome, Finishes, GoesBack, IsAimOf, Obeys, Plays, Searches, SearchesGoal, SeeksBack, SendsFirst, Steps, next_of};
     ghost use Rattle.xv_debug.specs.Kept.{IsToMarks, goes_to_none, left_after, marks_of};
     ghost use Rattle.xv_debug.specs.LookText.{IsOfFocus, Shows};
+    ghost use Rattle.xv_debug.specs.Focus.{IsSourceLookedAt};
+    ghost use Rattle.xv_report.specs.Locations.{IsSourceOf};
     ghost use Rattle.xv_debug.specs.OutputText.{output_text};
     ghost use Rattle.xv_debug.specs.WhereText.{IsProcessText, IsWhereOf};
 
@@ -198,6 +200,22 @@ impl Debugger {
             marks: KeptMarks::new(),
             alone: true,
         }
+    }
+
+    /// What is known of the source of the program at a place among those of a session: the names that may stand behind
+    /// PROGRAM: in a line.
+    pub fn source<'a>(&'a self, session: &'a Session, place: Option<usize>) -> ProgramSource<'a>
+        ensures { IsSourceOf self.now.sources session.now.machine.world.state.programs place result }
+    {
+        source_of(self.sources.as_ref(), session, place)
+    }
+
+    /// What is known of the source of the program that the process runs which a word looks at: the names that may stand
+    /// alone in a line.
+    pub fn source_looked_at<'a>(&'a self, session: &'a Session) -> ProgramSource<'a>
+        ensures { IsSourceLookedAt self.now.sources session.now result }
+    {
+        self.source(session, program_looked_at(session))
     }
 
     /// Writes where the run is, what the process does that a word looks at, and so many instructions from its pc on.

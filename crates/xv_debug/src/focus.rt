@@ -1,5 +1,5 @@
 //! Which process the words look at.
-ghost use Rattle.xv_debug.specs.Focus.{IsFocus, IsLastOrLeast, IsRunningOr, IsUsual, lives_in};
+ghost use Rattle.xv_debug.specs.Focus.{IsFocus, IsLastOrLeast, IsProgramLookedAt, IsRunningOr, IsUsual, lives_in};
 
 use debug_views::{least_from, lives};
 use xk_base::Pid;
@@ -46,4 +46,11 @@ pub(crate) fn focus(session: &Session, named: Option<Pid>) -> Option<Pid>
         Some(pid) => Some(pid),
         None => usual(session),
     }
+}
+
+/// The place of the program that the process runs which a word looks at.
+pub(crate) fn program_looked_at(session: &Session) -> Option<usize>
+    ensures { IsProgramLookedAt session.now result }
+{
+    session.program_of(focus(session, None)?)
 }

@@ -1,8 +1,8 @@
 -- Which addresses names and lines of sources have.
-use Rattle.std.specs.Prelude.{ℕ, ◌-◌, ◌&&◌, Bool, false, codes, if◌then◌else◌, length, take, nat_eq, nat_le, bytes_eq, find, List, [], slice_get, string_bytes, Option, None, Some, option_map, String}
+use Rattle.std.specs.Prelude.{ℕ, ◌+◌, ◌-◌, ◌&&◌, Bool, false, codes, if◌then◌else◌, length, take, nat_eq, nat_le, nat_lt, bytes_eq, find, List, [], slice_get, string_bytes, Option, None, Some, option_map, String}
 use Rattle.std.specs.List.{ends_with}
 use Rattle.std.specs.declared.alloc.Global.{Global}
-use Rattle.elf_symbols.specs.Symbols.{address_of}
+use Rattle.elf_symbols.specs.Symbols.{address_of, symbol_count, symbol_name}
 use Rattle.uasm_core.specs.LineTable.{or_else}
 use Rattle.uasm_core.specs.declared.source_lines.CodeLine.{CodeLine}
 use Rattle.uasm_core.specs.declared.source_lines.LabelAddress.{LabelAddress}
@@ -43,6 +43,20 @@ labels_in _ = []
 -- the address of the first label of this name, or else of the first symbol
 abbrev pub address_named : ProgramSource → (name : List ℕ) → Option ℕ
 address_named source name = or_else (label_named name (labels_in source.lines)) (address_of source.symbols.now name)
+
+-- the name of the label at a place
+abbrev pub label_at : (place : ℕ) → List LabelAddress → Option (List ℕ)
+label_at place labels = option_map (λ (l : LabelAddress). l.name.items) (slice_get labels place)
+
+-- the name at a place among those of a program: its labels come first, then its symbols
+abbrev pub nth_name : ProgramSource → (place : ℕ) → Option (List ℕ)
+nth_name source place =
+    if nat_lt place (length (labels_in source.lines)) then label_at place (labels_in source.lines)
+    else symbol_name source.symbols.now (place - length (labels_in source.lines))
+
+-- how many there are
+abbrev pub name_count : ProgramSource → ℕ
+name_count source = length (labels_in source.lines) + symbol_count source.symbols.now
 
 -- the name of the program that was assembled of a file: the file's without `.s`
 abbrev pub assembled_name : (file : List ℕ) → Option (List ℕ)

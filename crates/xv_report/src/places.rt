@@ -1,9 +1,9 @@
 //! From names and lines to addresses.
-ghost use Rattle.std.specs.Prelude.{◌≡◌};
-ghost use Rattle.xv_report.specs.Places.{address_named, assembled_name, is_name, label_named, line_begins, line_start};
+ghost use Rattle.std.specs.Prelude.{◌≡◌, option_map};
+ghost use Rattle.xv_report.specs.Places.{address_named, assembled_name, is_name, label_at, label_named, labels_in, line_begins, line_start, name_count, nth_name};
 
 use crate::sources::{ProgramLines, ProgramSource};
-use elf_symbols::address_of;
+use elf_symbols::{address_of, symbol_count, symbol_name};
 use uasm_core::{CodeLine, LabelAddress};
 
 /// The address of the first label of this name.
@@ -12,6 +12,14 @@ fn label_named(labels: &[LabelAddress], name: &[u8]) -> Option<u64>
 {
     let label = labels.iter().find(|label| label.name.as_slice() == name)?;
     Some(label.address)
+}
+
+/// The name of the label at a place.
+fn label_at(labels: &[LabelAddress], place: usize) -> Option<&[u8]>
+    ensures { option_map (λ n. n.now) result ≡ label_at place labels.now }
+{
+    let label = labels.get(place)?;
+    Some(label.name.as_slice())
 }
 
 /// Where the instructions begin of the first line that makes some and has this number, or a greater one.
@@ -50,6 +58,37 @@ impl<'a> LineNamed<'a> {
 }
 
 impl<'a> ProgramSource<'a> {
+    /// The program's labels: none if it wasn't assembled.
+    fn labels(&self) -> &'a [LabelAddress]
+        ensures { result.now ≡ labels_in self.now.lines }
+    {
+        match self.lines {
+            ProgramLines::Source { lines, .. } => lines.labels.as_slice(),
+            _ => &[],
+        }
+    }
+
+    /// How many labels and symbols the program has.
+    pub fn name_count(&self) -> usize
+        ensures { result ≡ name_count self.now }
+    {
+        self.labels().len() + symbol_count(self.symbols)
+    }
+
+    /// The name at a place among those of the program: its labels come first, then the symbols, of which some have no
+    /// name that stands for an address. The names at all places below [`ProgramSource::name_count`] are those that
+    /// [`ProgramSource::address_named`] finds.
+    pub fn nth_name(&self, place: usize) -> Option<&'a [u8]>
+        ensures { option_map (λ n. n.now) result ≡ nth_name self.now place }
+    {
+        let labels = self.labels();
+        if place < labels.len() {
+            label_at(labels, place)
+        } else {
+            symbol_name(self.symbols, place - labels.len())
+        }
+    }
+
     /// The address of a label or a symbol of this name, if the program has one.
     pub fn address_named(&self, name: &[u8]) -> Option<u64>
         ensures { result ≡ address_named self.now name.now }
