@@ -9,6 +9,7 @@
 //! What a name is found by is written in `specs/Symbols.antt`.
 #![tactic(auto)]
 
+pub mod laws;
 mod section;
 mod symbol;
 mod table;
