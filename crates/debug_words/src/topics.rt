@@ -75,7 +75,7 @@ pub(crate) const TOPICS: [Topic; 33] = [
     Topic::Quit,
 ];
 
-/// What stands before a character of a text, and what stands behind it: all and nothing, where it isn't there.
+/// What stands before a character of a text, and what stands behind it: all and nothing, if it isn't there.
 fn parted(text: &'static str, by: char) -> (&'static str, &'static str) {
     match text.split_once(by) {
         Some(parts) => parts,
@@ -174,17 +174,17 @@ step [N]
 send N Runs: N steps of whoever runs
 send N events Run: N steps, 1 if N is left out.
 Also: s, si, stepi.
-A Run is an instruction or a step of a call of the process that runs; where
-nobody runs, the next process has its turn. It stops early where all processes
-sleep. N is 1 to 100000000.",
+A Run is an instruction or a step of a call of the process that runs. If nobody
+runs, the next process has its turn. It stops early if all processes sleep. N
+is 1 to 100000000.",
             Topic::Next => "\
 next
 an instruction, over the call that it makes
 one instruction, over the whole function or kernel call that it calls.
 Also: n, ni, nexti.
 A jump that keeps its return address in ra is a call of a function: it is over
-where the process is back after the jump, with the stack pointer not below. An
-ecall is over where the kernel has answered. Other processes may run meanwhile.
+when the process is back after the jump, with the stack pointer not below. An
+ecall is over when the kernel has answered. Other processes may run meanwhile.
 At most 100000000 events are sent.",
             Topic::Back => "\
 back [N], back until GOAL
@@ -213,13 +213,13 @@ until [line]             the process stands in another line of its source, also
 help print tells what a PLACE may be. One of another program is met by
 whichever process runs that. The bytes that wait in the console are taken
 before each Run, and told. 100000000 events are sent at most. It stops early
-where all processes sleep.",
+if all processes sleep.",
             Topic::Finish => "\
 finish
 send Runs up to the end of the function that runs
 send Runs up to the end of the function in which the process that runs is.
 Also: fin.
-It is over where the process is back at the return address, with the stack
+It is over when the process is back at the return address, with the stack
 pointer not below: the address in ra, if that lies in another function, or else
 the one that the frame of s0 has. A program without frame pointers (most are)
 has no such frame. At most 100000000 events are sent.",
@@ -255,8 +255,7 @@ play N rounds of 1,000 Runs, a Tick, 32 Sends
 play N rounds of 1,000 Runs, a Tick and 32 Sends; 1 if N is left out.
 Also: r.
 These are the rounds of xv_run, without its keys. What the console shows is
-told. It stops early where a process faults, and where the machine halts. N is
-1 to 90000.",
+told. It stops early if a process faults or the machine halts. N is 1 to 90000.",
             Topic::Tick => "\
 tick [N]
 send N Ticks: the clock counts N more
@@ -392,15 +391,15 @@ all words; or what one of them does
 all words; or what one of them does.
 Also: h.
 Numbers are decimal, or hexadecimal with 0x before them. of P names a process
-by its pid; without it, the words look at the process that runs, or, where
-nobody runs, at the one that made the last step.",
+by its pid. Without it the words look at the process that runs; if nobody runs,
+at the one that made the last step.",
             Topic::Continue => "\
 c
 go on to the next mark or fault
 send Runs up to the first that meets a mark, or by which a process is gone by a
 fault.
 Also: continue.
-100000000 at most. It stops early where all processes sleep. At the prompt that
+100000000 at most. It stops early if all processes sleep. At the prompt that
 Ctrl-C opened it leaves the debugger, if there is no mark: the machine goes on.",
             Topic::Quit => "\
 quit
