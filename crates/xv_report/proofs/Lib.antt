@@ -4,5 +4,6 @@ pub mod Frames
 pub mod Finding
 pub mod Faulting
 pub mod CallNames
+pub mod Named
 mod WorkedHints
 mod WorkedPlaces

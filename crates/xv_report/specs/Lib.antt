@@ -2,6 +2,7 @@ pub mod Causes
 pub mod Waits
 pub mod Wakers
 pub mod Names
+pub mod NameLaws
 pub mod Places
 pub mod Hints
 pub mod Jumps

@@ -17,6 +17,7 @@ mod causes;
 mod fault;
 mod hints;
 mod jumps;
+pub mod laws;
 mod lines;
 mod names;
 mod places;
