@@ -6,7 +6,8 @@ use Rattle.std.proofs.lemmas.Slice.Eq.{bytes_eq-Decides}
 use Rattle.xk_base.specs.Words.{least_below, or_here}
 use Rattle.xk_base.proofs.Least.{none_below}
 use Rattle.elf_symbols.specs.declared.section.Section.{Section}
-use Rattle.elf_symbols.specs.Symbols.{address_by, address_in, first_named, has_name, has_sections, is_named_at, is_within, name_at, name_by, name_in_table, nth_name, placed_name, section, section_count, sections_place, start_of, symbol, symbol_count, symbol_table, symbols_in}
+use Rattle.elf_symbols.specs.Symbols.{address_by, address_in, first_named, has_name, has_sections, is_named_at, is_within, name_at, name_by, name_in_table}
+use Rattle.elf_symbols.specs.Symbols.{nth_name, placed_name, section, section_count, sections_place, start_of, symbol, symbol_count, symbol_table, symbols_in}
 use Rattle.elf_symbols.specs.Named.{HasAddress, IsCounted}
 
 -- ---- what is there only if a test passes
@@ -25,21 +26,25 @@ is_there b x p e = ap (λ t. is_some (if t then x else None)) p ∙ e
 is_it : {A : Type 0} (b : Bool) (x : Option A) (y : A) → b ≡ true → x ≡ Some y → (if b then x else None) ≡ Some y
 is_it b x y p e = ap (λ t. if t then x else None) p ∙ e
 
--- ---- the least number that passes is below the bound, and passes
+-- ---- the least symbol that has a name is below the bound
 
-least_passes : (test : ℕ → Bool) (n k : ℕ) → least_below test n ≡ Some k → (k < n) × (test k ≡ true)
+least_named : (file : List ℕ) (table strings : Section) (name : List ℕ) (n k : ℕ) → least_below (is_named_at file table strings name) n ≡ Some k
+    → (k < n) × (is_named_at file table strings name k ≡ true)
 unfolding least_below
-least_passes test zero k e = absurd (cc)
-least_passes test (suc n) k e = last (least_below test n) refl (test n) refl e (least_passes test n k)
+least_named file table strings name zero k e = absurd (cc)
+least_named file table strings name (suc n) k e = last (least_below named n) refl (named n) refl e (least_named file table strings name n k)
   where
-    last : (o : Option ℕ) → least_below test n ≡ o → (b : Bool) → test n ≡ b → or_here o b n ≡ Some k
-        → (least_below test n ≡ Some k → (k < n) × (test k ≡ true)) → (k < suc n) × (test k ≡ true)
+    named : ℕ → Bool
+    named = is_named_at file table strings name
+
+    last : (o : Option ℕ) → least_below named n ≡ o → (b : Bool) → named n ≡ b → or_here o b n ≡ Some k
+        → (least_below named n ≡ Some k → (k < n) × (named k ≡ true)) → (k < suc n) × (named k ≡ true)
     last (Some i) is b t e rest =
         let r = rest (is ∙ e) in
         (omega (arith, r.0), r.1)
     last None is true t e rest =
         let same : n ≡ k = cc in
-        (omega (arith, same), ap test (sym same) ∙ t)
+        (omega (arith, same), ap named (sym same) ∙ t)
     last None is false t e rest = absurd (cc)
 
 -- ---- a name that is told has an address
@@ -89,7 +94,7 @@ found file table strings name e = by (least_below (is_named_at file table string
     by : (o : Option ℕ) → least_below (is_named_at file table strings name) (table.size / 24) ≡ o → is_some (start_of (option_map (symbol file table) o)) ≡ true
         → (i : ℕ) × (i < table.size / 24) × (nth_name file table strings i ≡ Some name)
     by (Some k) is e =
-        let least = least_passes _ _ k is in
+        let least = least_named file table strings name _ k is in
         let named = and_parts (nat_le ((symbol file table k).info % 16) 2) (has_name name (name_at file strings (symbol file table k).name)) least.1 in (
           k,
           least.0,
