@@ -1,5 +1,6 @@
 //! Which process the words look at.
-ghost use Rattle.xv_debug.specs.Focus.{IsFocus, IsLastOrLeast, IsProgramLookedAt, IsRunningOr, IsUsual, lives_in};
+ghost use Rattle.std.specs.Prelude.{◌≡◌};
+ghost use Rattle.xv_debug.specs.Focus.{IsFocus, IsLastOrLeast, IsProgramLookedAt, IsRunningOr, IsUsual, lives_in, place_of};
 
 use debug_views::{least_from, lives};
 use xk_base::Pid;
@@ -48,9 +49,16 @@ pub(crate) fn focus(session: &Session, named: Option<Pid>) -> Option<Pid>
     }
 }
 
+/// The place of the program that a process runs.
+pub(crate) fn place_of(session: &Session, pid: Option<Pid>) -> Option<usize>
+    ensures { result ≡ place_of session.now pid }
+{
+    session.program_of(pid?)
+}
+
 /// The place of the program that the process runs which a word looks at.
 pub(crate) fn program_looked_at(session: &Session) -> Option<usize>
     ensures { IsProgramLookedAt session.now result }
 {
-    session.program_of(focus(session, None)?)
+    place_of(session, focus(session, None))
 }

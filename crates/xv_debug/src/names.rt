@@ -1,6 +1,7 @@
 //! What the names in a line stand for.
 ghost use Rattle.std.specs.Prelude.{◌≡◌};
 
+use crate::focus::place_of;
 use debug_words::{Names, Spot};
 use rv64i_core::Regs;
 use uasm_text::register_name;
@@ -54,7 +55,7 @@ impl<'a> Known<'a> {
 
     /// The program that a process runs.
     fn program_of(&self, pid: &Option<Pid>) -> Option<usize> {
-        self.session.program_of(self.pid(pid)?)
+        place_of(self.session, self.pid(pid))
     }
 
     /// Where the instructions of a line begin in the program at a place.

@@ -1,15 +1,13 @@
 -- The names of a program are those that have an address.
-use Rattle.std.proofs.Common.{◌≡◌, ℕ, zero, suc, ◌+◌, ◌-◌, ◌<◌, Bool, true, false, cond, List, [], ◌∷◌, length, Option, Some, None, ◌⊎◌, inl, inr, refl, ap, sym, ◌∙◌, subst, arith}
-use Rattle.std.specs.Prelude.{if◌then◌else◌, is_some, nat_lt, option_map, bytes_eq, find, slice_get}
+use Rattle.std.proofs.Common.{◌≡◌, ℕ, zero, suc, ◌+◌, ◌-◌, ◌<◌, Bool, true, false, cond, List, [], ◌∷◌, length, Option, Some, None, ◌⊎◌, inl, inr, refl, ap, sym, ◌∙◌, arith}
+use Rattle.std.specs.Prelude.{if◌then◌else◌, is_some, nat_lt, option_map, bytes_eq, find}
 use Rattle.std.proofs.lemmas.Bool.{lt-ltb, le-ltb}
-use Rattle.std.proofs.lemmas.Option.{slice_get_within}
 use Rattle.std.proofs.lemmas.Slice.Eq.{bytes_eq-Decides}
 use Rattle.uasm_core.specs.LineTable.{or_else}
 use Rattle.uasm_core.specs.declared.source_lines.LabelAddress.{LabelAddress}
 use Rattle.elf_symbols.specs.Symbols.{address_of, symbol_count, symbol_name}
 use Rattle.elf_symbols.proofs.Named.{has_address as symbol_has_address, is_counted as symbol_is_counted}
-use Rattle.xv_report.specs.declared.sources.ProgramSource.{ProgramSource}
-use Rattle.xv_report.specs.Places.{address_named, label_at, label_named, labels_in, name_count, nth_name}
+use Rattle.xv_report.specs.Places.{label_at, label_named, labels_in}
 use Rattle.xv_report.specs.NameLaws.{HasAddress, IsCounted}
 
 -- ---- among labels
@@ -70,17 +68,19 @@ module _ (labels : List LabelAddress) (file : List ℕ) where
       → (place : ℕ) × (place < length labels + symbol_count file)
       × ((if nat_lt place (length labels) then label_at place labels else symbol_name file (place - length labels)) ≡ Some name)
   told_in name e = elim (some_cases (label_named name labels) (address_of file name) e) [
-      | inl labelled ↦
-          let l = label_told name labels labelled in
-          (l.0, omega (arith, l.1), ap (λ b. if b then label_at l.0 labels else symbol_name file (l.0 - length labels)) (lt-ltb _ _ l.1) ∙ l.2)
-      | inr symbol ↦
-          let s = symbol_is_counted file name symbol in
-          let place = length labels + s.0 in
-          let behind : place - length labels ≡ s.0 = omega arith in
-          (place, omega (arith, s.1),
-              ap (λ b. if b then label_at place labels else symbol_name file (place - length labels)) (le-ltb _ _ (omega arith))
-              ∙ ap (symbol_name file) behind ∙ s.2)
-    ]
+    | inl labelled ↦
+        let l = label_told name labels labelled in
+        (l.0, omega (arith, l.1), ap (λ b. if b then label_at l.0 labels else symbol_name file (l.0 - length labels)) (lt-ltb _ _ l.1) ∙ l.2)
+    | inr symbol ↦
+        let s = symbol_is_counted file name symbol in
+        let place = length labels + s.0 in
+        let behind : place - length labels ≡ s.0 = omega arith in (
+          place,
+          omega (arith, s.1),
+          ap (λ b. if b then label_at place labels else symbol_name file (place - length labels)) (le-ltb _ _ (omega arith))
+              ∙ ap (symbol_name file) behind ∙ s.2,
+        )
+  ]
 
 pub has_address : HasAddress
 has_address source place name e = found_in (labels_in source.lines) source.symbols.now name place (nat_lt place (length (labels_in source.lines))) e
