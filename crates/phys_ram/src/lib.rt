@@ -6,8 +6,9 @@
 //! behind it.
 #![tactic(auto)]
 
-ghost use Rattle.std.specs.Prelude.{◌≡◌, ◌≢◌, ◌+◌, ◌<◌, ◌≤◌, length};
-ghost use Rattle.std.specs.Prelude.{set, take, drop, replicate, IfOk, IfErr};
+ghost use Rattle.std.specs.Prelude.{◌≡◌, ◌≢◌, ◌+◌, ◌*◌, ◌<◌, ◌≤◌, length};
+ghost use Rattle.std.specs.Prelude.{ℕ, set, take, drop, replicate, IfOk, IfErr};
+ghost use Rattle.std.specs.List.{flat_map};
 ghost use Rattle.phys_ram.specs.Ram.{frame_at, word_at, with_bytes, zero_frame, IsFrameCount, IsRefused, WordWritten};
 
 use byteorder::{ByteOrder, LittleEndian};
@@ -87,6 +88,22 @@ impl Ram {
         ensures value { result.now ≡ frame_at self.old frame }
     {
         &mut self.frames[frame.index()]
+    }
+
+    /// The bytes of all frames, one frame after another. Those of this frame stand from
+    /// [`PAGE_BYTES`](xk_base::limits::PAGE_BYTES)` * frame` on.
+    #[inline(always)]
+    pub fn bytes_around(&self, frame: Frame) -> &[u8]
+        requires { frame < length self.now }
+        ensures all { result.now ≡ flat_map (λ bytes. bytes) self.now }
+        ensures inside { 4096 * frame + 4096 ≤ length result.now }
+        ensures long { length (frame_at self.now frame) ≡ 4096 }
+        ensures here { (at count : ℕ) → at + count ≤ 4096
+            → take count (drop (4096 * frame + at) result.now) ≡ take count (drop at (frame_at self.now frame)) }
+    {
+        let _before = self.frames[..frame.index()].as_flattened();
+        let _here: &[u8] = self.frame(frame);
+        self.frames.as_flattened()
     }
 
     /// Word `word` of a frame, below 512, little-endian, in its eight bytes from byte `8 * word` on.
