@@ -12,6 +12,8 @@ import { files_of, own_words } from "./words.mjs";
 
 const PROMPT = "(xv) ";
 const LABEL = /^\s*([A-Za-z_]\w*):/gm;
+/** A name of printable characters without a blank. A file may hold others, which no prompt shows. */
+const CAN_BE_TYPED = /^[!-~]+$/;
 const NOTHING_RUNS = 125;
 
 /** The words of the program, from what it says to `help`, and the goals of its word `until`. */
@@ -43,7 +45,8 @@ function completer_of(command, args, given) {
     const { words, goals } = words_of(command, args);
     const files = files_of(given).map(String);
     const programs = files.map((file) => file.split("/").at(-1).replace(/\.s$/, ""));
-    return { words, others: [...new Set([...goals, ...programs, ...files.flatMap(symbols_in)])] };
+    const names = files.flatMap(symbols_in).filter((name) => CAN_BE_TYPED.test(name));
+    return { words, others: [...new Set([...goals, ...programs, ...names])] };
   };
   return (line) => {
     known ??= ask();

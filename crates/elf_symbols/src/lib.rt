@@ -1,10 +1,10 @@
 //! The name of the function at an address, where it begins, the address of a name, and all names, by the symbol table of an
 //! ELF-64 file.
 //!
-//! [`function_at`], [`function_start`], [`address_of`], [`symbol_count`] and [`symbol_name`] read the section headers of a file, its first symbol table and that table's
-//! string table (ELF-64 Object File Format). A file may hold anything, so each place is tested before it is read, and
-//! what isn't wholly in the file has no name. It takes no memory of the host, and no more steps than there are section
-//! headers, symbols and bytes of a name.
+//! [`function_at`], [`function_start`], [`address_of`], [`symbol_count`] and [`symbol_name`] read the section headers of a
+//! file, its first symbol table and that table's string table (ELF-64 Object File Format). A file may hold anything, so
+//! each place is tested before it is read, and what isn't wholly in the file has no name. It takes no memory of the host,
+//! and no more steps than there are section headers, symbols and bytes of a name.
 //!
 //! What a name is found by is written in `specs/Symbols.antt`.
 #![tactic(auto)]

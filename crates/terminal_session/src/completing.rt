@@ -28,6 +28,11 @@ fn alike(one: &str, other: &str) -> usize {
     count
 }
 
+// Whether all bytes of a name are printable, and none is a blank. A file may hold others, which no prompt shows.
+fn can_be_typed(name: &[u8]) -> bool {
+    name.iter().all(|byte| byte.is_ascii_graphic())
+}
+
 impl Rest {
     // Another word: if it begins so, what it has in common with those before is left.
     fn add(&mut self, alloc: Global, begun: &str, word: &str) -> Result<(), AllocError> {
@@ -70,7 +75,7 @@ impl Rest {
         Ok(())
     }
 
-    // The labels and symbols of a program. (What begins with `$` is read as a register.)
+    // The labels and symbols of a program, as far as they can be typed. (What begins with `$` is read as a register.)
     fn add_names(
         &mut self,
         alloc: Global,
@@ -79,9 +84,8 @@ impl Rest {
     ) -> Result<(), AllocError> {
         for place in 0..source.name_count() {
             let name = source.nth_name(place).unwrap_or(b"");
-            match str::from_utf8(name) {
-                Ok(name) if !name.starts_with('$') => self.add(alloc, begun, name)?,
-                _ => {}
+            if can_be_typed(name) && !name.starts_with(b"$") {
+                self.add(alloc, begun, str::from_utf8(name).unwrap_or(""))?;
             }
         }
         Ok(())
