@@ -126,6 +126,12 @@ impl Rest {
     }
 }
 
+// A name, without the `&` or `*` that may stand before it.
+fn without_sign(word: &str) -> &str {
+    let word = word.strip_prefix('&').unwrap_or(word);
+    word.strip_prefix('*').unwrap_or(word)
+}
+
 // How a word goes on that was begun, at the head of a line or behind other words.
 fn found(
     alloc: Global,
@@ -145,8 +151,9 @@ fn found(
     } else {
         show_help(Some(Topic::Until), &mut text)?;
         rest.add_goals(alloc, begun, text.as_str())?;
-        rest.add_programs(alloc, begun, session, debugger)?;
-        rest.add_names(alloc, begun, &debugger.source_looked_at(session))?;
+        let name = without_sign(begun);
+        rest.add_programs(alloc, name, session, debugger)?;
+        rest.add_names(alloc, name, &debugger.source_looked_at(session))?;
     }
     Ok(rest)
 }
