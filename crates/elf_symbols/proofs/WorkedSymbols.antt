@@ -1,7 +1,8 @@
--- Worked symbols: which addresses a symbol has, and where a name ends.
-use Rattle.std.proofs.Common.{◌≡◌, ℕ, true, false, Some, None, [], ◌∷◌, codes, ◌++◌, refl}
+-- Worked symbols: which addresses a symbol has, where a name ends, and which symbols have one.
+use Rattle.std.proofs.Common.{◌≡◌, ℕ, List, true, false, Some, None, [], ◌∷◌, codes, ◌++◌, refl}
+use Rattle.elf_symbols.specs.declared.section.Section.{Section}
 use Rattle.elf_symbols.specs.declared.symbol.Symbol.{Symbol}
-use Rattle.elf_symbols.specs.Symbols.{covers, has_name, name_in}
+use Rattle.elf_symbols.specs.Symbols.{covers, has_name, name_in, placed_name}
 
 -- a symbol with this type and binding, at 0x10 with 32 bytes
 abbrev at_16 : ℕ → Symbol
@@ -56,3 +57,25 @@ begun_name = refl
 
 unnamed : has_name (codes "main") None ≡ false
 unnamed = refl
+
+-- a function, data and what has no type have names; a section (type 3) and a source's file (type 4) have none
+abbrev names : List ℕ
+names = 0 ∷ codes "main" ++ 0 ∷ []
+
+abbrev in_names : Section
+in_names = record { kind = 3; off = 0; size = 6; link = 0 }
+
+function_has_name : placed_name names in_names (at_16 0x12) ≡ Some (codes "main")
+function_has_name = refl
+
+object_has_name : placed_name names in_names (at_16 0x11) ≡ Some (codes "main")
+object_has_name = refl
+
+untyped_has_name : placed_name names in_names (at_16 0x10) ≡ Some (codes "main")
+untyped_has_name = refl
+
+section_has_none : placed_name names in_names (at_16 0x03) ≡ None
+section_has_none = refl
+
+file_has_none : placed_name names in_names (at_16 0x04) ≡ None
+file_has_none = refl
