@@ -9,6 +9,7 @@ use Rattle.addr_space.proofs.Freeing.{changed-none}
 use Rattle.addr_space.proofs.FromFrames.{leaf-of}
 use Rattle.rv64i_core.specs.Memory.{written}
 use Rattle.hart_core.specs.Steps.{Stepped}
+use Rattle.hart_core.specs.declared.fast.known_code.KnownCode.{KnownCode}
 use Rattle.hart_core.specs.Rooms as rooms
 use Rattle.hart_core.specs.Watch.{IsUnwatched}
 use Rattle.hart_core.specs.UserMemory.{user_at, put_bytes, store_in, SpaceState, space_state, space_store}
@@ -124,8 +125,8 @@ pub ecall-no-fault : (cause : Cause) → stops.Ecall ≢ stops.Fault cause
 ecall-no-fault cause e = cc
 
 -- if there is no root, nothing is known
-none-stands : (ram : List (List ℕ)) → rooms.Stands ram None None
-none-stands ram r m none = absurd (cc)
+none-stands : (ram : List (List ℕ)) (known : KnownCode) → rooms.StandsIn ram (record known { root = None })
+none-stands ram known r m none = absurd (cc)
 
 -- RAM is another, and what is known of its code
 record OnlyRam (old new : Memories) : Type 0 where
@@ -170,7 +171,7 @@ module _ (old : Memories) (slot : ℕ) (hart : Hart) (ready : Ready old slot har
 
   -- the memories with this RAM, and nothing known of its code
   abbrev with-ram : List (List ℕ) → Memories
-  with-ram ram = record old { ram = ram; known = record { root = None; room = None }; stands = none-stands ram }
+  with-ram ram = record old { ram = ram; known = record old.known { root = None }; stands = none-stands ram old.known }
 
   -- the hart once so many instructions led to these registers
   abbrev at : Registers → Translations → Hart

@@ -15,12 +15,12 @@ vec-same {X} {Z} v items ok e =
     one-fact xs = hlevel (le_prop, ℕ_set)
 
 -- memories are told by RAM, the free frames and the slots, if the rest is the same
-pub memories-same : (m : Memories) (ram : List (List ℕ)) (fact : rooms.Stands ram m.known.root m.known.room) → ram ≡ m.ram → record m { ram = ram; stands = fact } ≡ m
+pub memories-same : (m : Memories) (ram : List (List ℕ)) (fact : rooms.StandsIn ram m.known) → ram ≡ m.ram → record m { ram = ram; stands = fact } ≡ m
 memories-same m ram fact e =
-    let one : (f g : rooms.Stands m.ram m.known.root m.known.room) → f ≡ g = hlevel (props) in
-    subst (λ (x : List (List ℕ)). (f : rooms.Stands x m.known.root m.known.room) → record m { ram = x; stands = f } ≡ m) (sym e)
-    (λ f. ap (λ (g : rooms.Stands m.ram m.known.root m.known.room). record m { stands = g }) (one f m.stands)) fact
+    let one : (f g : rooms.StandsIn m.ram m.known) → f ≡ g = hlevel (props) in
+    subst (λ (x : List (List ℕ)). (f : rooms.StandsIn x m.known) → record m { ram = x; stands = f } ≡ m) (sym e)
+    (λ f. ap (λ (g : rooms.StandsIn m.ram m.known). record m { stands = g }) (one f m.stands)) fact
 
-pub memories-back : (m : Memories) (ram : List (List ℕ)) (fact : rooms.Stands ram m.known.root m.known.room) (pool : Pool) (each : _) → ram ≡ m.ram → pool ≡ m.pool
+pub memories-back : (m : Memories) (ram : List (List ℕ)) (fact : rooms.StandsIn ram m.known) (pool : Pool) (each : _) → ram ≡ m.ram → pool ≡ m.pool
     → each ≡ m.each → record m { ram = ram; stands = fact; pool = pool; each = each } ≡ m
 memories-back m ram fact pool each a b d = (λ t. record m { ram = ram; stands = fact; pool = b t; each = d t }) ∙ memories-same m ram fact a
