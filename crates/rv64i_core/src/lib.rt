@@ -39,3 +39,4 @@ pub use instruction::{BranchOp, ImmOp, Instr, LoadOp, RegOp, ShiftOp, StoreOp, W
 pub use operands::{Imm12, Imm20, Shift5, Shift6};
 pub use registers::Regs;
 pub use user_memory::UserMemory;
+pub use values::{extend_12, store_width};
