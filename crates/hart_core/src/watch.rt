@@ -1,5 +1,5 @@
 //! Addresses of instructions, and bytes of memory, that are watched.
-ghost use Rattle.std.specs.Prelude.{◌≡◌, ◌%◌, ◌-◌, ◌&&◌, nat_le, nat_lt};
+ghost use Rattle.std.specs.Prelude.{◌≡◌, ◌≢◌, ℕ, ◌/◌, ◌%◌, ◌-◌, ◌&&◌, true, false, nat_le, nat_lt};
 ghost use Rattle.rv64i_core.specs.Memory.{bytes_of_width};
 ghost use Rattle.hart_core.specs.Watch.{is_one, has_one_among, AreMarked};
 
@@ -68,6 +68,25 @@ impl<'a> Watch<'a> {
             return false;
         }
         self.addresses.contains(&address)
+    }
+
+    // Whether an address lies in this line.
+    #[inline(always)]
+    pub(crate) fn has_address_in(&self, line: u64) -> bool {
+        if !self.lines.is_marked(line) {
+            return false;
+        }
+        self.addresses
+            .iter()
+            .any(|address| *address / LINE_BYTES == line)
+    }
+
+    // Whether a page in this place, modulo 64, may have a watched byte.
+    #[inline(always)]
+    pub(crate) fn may_have_byte_at(&self, place: u64) -> bool
+        ensures { result ≡ false → (b : ℕ) → is_one self.now.bytes.now b ≡ true → b / 4096 % 64 ≢ place % 64 }
+    {
+        self.pages.is_marked(place)
     }
 
     // Whether a byte is watched that an aligned store puts.
