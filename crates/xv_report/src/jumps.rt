@@ -1,18 +1,9 @@
 //! Where a jump or a branch leads.
 ghost use Rattle.std.specs.Prelude.{◌≡◌};
-ghost use Rattle.rv64i_core.specs.Step.{extended};
 ghost use Rattle.xv_report.specs.Jumps.{leads_to, jump_of};
 
-use rv64i_core::{Imm12, Instr, Regs, decode};
+use rv64i_core::{Instr, Regs, decode, extend_12};
 use uasm_text::target;
-
-/// An immediate of 12 bits, sign-extended to 64.
-fn extended(imm: Imm12) -> u64
-    ensures { result ≡ extended 12 imm }
-{
-    let bits = imm.bits() as u64;
-    ((bits << 52).cast_signed() >> 52).cast_unsigned()
-}
 
 /// Where an instruction leads that stands at the pc.
 #[tactic(auto, unfolding(crate::specs::Jumps::leads_to))]
@@ -21,7 +12,7 @@ fn leads_to(regs: &Regs, instr: &Instr) -> Option<u64>
 {
     match instr {
         Instr::Jalr { rs1, imm, .. } => {
-            Some(regs.read(*rs1).wrapping_add(extended(*imm)) / 2 * 2)
+            Some(regs.read(*rs1).wrapping_add(extend_12(*imm)) / 2 * 2)
         }
         _ => target(instr, regs.pc()),
     }

@@ -1,9 +1,9 @@
 //! What a process is about to do, and why it could not do it.
 ghost use Rattle.std.specs.Prelude.{◌≡◌, ◌%◌};
-ghost use Rattle.rv64i_core.specs.Step.{extended, data_address};
+ghost use Rattle.rv64i_core.specs.Step.{data_address};
 ghost use Rattle.xv_session.specs.Looking.{word_at, address_of, next_step_of, FaultTold};
 
-use rv64i_core::{Imm12, Instr, Regs, decode};
+use rv64i_core::{Instr, Regs, decode, extend_12};
 use xk_base::{Cause, Pid};
 use xv_machine::{Event, Machine, Outcome};
 
@@ -28,22 +28,14 @@ pub struct Fault {
     pub cause: Cause,
 }
 
-/// An immediate of 12 bits, sign-extended to 64.
-fn extended(imm: Imm12) -> u64
-    ensures { result ≡ extended 12 imm }
-{
-    let bits = imm.bits() as u64;
-    ((bits << 52).cast_signed() >> 52).cast_unsigned()
-}
-
 /// The address that an instruction loads from or stores to.
 #[tactic(auto, unfolding(rv64i_core::specs::Step::data_address))]
 fn data_address(regs: &Regs, instr: &Instr) -> Option<u64>
     ensures { result ≡ data_address regs.now instr.now }
 {
     match instr {
-        Instr::Load { rs1, imm, .. } => Some(regs.read(*rs1).wrapping_add(extended(*imm))),
-        Instr::Store { rs1, imm, .. } => Some(regs.read(*rs1).wrapping_add(extended(*imm))),
+        Instr::Load { rs1, imm, .. } => Some(regs.read(*rs1).wrapping_add(extend_12(*imm))),
+        Instr::Store { rs1, imm, .. } => Some(regs.read(*rs1).wrapping_add(extend_12(*imm))),
         _ => None,
     }
 }

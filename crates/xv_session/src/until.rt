@@ -10,7 +10,7 @@ ghost use Rattle.xv_session.specs.Until.{makes_step, is_on_call, faults, ends, s
 
 use crate::followed::Followed;
 use crate::looking::next_step;
-use rv64i_core::{Instr, StoreOp, decode};
+use rv64i_core::{Instr, decode, store_width};
 use xk_base::Pid;
 use xv_machine::{Machine, Outcome};
 
@@ -112,18 +112,6 @@ pub(crate) fn is_done(outcome: &Outcome) -> bool
     }
 }
 
-/// How many bytes a store puts.
-fn store_size(op: StoreOp) -> u64
-    ensures { result ≡ bytes_of_width (store_width op) }
-{
-    match op {
-        StoreOp::Sb => 1,
-        StoreOp::Sh => 2,
-        StoreOp::Sw => 4,
-        StoreOp::Sd => 8,
-    }
-}
-
 /// Whether an instruction is a store, of whose bytes, from its own address on, one lies at this one.
 pub(crate) fn puts_at(address: u64, instr: Option<Instr>, own: Option<u64>) -> bool
     ensures { result ≡ puts_at address instr own }
@@ -134,7 +122,7 @@ pub(crate) fn puts_at(address: u64, instr: Option<Instr>, own: Option<u64>) -> b
     let Some(own) = own else {
         return false;
     };
-    own <= address && address - own < store_size(op)
+    own <= address && address - own < store_width(op).bytes() as u64
 }
 
 /// The instruction that a word spells.
