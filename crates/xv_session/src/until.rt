@@ -1,7 +1,5 @@
 //! Running on up to what is waited for.
 ghost use Rattle.std.specs.Prelude.{◌≡◌, ◌&&◌, Some, option_map, replicate};
-ghost use Rattle.rv64i_core.specs.Memory.{bytes_of_width};
-ghost use Rattle.rv64i_core.specs.Step.{store_width};
 ghost use Rattle.kernel_spec.specs.runs.Run as runs;
 ghost use Rattle.xv_machine.specs.Events.{outcome_of};
 ghost use Rattle.xv_session.specs.Follows.{Follows};
