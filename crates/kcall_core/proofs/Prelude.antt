@@ -216,7 +216,7 @@ pub use Rattle.kcall_core.specs.Room.{HasRoom, WholeHasRoom}
 pub use Rattle.kcall_core.specs.Sharings.{IsShared, Joins, MayShare}
 pub use Rattle.kcall_core.specs.Starts.{HasNoProcess, init_loaded, started_world}
 pub use Rattle.kcall_core.specs.Touched.{HasFaulted, IsReady, IsTouched, IsUnready}
-pub use Rattle.kcall_core.specs.Watched.{MakesUnwatched, StepsUnwatched}
+pub use Rattle.kcall_core.specs.Watched.{GoesUnwatched, MakesAllUnwatched, MakesDoneUnwatched, OnlyKept, OnlyKnown, StepsDoneUnwatched, StepsUnwatched}
 pub use Rattle.kcall_core.specs.Whole.{AreCounted, IsWhole, named_in, namings, SleepOnTheirChannels}
 pub use Rattle.kcall_core.specs.declared.call_end.CallEnd.{CallEnd}
 pub use Rattle.kcall_core.specs.declared.kernel.Kernel.{Kernel}
