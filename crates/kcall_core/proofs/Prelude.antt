@@ -74,11 +74,14 @@ pub use Rattle.exec_core.specs.ArgTexts.{push_refusal, terminated}
 pub use Rattle.exec_core.specs.declared.planning.Entry.{Entry}
 pub use Rattle.user_copy.proofs.Ranges.{mapped-inside, may-beyond, reached-mapped, reaches-fewer, reaches-none, reaches-not, reaches-rest}
 pub use Rattle.user_copy.specs.Reach.{allows, may, reaches}
-pub use Rattle.hart_core.proofs.Caches.{fits-none_gone, fits-same, fits_hart, fits_root}
-pub use Rattle.hart_core.specs.Steps.{AreDone, FitsHart, InARow, Instructed, IsLast, last_fault, root_of}
+pub use Rattle.hart_core.proofs.Caches.{fits-none_gone, fits-same, fits_empty, fits_hart, fits_root}
+pub use Rattle.hart_core.specs.Steps.{AreDone, FitsHart, InARow, Instructed, last_fault, root_of}
 pub use Rattle.hart_core.specs.Translations.{but_not, Fits, FitsBut, kept_frame, nothing, nothing_kept, Translations}
 pub use Rattle.hart_core.specs.Trapframe.{words_from}
 unfoldable pub use Rattle.hart_core.specs.Trapframe.{saved}
+pub use Rattle.hart_core.specs.UserMemory.{put_bytes, space_state, space_store, SpaceState}
+unfoldable pub use Rattle.hart_core.specs.UserMemory.{store_in, user_at}
+pub use Rattle.hart_core.specs.Watch.{AreDoneUnwatched, IsUnwatched}
 pub use Rattle.hart_core.specs.declared.hart.Hart.{Hart}
 pub use Rattle.pipe_core.specs.Pipe.{Becomes, IsPipe, new_pipe, Pipe, ring_byte, values_below, with_more, without_first}
 unfoldable pub use Rattle.pipe_core.specs.Pipe.{pipe_in}

@@ -1,8 +1,8 @@
 -- Instructions of the process that runs that use nothing that is watched, one after another.
-use Rattle.kcall_core.proofs.Prelude.{ℕ, ℤ, ◌+◌, ◌-◌, ◌<◌, ◌∙◌, ◌≡◌, ◌≤◌, ap, arith, Bool, descriptors_at, false, get, get_or, halts_with, Hart, held_at, IsRunning, IsSome, IsSound, IsWhole, Kernel, List}
-use Rattle.kcall_core.proofs.Prelude.{After, live_now, live_of, Makes, Memories, None, Option, or_nobody, or_zero, Own, pid_now, place_at, place_now, refl, RunsIn, Same, set_live, slot_now, State, state_of, Step_of}
-use Rattle.kcall_core.proofs.Prelude.{StepsUnwatched, subst, suc, sym, true, turns_of, TurnsAfter, WakesWhereDue, world_of, zero}
-use Rattle.kcall_core.specs.Watched.{GoesUnwatched, MakesAllUnwatched, MakesDoneUnwatched, OnlyKept, OnlyKnown, StepsDoneUnwatched}
+use Rattle.kcall_core.proofs.Prelude.{ℕ, ℤ, ◌+◌, ◌-◌, ◌<◌, ◌∙◌, ◌≡◌, ◌≤◌, After, ap, arith, Bool, descriptors_at, false, get, get_or, GoesUnwatched, halts_with, Hart, held_at, IsRunning, IsSome}
+use Rattle.kcall_core.proofs.Prelude.{IsSound, IsWhole, Kernel, length, List, live_now, live_of, Makes, MakesAllUnwatched, MakesDoneUnwatched, Memories, None, OnlyKept, OnlyKnown, Option, or_nobody}
+use Rattle.kcall_core.proofs.Prelude.{or_zero, Own, pid_now, place_at, place_now, refl, RunsIn, Same, set_live, slot_now, State, state_of, Stays, Step_of, StepsDoneUnwatched, StepsUnwatched, subst}
+use Rattle.kcall_core.proofs.Prelude.{suc, sym, true, turns_of, TurnsAfter, WakesWhereDue, world_of, zero}
 use Rattle.kcall_core.proofs.table.States.{Goes, goes-sound, goes-state, running}
 use Rattle.kcall_core.proofs.turns.Turned.{live-is}
 use Rattle.kcall_core.proofs.making.Instructions.{set-again, step-done, stays-same}
@@ -44,7 +44,7 @@ module _ (k k' : Kernel) (h h' : Hart) (sound : IsSound k h) (runs : IsRunning k
   unfolding turns_of
   kept-turns halted = ap (λ (x : Kernel). turns_of x halted) kernel
 
-  pub kept-world : (halted : Option ℤ) → world_of k' h' halted ≡ world_of k h halted
+  kept-world : (halted : Option ℤ) → world_of k' h' halted ≡ world_of k h halted
   kept-world halted = λ t. record { state = kept-state t; turns = kept-turns halted t }
 
   -- what was made is made
@@ -59,6 +59,13 @@ module _ (k k' : Kernel) (h h' : Hart) (sound : IsSound k h) (runs : IsRunning k
         kept = λ status is. ap (λ (s : State). get s.processes (pid_now first)) kept-state ∙ made.kept status is;
         frames = same.frames ∙ made.frames;
       }
+
+pub kept-stays : (k : Kernel) (h : Hart) (k' : Kernel) (h' : Hart) → IsSound k h → IsRunning k → OnlyKept k h k' h' → Stays k h k' h'
+kept-stays k h k' h' sound runs is = record {
+  whole = is.whole;
+  world = kept-world k k' h h' sound runs is.kernel is.memories is.regs None;
+  frames = ap length is.memories.ram;
+}
 
 -- as the memories tell it
 only-kept : (k : Kernel) (h : Hart) (new : Memories) (h' : Hart) → IsWhole k h → IsRunning k → OnlyKnown k.memories new → h'.regs ≡ h.regs → RunsIn new (slot_now k) h'

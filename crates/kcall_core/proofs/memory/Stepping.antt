@@ -1,20 +1,18 @@
 -- One instruction of the process in a slot.
-use Rattle.kcall_core.proofs.Prelude.{ℕ, ◌%◌, ◌/◌, ◌<◌, ◌≤◌, ◌∙◌, ◌≡◌, ◌≢◌, address_used, ap, AreDone, AreSound, arith, Belongs, Bool, Cause, Changed, each_of, Ecall, false, Fault, Fits, fits_hart}
-use Rattle.kcall_core.proofs.Prelude.{fits_root, FitsHart, frame_at, frame_of, free_in, free_of, get_or, Hart, held_at, image_of, InARow, instr, Instructed, last_fault, length}
-use Rattle.kcall_core.proofs.Prelude.{List, Memories, Next, None, Option, others_stay-set, owned, page_entry, pages_of, Pool, refl, Registers, regs_after, root_of, RunsIn, set, Some, Space, Stands}
-use Rattle.kcall_core.proofs.Prelude.{state_after, Step, step_in, Steps, StepsDone, StepsInARow, StepsUnwatched, Stop, stop_of, subst, suc, sym, trade-lengths, Translations, true, user, with_store}
-use Rattle.kcall_core.proofs.Prelude.{write_pages, zero}
+use Rattle.kcall_core.proofs.Prelude.{ℕ, ◌%◌, ◌/◌, ◌<◌, ◌∙◌, ◌≡◌, ◌≢◌, ◌≤◌, address_used, ap, AreDone, AreSound, arith, Belongs, Bool, Cause, Changed, each_of, Ecall, false, Fault, Fits, fits_hart}
+use Rattle.kcall_core.proofs.Prelude.{fits_root, FitsHart, frame_at, frame_of, free_in, free_of, get_or, Hart, held_at, image_of, InARow, instr, Instructed, IsUnwatched, last_fault, length, List}
+use Rattle.kcall_core.proofs.Prelude.{Memories, Next, None, Option, others_stay-set, owned, page_entry, pages_of, Pool, put_bytes, refl, Registers, regs_after, root_of, RunsIn, set, Some, Space}
+use Rattle.kcall_core.proofs.Prelude.{space_state, space_store, SpaceState, Stands, state_after, Step, step_in, Steps, StepsDone, StepsInARow, StepsUnwatched, Stop, stop_of, store_in, subst, suc, sym}
+use Rattle.kcall_core.proofs.Prelude.{trade-lengths, Translations, true, user, user_at, with_store, write_pages, zero}
 use Rattle.addr_space.proofs.Pages.{bytes-changed}
 use Rattle.addr_space.proofs.Freeing.{changed-none}
 use Rattle.addr_space.proofs.FromFrames.{leaf-of}
 use Rattle.rv64i_core.specs.Memory.{written}
 use Rattle.hart_core.specs.Steps.{Stepped}
 use Rattle.hart_core.specs.declared.fast.known_code.KnownCode.{KnownCode}
-use Rattle.hart_core.specs.Rooms as rooms
-use Rattle.hart_core.specs.Watch.{IsUnwatched}
-use Rattle.hart_core.specs.UserMemory.{user_at, put_bytes, store_in, SpaceState, space_state, space_store}
 use Rattle.kcall_core.proofs.memory.Lists.{set-read}
 use Rattle.kcall_core.proofs.memory.Changes.{belongs-of, image-seen, space-changes, runs-inside}
+use Rattle.hart_core.specs.Rooms as rooms
 use Rattle.addr_space.specs.Space as space
 use Rattle.rv64i_core.specs.declared.execution.Stop.TheVariants as stops
 

@@ -1,10 +1,7 @@
 -- Instructions of the process in a slot that use nothing that is watched.
-use Rattle.kcall_core.proofs.Prelude.{ℕ, ◌∙◌, ◌≡◌, ◌≢◌, address_used, ap, AreSound, Bool, each_of, false, Fits, fits_root, FitsHart, free_in, free_of, FRAMES_MAX, gathered, get_or, Hart, held_in, held_at, instr, Instructed, IsAccounted, kept_pipe, length, List, map, Memories, None, nothing_kept, pipes_of, Same}
-use Rattle.kcall_core.proofs.Prelude.{refl, root_of, RunsIn, StepsUnwatched, stop_of, subst, suc, sym, Translations, true, user, zero}
-use Rattle.kcall_core.specs.Watched.{OnlyKnown, StepsDoneUnwatched}
-use Rattle.hart_core.specs.UserMemory.{user_at}
-use Rattle.hart_core.specs.Watch.{AreDoneUnwatched, IsUnwatched}
-use Rattle.hart_core.proofs.Caches.{fits_empty, fits_hart}
+use Rattle.kcall_core.proofs.Prelude.{ℕ, ◌∙◌, ◌≡◌, ◌≢◌, address_used, ap, AreDoneUnwatched, AreSound, Bool, each_of, false, Fits, fits_empty, fits_hart, fits_root, FitsHart, FRAMES_MAX, free_in}
+use Rattle.kcall_core.proofs.Prelude.{free_of, gathered, get_or, Hart, held_at, held_in, instr, Instructed, IsAccounted, IsUnwatched, kept_pipe, length, List, map, Memories, None, nothing_kept}
+use Rattle.kcall_core.proofs.Prelude.{OnlyKnown, pipes_of, refl, root_of, RunsIn, Same, StepsDoneUnwatched, StepsUnwatched, stop_of, subst, suc, sym, Translations, true, user, user_at, zero}
 use Rattle.kcall_core.proofs.memory.Changes.{image-seen, runs-inside}
 use Rattle.kcall_core.proofs.memory.Stepping.{fault-stays, next-no-fault, none-stands, runs-stands, steps, user-space}
 use Rattle.rv64i_core.specs.declared.execution.Stop.TheVariants as stops
