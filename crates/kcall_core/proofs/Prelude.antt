@@ -81,7 +81,6 @@ pub use Rattle.hart_core.specs.Trapframe.{words_from}
 unfoldable pub use Rattle.hart_core.specs.Trapframe.{saved}
 pub use Rattle.hart_core.specs.UserMemory.{put_bytes, space_state, space_store, SpaceState}
 unfoldable pub use Rattle.hart_core.specs.UserMemory.{store_in, user_at}
-pub use Rattle.hart_core.specs.Watch.{AreDoneUnwatched, IsUnwatched}
 pub use Rattle.hart_core.specs.declared.hart.Hart.{Hart}
 pub use Rattle.pipe_core.specs.Pipe.{Becomes, IsPipe, new_pipe, Pipe, ring_byte, values_below, with_more, without_first}
 unfoldable pub use Rattle.pipe_core.specs.Pipe.{pipe_in}

@@ -1,8 +1,8 @@
 -- Instructions of the process that runs that use nothing that is watched, one after another.
 use Rattle.kcall_core.proofs.Prelude.{ℕ, ℤ, ◌+◌, ◌-◌, ◌<◌, ◌∙◌, ◌≡◌, ◌≤◌, After, ap, arith, Bool, descriptors_at, false, get, get_or, GoesUnwatched, halts_with, Hart, held_at, IsRunning, IsSome}
-use Rattle.kcall_core.proofs.Prelude.{IsSound, IsWhole, Kernel, length, List, live_now, live_of, Makes, MakesAllUnwatched, MakesDoneUnwatched, Memories, None, OnlyKept, OnlyKnown, Option, or_nobody}
-use Rattle.kcall_core.proofs.Prelude.{or_zero, Own, pid_now, place_at, place_now, refl, RunsIn, Same, set_live, slot_now, State, state_of, Stays, Step_of, StepsDoneUnwatched, StepsUnwatched, subst}
-use Rattle.kcall_core.proofs.Prelude.{suc, sym, true, turns_of, TurnsAfter, WakesWhereDue, world_of, zero}
+use Rattle.kcall_core.proofs.Prelude.{IsSound, IsWhole, Kernel, length, List, live_now, live_of, Makes, MakesAllUnwatched, MakesDoneUnwatched, Memories, None, OnlyKept, OnlyKnown, Option, Own}
+use Rattle.kcall_core.proofs.Prelude.{pid_now, place_now, refl, RunsIn, Same, set_live, slot_now, State, state_of, Stays, Step_of, StepsDoneUnwatched, StepsUnwatched, subst, suc, sym, true, turns_of}
+use Rattle.kcall_core.proofs.Prelude.{TurnsAfter, WakesWhereDue, world_of, zero}
 use Rattle.kcall_core.proofs.table.States.{Goes, goes-sound, goes-state, running}
 use Rattle.kcall_core.proofs.turns.Turned.{live-is}
 use Rattle.kcall_core.proofs.making.Instructions.{set-again, step-done, stays-same}
@@ -117,7 +117,7 @@ module _ (addresses bytes : List ℕ) (most : ℕ) (first : Kernel) (start : Har
     fits = omega arith;
   }
 
-  -- behind them only what is kept becomes another
+  -- after them only what is kept becomes another
   kept-done : (made : ℕ) (k : Kernel) (h : Hart) (k' : Kernel) (h' : Hart) → IsSound k h → IsRunning k → OnlyKept k h k' h'
       → MakesDoneUnwatched addresses bytes made first start k h → MakesDoneUnwatched addresses bytes made first start k' h'
   kept-done zero k h k' h' sound runs kept done = kept-twice first start k h k' h' done kept

@@ -1,9 +1,9 @@
 -- One instruction of the process in a slot.
-use Rattle.kcall_core.proofs.Prelude.{ℕ, ◌%◌, ◌/◌, ◌<◌, ◌∙◌, ◌≡◌, ◌≢◌, ◌≤◌, address_used, ap, AreDone, AreSound, arith, Belongs, Bool, Cause, Changed, each_of, Ecall, false, Fault, Fits, fits_hart}
-use Rattle.kcall_core.proofs.Prelude.{fits_root, FitsHart, frame_at, frame_of, free_in, free_of, get_or, Hart, held_at, image_of, InARow, instr, Instructed, IsUnwatched, last_fault, length, List}
-use Rattle.kcall_core.proofs.Prelude.{Memories, Next, None, Option, others_stay-set, owned, page_entry, pages_of, Pool, put_bytes, refl, Registers, regs_after, root_of, RunsIn, set, Some, Space}
-use Rattle.kcall_core.proofs.Prelude.{space_state, space_store, SpaceState, Stands, state_after, Step, step_in, Steps, StepsDone, StepsInARow, StepsUnwatched, Stop, stop_of, store_in, subst, suc, sym}
-use Rattle.kcall_core.proofs.Prelude.{trade-lengths, Translations, true, user, user_at, with_store, write_pages, zero}
+use Rattle.kcall_core.proofs.Prelude.{ℕ, ◌%◌, ◌/◌, ◌<◌, ◌∙◌, ◌≡◌, ◌≢◌, ◌≤◌, address_used, ap, AreDone, AreSound, arith, Belongs, Cause, Changed, each_of, Ecall, Fault, Fits, fits_hart, fits_root}
+use Rattle.kcall_core.proofs.Prelude.{FitsHart, frame_at, frame_of, free_in, free_of, get_or, Hart, held_at, image_of, InARow, instr, Instructed, last_fault, length, List, Memories, Next, None}
+use Rattle.kcall_core.proofs.Prelude.{Option, others_stay-set, owned, page_entry, pages_of, Pool, put_bytes, refl, Registers, regs_after, root_of, RunsIn, set, Some, Space, space_state, space_store}
+use Rattle.kcall_core.proofs.Prelude.{SpaceState, Stands, state_after, Step, step_in, Steps, StepsDone, StepsInARow, Stop, stop_of, store_in, subst, suc, sym, trade-lengths, Translations, user}
+use Rattle.kcall_core.proofs.Prelude.{user_at, with_store, write_pages, zero}
 use Rattle.addr_space.proofs.Pages.{bytes-changed}
 use Rattle.addr_space.proofs.Freeing.{changed-none}
 use Rattle.addr_space.proofs.FromFrames.{leaf-of}

@@ -1,7 +1,8 @@
 -- Instructions of the process in a slot that use nothing that is watched.
-use Rattle.kcall_core.proofs.Prelude.{ℕ, ◌∙◌, ◌≡◌, ◌≢◌, address_used, ap, AreDoneUnwatched, AreSound, Bool, each_of, false, Fits, fits_empty, fits_hart, fits_root, FitsHart, FRAMES_MAX, free_in}
-use Rattle.kcall_core.proofs.Prelude.{free_of, gathered, get_or, Hart, held_at, held_in, instr, Instructed, IsAccounted, IsUnwatched, kept_pipe, length, List, map, Memories, None, nothing_kept}
-use Rattle.kcall_core.proofs.Prelude.{OnlyKnown, pipes_of, refl, root_of, RunsIn, Same, StepsDoneUnwatched, StepsUnwatched, stop_of, subst, suc, sym, Translations, true, user, user_at, zero}
+use Rattle.kcall_core.proofs.Prelude.{ℕ, ◌∙◌, ◌≡◌, ◌≢◌, address_used, ap, AreSound, Bool, each_of, false, Fits, fits_empty, fits_hart, fits_root, FitsHart, FRAMES_MAX, free_in, free_of, gathered}
+use Rattle.kcall_core.proofs.Prelude.{get_or, Hart, held_at, held_in, instr, Instructed, IsAccounted, kept_pipe, length, List, map, Memories, None, nothing_kept, OnlyKnown, pipes_of, refl, root_of}
+use Rattle.kcall_core.proofs.Prelude.{RunsIn, Same, StepsDoneUnwatched, StepsUnwatched, stop_of, subst, suc, sym, Translations, true, user, user_at, zero}
+use Rattle.hart_core.specs.Watch.{AreDoneUnwatched, IsUnwatched}
 use Rattle.kcall_core.proofs.memory.Changes.{image-seen, runs-inside}
 use Rattle.kcall_core.proofs.memory.Stepping.{fault-stays, next-no-fault, none-stands, runs-stands, steps, user-space}
 use Rattle.rv64i_core.specs.declared.execution.Stop.TheVariants as stops
