@@ -1,5 +1,5 @@
 -- Instructions of the process that runs that use nothing that is watched.
-use Rattle.std.proofs.Common.{◌≡◌, ◌≢◌, ℕ, zero, suc, ◌+◌, ◌<◌, ◌≤◌, Bool, false, true, List, [], ◌∷◌, ◌++◌, append_assoc, length, replicate, Option, None, Some}
+use Rattle.std.proofs.Common.{◌≡◌, ℕ, zero, suc, ◌<◌, ◌≤◌, List, [], ◌∷◌, ◌++◌, append_assoc, length, replicate, Option, None, Some}
 use Rattle.std.proofs.Common.{inl, inr, refl, sym, ap, ◌∙◌, subst, arith, add-one}
 use Rattle.std.specs.Prelude.{ℤ, IsSome, option_map, get_or}
 use Rattle.std.proofs.lemmas.Bool.{true≢false}
@@ -13,16 +13,15 @@ use Rattle.proc_table.specs.Slots.{place_at}
 use Rattle.hart_core.specs.declared.hart.Hart.{Hart}
 use Rattle.kernel_spec.specs.views.Processes.{Live}
 use Rattle.kernel_spec.specs.views.ByPid.{by_pid}
-use Rattle.kernel_spec.specs.views.State.{State, live, live_part}
-use Rattle.kernel_spec.specs.steps.Own.{Own, Stepped}
-use Rattle.kernel_spec.specs.steps.Step.{own}
+use Rattle.kernel_spec.specs.views.State.{live, live_part}
+use Rattle.kernel_spec.specs.steps.Own.{Stepped}
 use Rattle.kernel_spec.specs.steps.Cases as laws
-use Rattle.kernel_spec.specs.runs.Run.{World, Run, Step_of}
+use Rattle.kernel_spec.specs.runs.Run.{Run, Step_of}
 use Rattle.kernel_spec.specs.waking.Wakes.{Promised}
-use Rattle.kcall_core.specs.Kernel.{state_of, IsRunning, pid_now, live_now, frame_count}
+use Rattle.kcall_core.specs.Kernel.{state_of, IsRunning, pid_now, live_now}
 use Rattle.kcall_core.specs.Machine.{turns_of, world_of}
 use Rattle.kcall_core.specs.Whole.{IsWhole}
-use Rattle.kcall_core.specs.Makes.{view_now, stop_now}
+use Rattle.kcall_core.specs.Makes.{stop_now}
 use Rattle.kcall_core.specs.Watched.{GoesUnwatched, MakesAllUnwatched, MakesDoneUnwatched, OnlyKept}
 use Rattle.kcall_core.specs.declared.kernel.Kernel.{Kernel}
 use Rattle.kcall_core.proofs.making.Staying.{still-runs}
@@ -34,8 +33,7 @@ use Rattle.kcall_core.proofs.table.States.{running}
 use Rattle.xv_machine.specs.declared.trace.Note.{Note}
 use Rattle.xv_machine.specs.Instructions.{RunsUnwatched, AreUnwatched, noted}
 use Rattle.xv_machine.specs.Machine.{meaning_of, frames_in, owned_entry}
-use Rattle.xv_machine.specs.Meaning.{Meaning, Frames}
-use Rattle.xv_machine.specs.Reached.{IsEvent}
+use Rattle.xv_machine.specs.Meaning.{Meaning}
 use Rattle.xv_machine.specs.Sound.{IsHalted}
 use Rattle.xv_machine.specs.Steps.{IsBusy, Did}
 use Rattle.xv_machine.proofs.Frames.{sound-of}

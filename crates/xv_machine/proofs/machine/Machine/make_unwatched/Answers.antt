@@ -1,6 +1,5 @@
-use Rattle.std.proofs.Common.{◌≡◌, sym, ap, subst, ◌∙◌, None}
-use Rattle.xv_machine.proofs.Advances.{now-running, is-on}
-use Rattle.xv_machine.proofs.Runs.{current-pid, first-lives}
+use Rattle.xv_machine.proofs.Advances.{now-running}
+use Rattle.xv_machine.proofs.Runs.{current-pid}
 use Rattle.xv_machine.proofs.Unwatched.{now-made, now-stops, now-lives, now-whole}
 use Rattle.xv_machine.proofs.machine.Machine.make_unwatched.Goals as goal
 
