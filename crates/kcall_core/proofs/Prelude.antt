@@ -74,11 +74,13 @@ pub use Rattle.exec_core.specs.ArgTexts.{push_refusal, terminated}
 pub use Rattle.exec_core.specs.declared.planning.Entry.{Entry}
 pub use Rattle.user_copy.proofs.Ranges.{mapped-inside, may-beyond, reached-mapped, reaches-fewer, reaches-none, reaches-not, reaches-rest}
 pub use Rattle.user_copy.specs.Reach.{allows, may, reaches}
-pub use Rattle.hart_core.proofs.Caches.{fits-none_gone, fits-same, fits_hart, fits_root}
-pub use Rattle.hart_core.specs.Steps.{AreDone, FitsHart, InARow, Instructed, IsLast, last_fault, root_of}
+pub use Rattle.hart_core.proofs.Caches.{fits-none_gone, fits-same, fits_empty, fits_hart, fits_root}
+pub use Rattle.hart_core.specs.Steps.{AreDone, FitsHart, InARow, Instructed, last_fault, root_of}
 pub use Rattle.hart_core.specs.Translations.{but_not, Fits, FitsBut, kept_frame, nothing, nothing_kept, Translations}
 pub use Rattle.hart_core.specs.Trapframe.{words_from}
 unfoldable pub use Rattle.hart_core.specs.Trapframe.{saved}
+pub use Rattle.hart_core.specs.UserMemory.{put_bytes, space_state, space_store, SpaceState}
+unfoldable pub use Rattle.hart_core.specs.UserMemory.{store_in, user_at}
 pub use Rattle.hart_core.specs.declared.hart.Hart.{Hart}
 pub use Rattle.pipe_core.specs.Pipe.{Becomes, IsPipe, new_pipe, Pipe, ring_byte, values_below, with_more, without_first}
 unfoldable pub use Rattle.pipe_core.specs.Pipe.{pipe_in}
@@ -216,7 +218,7 @@ pub use Rattle.kcall_core.specs.Room.{HasRoom, WholeHasRoom}
 pub use Rattle.kcall_core.specs.Sharings.{IsShared, Joins, MayShare}
 pub use Rattle.kcall_core.specs.Starts.{HasNoProcess, init_loaded, started_world}
 pub use Rattle.kcall_core.specs.Touched.{HasFaulted, IsReady, IsTouched, IsUnready}
-pub use Rattle.kcall_core.specs.Watched.{MakesUnwatched, StepsUnwatched}
+pub use Rattle.kcall_core.specs.Watched.{GoesUnwatched, MakesAllUnwatched, MakesDoneUnwatched, OnlyKept, OnlyKnown, StepsDoneUnwatched, StepsUnwatched}
 pub use Rattle.kcall_core.specs.Whole.{AreCounted, IsWhole, named_in, namings, SleepOnTheirChannels}
 pub use Rattle.kcall_core.specs.declared.call_end.CallEnd.{CallEnd}
 pub use Rattle.kcall_core.specs.declared.kernel.Kernel.{Kernel}

@@ -16,5 +16,6 @@ pub mod Replaced
 pub mod Roles
 pub mod Runs
 pub mod Stepping
+pub mod Unwatched
 pub mod Vectors
 pub mod Written

@@ -24,7 +24,7 @@ ghost use Rattle.kcall_core.specs.Kernel.{IsRunning, slot_now, pid_now, live_now
 ghost use Rattle.kcall_core.specs.Machine.{world_of};
 ghost use Rattle.kcall_core.specs.Starts.{HasNoProcess};
 ghost use Rattle.kcall_core.specs.Whole.{IsWhole};
-ghost use Rattle.kcall_core.specs.Watched.{MakesUnwatched};
+ghost use Rattle.kcall_core.specs.Watched.{MakesAllUnwatched};
 ghost use Rattle.kcall_core.specs.Makes.{Makes, MakesInARow, Stays, StillRuns, view_now, stop_now};
 
 mod booting;
@@ -125,18 +125,26 @@ impl Kernel {
         }
     }
 
-    /// One instruction of the process that runs, if it is done on the pages that are there and uses nothing that is
-    /// watched. It tells whether it made one; if not, nothing that can be seen is another.
-    #[inline(always)]
-    pub fn step_unwatched(&mut self, hart: &mut Hart, watch: &Watch<'_>) -> bool
+    /// Instructions of the process that runs that are done on the pages that are there and use nothing that is watched,
+    /// one after another, `most` at most. It tells how many it made; if they are fewer, the next one is no such.
+    pub fn steps_unwatched(&mut self, hart: &mut Hart, most: u32, watch: &Watch<'_>) -> u32
         requires whole { IsWhole self.old hart.old }
         requires running { IsRunning self.old }
         requires between_calls { laws.IsBetweenCalls (live_now self.old hart.old) }
-        ensures made { MakesUnwatched watch.now.addresses.now watch.now.bytes.now result self.old hart.old self.new hart.new }
-        ensures running { IsRunning self.new }
-        ensures between_calls { laws.IsBetweenCalls (live_now self.new hart.new) }
+        ensures { MakesAllUnwatched watch.now.addresses.now watch.now.bytes.now most result self.old hart.old self.new hart.new }
     {
-        self.memories.step_unwatched(hart, watch)
+        let mut made = 0;
+        'rows: while made < most {
+            made += self.memories.steps_unwatched(hart, most - made, watch);
+            if made == most {
+                return made;
+            }
+            if !self.memories.step_unwatched(hart, watch) {
+                return made;
+            }
+            made += 1;
+        }
+        made
     }
 }
 

@@ -1,56 +1,52 @@
 -- Instructions of the process that runs that use nothing that is watched.
-use Rattle.std.proofs.Common.{◌≡◌, ◌≢◌, ℕ, zero, suc, ◌+◌, ◌<◌, ◌≤◌, Bool, false, true, List, [], ◌∷◌, ◌++◌, append_assoc, length, replicate, Option, None, Some}
+use Rattle.std.proofs.Common.{◌≡◌, ℕ, zero, suc, ◌<◌, ◌≤◌, List, [], ◌∷◌, ◌++◌, append_assoc, length, replicate, Option, None, Some}
 use Rattle.std.proofs.Common.{inl, inr, refl, sym, ap, ◌∙◌, subst, arith, add-one}
-use Rattle.std.specs.Prelude.{ℤ, IsSome, is_some, option_map}
+use Rattle.std.specs.Prelude.{ℤ, IsSome, option_map, get_or}
 use Rattle.std.proofs.lemmas.Bool.{true≢false}
 use Rattle.std.proofs.lemmas.List.{replicate_more}
 use Rattle.std.proofs.lemmas.Option.{same_Some}
 use Rattle.circular_buffer.specs.Buffer.{Buffer, buffer, keep_last}
-use Rattle.rv64i_core.specs.Registers.{Registers}
 use Rattle.rv64i_core.specs.declared.execution.Stop.TheVariants as stops
-use Rattle.xk_base.specs.Image.{Image}
+use Rattle.xk_base.specs.declared.limits.TheConstants.{NPROC}
+use Rattle.frame_list.specs.Pool.{free_in}
+use Rattle.proc_table.specs.Slots.{place_at}
 use Rattle.hart_core.specs.declared.hart.Hart.{Hart}
 use Rattle.kernel_spec.specs.views.Processes.{Live}
-use Rattle.kernel_spec.specs.views.State.{State, live, live_part}
-use Rattle.kernel_spec.specs.steps.Own.{Own, Stepped}
-use Rattle.kernel_spec.specs.steps.Step.{own}
+use Rattle.kernel_spec.specs.views.ByPid.{by_pid}
+use Rattle.kernel_spec.specs.views.State.{live, live_part}
+use Rattle.kernel_spec.specs.steps.Own.{Stepped}
 use Rattle.kernel_spec.specs.steps.Cases as laws
-use Rattle.kernel_spec.specs.runs.Run.{World, Run, Step_of}
+use Rattle.kernel_spec.specs.runs.Run.{Run, Step_of}
 use Rattle.kernel_spec.specs.waking.Wakes.{Promised}
-use Rattle.kcall_core.specs.Kernel.{state_of, IsRunning, pid_now, live_now, frame_count}
+use Rattle.kcall_core.specs.Kernel.{state_of, IsRunning, pid_now, live_now}
 use Rattle.kcall_core.specs.Machine.{turns_of, world_of}
 use Rattle.kcall_core.specs.Whole.{IsWhole}
-use Rattle.kcall_core.specs.Makes.{Makes, Stays, view_now, stop_now}
-use Rattle.kcall_core.specs.Watched.{GoesUnwatched, MakesUnwatched}
+use Rattle.kcall_core.specs.Makes.{stop_now}
+use Rattle.kcall_core.specs.Watched.{GoesUnwatched, MakesAllUnwatched, MakesDoneUnwatched, OnlyKept}
 use Rattle.kcall_core.specs.declared.kernel.Kernel.{Kernel}
+use Rattle.kcall_core.proofs.making.Staying.{still-runs}
 use Rattle.kcall_core.proofs.making.TouchedSteps.{stop-plain}
+use Rattle.kcall_core.proofs.making.Unwatched.{kept-stays}
 use Rattle.kcall_core.proofs.memory.Stepping.{next-no-fault}
 use Rattle.kcall_core.proofs.turns.Turned.{live-is}
 use Rattle.kcall_core.proofs.table.States.{running}
 use Rattle.xv_machine.specs.declared.trace.Note.{Note}
-use Rattle.xv_machine.specs.Instructions.{RunsUnwatched, AreUnwatched, DidUnwatched, InstructedUnwatched, noted}
-use Rattle.xv_machine.specs.Machine.{meaning_of}
-use Rattle.xv_machine.specs.Meaning.{Meaning, Frames}
-use Rattle.xv_machine.specs.Reached.{IsEvent}
+use Rattle.xv_machine.specs.Instructions.{RunsUnwatched, AreUnwatched, noted}
+use Rattle.xv_machine.specs.Machine.{meaning_of, frames_in, owned_entry}
+use Rattle.xv_machine.specs.Meaning.{Meaning}
 use Rattle.xv_machine.specs.Sound.{IsHalted}
 use Rattle.xv_machine.specs.Steps.{IsBusy, Did}
 use Rattle.xv_machine.proofs.Frames.{sound-of}
 use Rattle.xv_machine.proofs.Kept.{keep-all, keep-more, kept-within}
 use Rattle.xv_machine.proofs.Advances.{is-on, now-running}
-use Rattle.xv_machine.proofs.Repeated.{did-none, did-more, step-done, some-none}
+use Rattle.xv_machine.proofs.Repeated.{did-none, did-more, did-stays, step-done, some-none}
 use Rattle.xv_machine.proofs.Runs.{current-pid, count-is, first-lives, still-lives}
 
 -- ---- in the kernel
 
--- none yet
-pub none-unwatched : (k : Kernel) (h : Hart) → IsWhole k h → Stays k h k h
-none-unwatched k h whole = record { whole = whole; world = refl; frames = refl }
-
-pub busy-unwatched : (addresses bytes : List ℕ) (k : Kernel) (h : Hart) (most : ℕ) → IsWhole k h → IsBusy (live_now k h) → InstructedUnwatched addresses bytes k h most 0 k h
+pub busy-unwatched : (addresses bytes : List ℕ) (k : Kernel) (h : Hart) (most : ℕ) → IsWhole k h → IsBusy (live_now k h) → MakesAllUnwatched addresses bytes most 0 k h k h
 busy-unwatched addresses bytes k h most whole busy = record {
-  between = h;
-  did = (refl, refl);
-  stays = none-unwatched k h whole;
+  done = record { whole = whole; kernel = refl; memories = record { ram = refl; pool = refl; each = refl; pipes = refl }; regs = refl };
   within = omega arith;
   stops = λ few free. absurd (busy-free busy free);
 }
@@ -59,37 +55,17 @@ busy-unwatched addresses bytes k h most whole busy = record {
     busy-free (inl killed) free = true≢false (sym killed ∙ free.0)
     busy-free (inr call) free = some-none (live_now k h).call call free.1
 
-module _ (addresses bytes : List ℕ) (most made : ℕ) (k : Kernel) (h : Hart) (mid : Kernel) (between : Hart) (did : DidUnwatched addresses bytes made k h mid between) where
-  -- one more
-  pub more-unwatched : (k' : Kernel) (h' : Hart) (done : Bool) → done ≡ true → laws.IsBetweenCalls (live_now mid between) → MakesUnwatched addresses bytes done mid between k' h'
-      → DidUnwatched addresses bytes (made + 1) k h k' h'
-  more-unwatched k' h' done is free step =
-      let s = subst (λ b. MakesUnwatched addresses bytes b mid between k' h') is step in
-      subst (λ n. DidUnwatched addresses bytes n k h k' h') (sym (add-one made)) (mid, between, did, free, s.0, s.1)
-
-  -- the next one isn't made
-  pub stopped-unwatched : (k' : Kernel) (h' : Hart) (done : Bool) → done ≡ false → made < most → MakesUnwatched addresses bytes done mid between k' h'
-      → InstructedUnwatched addresses bytes k h most made k' h'
-  stopped-unwatched k' h' done is few step =
-      let s = subst (λ b. MakesUnwatched addresses bytes b mid between k' h') is step in
-      subst (λ x. InstructedUnwatched addresses bytes k h most made x h') (sym s.1) (record {
-        between = between;
-        did = did;
-        stays = s.2;
-        within = omega (arith, few);
-        stops = λ _ free. s.0;
-      })
-
-  -- all are made
-  pub all-unwatched : made ≡ most → IsWhole mid between → InstructedUnwatched addresses bytes k h most most mid between
-  all-unwatched all whole =
-      subst (λ n. InstructedUnwatched addresses bytes k h most n mid between) all (record {
-        between = between;
-        did = did;
-        stays = none-unwatched mid between whole;
-        within = omega (arith, all);
-        stops = λ few. absurd (omega (arith, few, all));
-      })
+-- where only what is kept is another, each frame has the owner that it had
+kept-frames : (k : Kernel) (h : Hart) (k' : Kernel) (h' : Hart) → OnlyKept k h k' h' → frames_in k' ≡ frames_in k
+unfolding frames_in
+kept-frames k h k' h' is =
+    let m = is.memories in
+    let table : k'.table ≡ k.table = ap (λ (x : Kernel). x.table) is.kernel in
+    λ t. record {
+      count = length (m.ram t);
+      free = free_in (m.pool t) (m.ram t);
+      owned = by_pid (λ slot. owned_entry (m.ram t) (place_at (table t) slot) (get_or (m.each t) slot None)) NPROC;
+    }
 
 -- ---- as the machine sees them
 
@@ -129,9 +105,13 @@ module _ (addresses bytes : List ℕ) (trace : Buffer Note) (p : ℕ) where
       lives = ap (live (state_of k h)) (sym is) ∙ live-now k h whole runs
 
   chain : (n : ℕ) (k : Kernel) (h : Hart) (k' : Kernel) (h' : Hart) → IsWhole k h → IsRunning k → IsSome (live (state_of k h) 1) → pid_now k ≡ p
-      → DidUnwatched addresses bytes n k h k' h' → Did k h n k' h' × AreUnwatched addresses bytes p n (seen 0 k h) (seen n k' h')
-  chain zero k h k' h' whole runs first is did =
-      subst (λ x. Did k h 0 x h' × (seen 0 x h' ≡ seen 0 k h)) (sym did.0) (subst (λ x. Did k h 0 k x × (seen 0 k x ≡ seen 0 k h)) (sym did.1) (did-none k h whole runs first, refl))
+      → MakesDoneUnwatched addresses bytes n k h k' h' → Did k h n k' h' × AreUnwatched addresses bytes p n (seen 0 k h) (seen n k' h')
+  chain zero k h k' h' whole runs first is kept =
+      let stays = kept-stays k h k' h' whole.sound runs kept in
+      let frames = kept-frames k h k' h' kept in (
+        did-stays k k k' h h h' 0 (did-none k h whole runs first) stays (still-runs k k' h h' whole.sound runs stays),
+        λ t. record (seen 0 k h) { world = stays.world t; frames = frames t },
+      )
   chain (suc n) k h k' h' whole runs first is (mid, between, before, free, goes, made) =
       let (did, so_far) = chain n k h mid between whole runs first is before in
       let next : stop_now mid between ≡ stops.Next = sym (stop-plain mid between stops.Next (sym goes.done) next-no-fault) in
@@ -154,13 +134,13 @@ module _ (addresses bytes : List ℕ) (trace : Buffer Note) (p : ℕ) where
       )
 
 -- what they leave, and why there are no more
-module _ (addresses bytes : List ℕ) (k : Kernel) (h : Hart) (most made : ℕ) (k' : Kernel) (h' : Hart) (is : InstructedUnwatched addresses bytes k h most made k' h')
+module _ (addresses bytes : List ℕ) (k : Kernel) (h : Hart) (most made : ℕ) (k' : Kernel) (h' : Hart) (is : MakesAllUnwatched addresses bytes most made k h k' h')
     (whole : IsWhole k h) (runs : IsRunning k) (first : IsSome (live (state_of k h) 1)) (p : ℕ) (pid : pid_now k ≡ p) (trace : Buffer Note) (kept : length trace.items ≤ trace.capacity) where
-  all : Did k h made k' is.between × AreUnwatched addresses bytes p made (seen addresses bytes trace p 0 k h) (seen addresses bytes trace p made k' is.between)
-  all = chain addresses bytes trace p made k h k' is.between whole runs first pid is.did
+  all : Did k h made k' h' × AreUnwatched addresses bytes p made (seen addresses bytes trace p 0 k h) (seen addresses bytes trace p made k' h')
+  all = chain addresses bytes trace p made k h k' h' whole runs first pid is.done
 
-  pub unwatched-first : IsSome (live (state_of k' h') 1)
-  unwatched-first = ap (λ (w : World). is_some (live w.state 1)) is.stays.world ∙ all.0.first
+  pub unwatched-did : Did k h made k' h'
+  unwatched-did = all.0
 
   -- as a machine that isn't halted
   abbrev meant : Kernel → Hart → Meaning
@@ -169,19 +149,13 @@ module _ (addresses bytes : List ℕ) (k : Kernel) (h : Hart) (most made : ℕ) 
   pub unwatched-made : AreUnwatched addresses bytes p made (meant k h) (noted p made (meant k' h'))
   unwatched-made =
       let start : seen addresses bytes trace p 0 k h ≡ meant k h = λ t. record (seen addresses bytes trace p 0 k h) { notes = keep-all trace.capacity trace.items kept t } in
-      let end : seen addresses bytes trace p made k' is.between ≡ noted p made (meant k' h') =
-      λ t. record (seen addresses bytes trace p made k' is.between) { world = sym is.stays.world t } in
-      subst (λ m. AreUnwatched addresses bytes p made m (noted p made (meant k' h'))) start (subst (AreUnwatched addresses bytes p made (seen addresses bytes trace p 0 k h)) end all.1)
+      subst (λ m. AreUnwatched addresses bytes p made m (noted p made (meant k' h'))) start all.1
 
   pub unwatched-stops : made < most → ¬ RunsUnwatched addresses bytes (world_of k' h' None)
   unwatched-stops few (q, l, current, lives, free, goes) =
       let did = all.0 in
-      let w : World = world_of k' is.between None in
-      let there : (q ≡ pid_now k') × (live (state_of k' is.between) q ≡ Some l) = (
-        same_Some q (pid_now k') (sym current ∙ ap (λ (v : World). v.turns.current) is.stays.world ∙ running-now k' is.between did.whole did.running),
-        sym (ap (λ (v : World). live v.state q) is.stays.world) ∙ lives,
-      ) in
-      let same : live_now k' is.between ≡ l = same_Some (live_now k' is.between) l (sym (live-now k' is.between did.whole did.running) ∙ ap (live (state_of k' is.between)) (sym there.0) ∙ there.1) in
+      let now : q ≡ pid_now k' = same_Some q (pid_now k') (sym current ∙ running-now k' h' did.whole did.running) in
+      let same : live_now k' h' ≡ l = same_Some (live_now k' h') l (sym (live-now k' h' did.whole did.running) ∙ ap (live (state_of k' h')) (sym now) ∙ lives) in
       is.stops few (subst (λ x. laws.IsBetweenCalls x) (sym same) free) (subst (λ (x : Live). GoesUnwatched addresses bytes x.regs x.image) (sym same) goes)
 
 -- ---- at the machine's own call
@@ -189,7 +163,7 @@ module _ (addresses bytes : List ℕ) (k : Kernel) (h : Hart) (most made : ℕ) 
 module _ (addresses bytes : List ℕ) (k : Kernel) (h : Hart) (halted : Option ℤ) (trace : Buffer Note) (now : Meaning) (p : ℕ)
     (sees : meaning_of (record { kernel = k; hart = h; halted = halted; trace = trace }) ≡ now) (current : now.world.turns.current ≡ Some p)
     (whole : IsWhole k h) (end : IsHalted (state_of k h) (turns_of k halted) halted) (kept : length trace.items ≤ trace.capacity)
-    (most made : ℕ) (k' : Kernel) (h' : Hart) (is : InstructedUnwatched addresses bytes k h most made k' h') where
+    (most made : ℕ) (k' : Kernel) (h' : Hart) (is : MakesAllUnwatched addresses bytes most made k h k' h') where
   runs-here : IsRunning k × (p ≡ pid_now k)
   runs-here = current-pid k p (now-running k h halted trace now p sees current)
 
@@ -199,8 +173,14 @@ module _ (addresses bytes : List ℕ) (k : Kernel) (h : Hart) (halted : Option �
   lives-here : IsSome (live (state_of k h) 1)
   lives-here = first-lives k h halted end on
 
+  did : Did k h made k' h'
+  did = unwatched-did addresses bytes k h most made k' h' is whole runs-here.0 lives-here p (sym runs-here.1) trace kept
+
+  pub now-whole : IsWhole k' h'
+  now-whole = did.whole
+
   pub now-lives : IsHalted (state_of k' h') (turns_of k' halted) halted
-  now-lives = still-lives k' h' halted on (unwatched-first addresses bytes k h most made k' h' is whole runs-here.0 lives-here p (sym runs-here.1) trace kept)
+  now-lives = still-lives k' h' halted on did.first
 
   pub now-made : AreUnwatched addresses bytes p made now (noted p made (meaning_of (record { kernel = k'; hart = h'; halted = halted; trace = trace })))
   now-made =

@@ -8,8 +8,7 @@ use Rattle.circular_buffer.specs.Buffer.{keep_last}
 use Rattle.kernel_spec.specs.steps.Own.{Stepped}
 use Rattle.kernel_spec.specs.steps.Step.{own}
 use Rattle.kernel_spec.specs.runs.Run.{World, Run, Step_of, Happens}
-use Rattle.kcall_core.specs.Kernel.{live_now}
-use Rattle.kcall_core.specs.Makes.{Makes, Stays, view_now}
+use Rattle.kcall_core.specs.Makes.{view_now}
 use Rattle.kcall_core.specs.Watched.{GoesUnwatched}
 use Rattle.kcall_core.specs.declared.kernel.Kernel.{Kernel}
 use Rattle.xv_machine.specs.declared.trace.Note.{Note}
@@ -41,18 +40,3 @@ AreUnwatched addresses bytes p (suc n) old new = (mid : Meaning) × AreUnwatched
 -- a machine that keeps so many notes of them
 abbrev pub noted : (p made : ℕ) → Meaning → Meaning
 noted p made m = record m { notes = keep_last m.room (m.notes ++ replicate made (Note.Stepped p)) }
-
--- the kernel's process has made so many of them. Only this crate's private functions speak of it
-abbrev pub DidUnwatched : (addresses bytes : List ℕ) → (made : ℕ) → Kernel → Hart → Kernel → Hart → Type 0
-DidUnwatched addresses bytes zero k h k' h' = (k' ≡ k) × (h' ≡ h)
-DidUnwatched addresses bytes (suc n) k h k' h' =
-    (mid : Kernel) × (between : Hart) × DidUnwatched addresses bytes n k h mid between × IsBetweenCalls (live_now mid between)
-    × GoesUnwatched addresses bytes (live_now mid between).regs (live_now mid between).image × Makes mid between (own (view_now mid between)) k' h'
-
--- as many as there are, `most` at most
-pub record InstructedUnwatched (addresses bytes : List ℕ) (k : Kernel) (h : Hart) (most made : ℕ) (k' : Kernel) (h' : Hart) : Type 0 where
-  pub between : Hart
-  pub did : DidUnwatched addresses bytes made k h k' between
-  pub stays : Stays k' between k' h'
-  pub within : made ≤ most
-  pub stops : made < most → IsBetweenCalls (live_now k' between) → ¬ GoesUnwatched addresses bytes (live_now k' between).regs (live_now k' between).image

@@ -8,9 +8,10 @@ ghost use Rattle.kernel_spec.specs.views.State.{live};
 ghost use Rattle.kcall_core.specs.Kernel.{state_of, IsSound, IsRunning, pid_now, live_now};
 ghost use Rattle.kcall_core.specs.Whole.{IsWhole};
 ghost use Rattle.kcall_core.specs.Makes.{Makes, view_now, stop_now, answer_of};
+ghost use Rattle.kcall_core.specs.Watched.{MakesAllUnwatched};
 ghost use Rattle.rv64i_core.specs.declared.execution.Stop.TheVariants as stops;
 ghost use Rattle.xv_machine.specs.Events.{outcome_of};
-ghost use Rattle.xv_machine.specs.Instructions.{Instructed, InstructedUnwatched};
+ghost use Rattle.xv_machine.specs.Instructions.{Instructed};
 ghost use Rattle.xv_machine.specs.Steps.{IsBusy, Advanced};
 
 use crate::event::Outcome;
@@ -198,15 +199,10 @@ pub(crate) fn instructions_unwatched(
 ) -> u32
     requires whole { IsWhole kernel.old hart.old }
     requires running { IsRunning kernel.old }
-    ensures { InstructedUnwatched watch.now.addresses.now watch.now.bytes.now kernel.old hart.old most result kernel.new hart.new }
+    ensures { MakesAllUnwatched watch.now.addresses.now watch.now.bytes.now most result kernel.old hart.old kernel.new hart.new }
 {
     if is_busy(kernel) {
         return 0;
     }
-    'row: for made in 0..most {
-        if !kernel.step_unwatched(hart, watch) {
-            return made;
-        }
-    }
-    most
+    kernel.steps_unwatched(hart, most, watch)
 }

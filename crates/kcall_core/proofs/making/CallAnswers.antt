@@ -1,7 +1,7 @@
 -- What a call of the process that runs comes to: at its first step, and where it goes on.
 use Rattle.kcall_core.proofs.Prelude.{ℤ, ◌∙◌, ◌≡◌, A0, A1, A2, A7, after, answer_of, ap, begun_live, begun_state, c_int, Call, call_begun, call_in, call_or_begun, CallEnd, done, Ecall, false, Hart}
-use Rattle.kcall_core.proofs.Prelude.{IsRunning, IsSound, IsWhole, Kernel, length, live_now, Makes, next_instruction, None, Option, Own, own, own_state, perform, pid_now, refl, reg, Some}
-use Rattle.kcall_core.proofs.Prelude.{state_of, subst, sym, view_now, view_of, with_answer, with_pc}
+use Rattle.kcall_core.proofs.Prelude.{IsRunning, IsSound, IsWhole, Kernel, length, live_now, Makes, next_instruction, None, Option, Own, own, own_state, perform, pid_now, refl, reg, Some, state_of}
+use Rattle.kcall_core.proofs.Prelude.{subst, sym, view_now, view_of, with_answer, with_pc}
 use Rattle.kcall_core.proofs.table.InCall.{calling, moved, is-in-call}
 use Rattle.kcall_core.proofs.turns.Turned.{live-is}
 use Rattle.kcall_core.proofs.making.Buffers.{unmoved-keeps}

@@ -1,20 +1,18 @@
 -- One instruction of the process in a slot.
-use Rattle.kcall_core.proofs.Prelude.{ℕ, ◌%◌, ◌/◌, ◌<◌, ◌≤◌, ◌∙◌, ◌≡◌, ◌≢◌, address_used, ap, AreDone, AreSound, arith, Belongs, Bool, Cause, Changed, each_of, Ecall, false, Fault, Fits, fits_hart}
-use Rattle.kcall_core.proofs.Prelude.{fits_root, FitsHart, frame_at, frame_of, free_in, free_of, get_or, Hart, held_at, image_of, InARow, instr, Instructed, last_fault, length}
-use Rattle.kcall_core.proofs.Prelude.{List, Memories, Next, None, Option, others_stay-set, owned, page_entry, pages_of, Pool, refl, Registers, regs_after, root_of, RunsIn, set, Some, Space, Stands}
-use Rattle.kcall_core.proofs.Prelude.{state_after, Step, step_in, Steps, StepsDone, StepsInARow, StepsUnwatched, Stop, stop_of, subst, suc, sym, trade-lengths, Translations, true, user, with_store}
-use Rattle.kcall_core.proofs.Prelude.{write_pages, zero}
+use Rattle.kcall_core.proofs.Prelude.{ℕ, ◌%◌, ◌/◌, ◌<◌, ◌∙◌, ◌≡◌, ◌≢◌, ◌≤◌, address_used, ap, AreDone, AreSound, arith, Belongs, Cause, Changed, each_of, Ecall, Fault, Fits, fits_hart, fits_root}
+use Rattle.kcall_core.proofs.Prelude.{FitsHart, frame_at, frame_of, free_in, free_of, get_or, Hart, held_at, image_of, InARow, instr, Instructed, last_fault, length, List, Memories, Next, None}
+use Rattle.kcall_core.proofs.Prelude.{Option, others_stay-set, owned, page_entry, pages_of, Pool, put_bytes, refl, Registers, regs_after, root_of, RunsIn, set, Some, Space, space_state, space_store}
+use Rattle.kcall_core.proofs.Prelude.{SpaceState, Stands, state_after, Step, step_in, Steps, StepsDone, StepsInARow, Stop, stop_of, store_in, subst, suc, sym, trade-lengths, Translations, user}
+use Rattle.kcall_core.proofs.Prelude.{user_at, with_store, write_pages, zero}
 use Rattle.addr_space.proofs.Pages.{bytes-changed}
 use Rattle.addr_space.proofs.Freeing.{changed-none}
 use Rattle.addr_space.proofs.FromFrames.{leaf-of}
 use Rattle.rv64i_core.specs.Memory.{written}
 use Rattle.hart_core.specs.Steps.{Stepped}
 use Rattle.hart_core.specs.declared.fast.known_code.KnownCode.{KnownCode}
-use Rattle.hart_core.specs.Rooms as rooms
-use Rattle.hart_core.specs.Watch.{IsUnwatched}
-use Rattle.hart_core.specs.UserMemory.{user_at, put_bytes, store_in, SpaceState, space_state, space_store}
 use Rattle.kcall_core.proofs.memory.Lists.{set-read}
 use Rattle.kcall_core.proofs.memory.Changes.{belongs-of, image-seen, space-changes, runs-inside}
+use Rattle.hart_core.specs.Rooms as rooms
 use Rattle.addr_space.specs.Space as space
 use Rattle.rv64i_core.specs.declared.execution.Stop.TheVariants as stops
 
@@ -45,7 +43,7 @@ step-image ram ram' s Ecall e = ap (λ p. record { pages = p; size = s.size }) e
 step-image ram ram' s (Fault cause) e = ap (λ p. record { pages = p; size = s.size }) e
 
 -- the memory that user code sees of a space
-user-space : (ram : List (List ℕ)) (s : Space) → user_at ram s.root ≡ user (image_of ram s)
+pub user-space : (ram : List (List ℕ)) (s : Space) → user_at ram s.root ≡ user (image_of ram s)
 unfolding user user_at
 user-space ram s = refl
 
@@ -113,7 +111,7 @@ record Ready (m : Memories) (slot : ℕ) (hart : Hart) : Type 0 where
   runs : RunsIn m slot hart
 
 -- the address of the last page fault is another only where the instruction faults
-fault-stays : (stop : Stop) (step : Step) (old address : ℕ) → stop ≡ stop_of step → ((cause : Cause) → stop ≢ stops.Fault cause) → old ≡ last_fault old address step
+pub fault-stays : (stop : Stop) (step : Step) (old address : ℕ) → stop ≡ stop_of step → ((cause : Cause) → stop ≢ stops.Fault cause) → old ≡ last_fault old address step
 fault-stays stop (Next regs store) old address ends other = refl
 fault-stays stop Ecall old address ends other = refl
 fault-stays stop (Fault cause) old address ends other = absurd (other cause ends)
@@ -125,7 +123,7 @@ pub ecall-no-fault : (cause : Cause) → stops.Ecall ≢ stops.Fault cause
 ecall-no-fault cause e = cc
 
 -- if there is no root, nothing is known
-none-stands : (ram : List (List ℕ)) (known : KnownCode) → rooms.StandsIn ram (record known { root = None })
+pub none-stands : (ram : List (List ℕ)) (known : KnownCode) → rooms.StandsIn ram (record known { root = None })
 none-stands ram known r m none = absurd (cc)
 
 -- RAM is another, and what is known of its code
@@ -262,53 +260,6 @@ steps-in-a-row old new slot hart hart' most made stop some sound runs root pool 
     let same : OnlyRam old new = record { pool = pool; each = each; pipes = pipes } in
     subst P (λ t. record hart' { root = sym root t })
     (in-a-row old slot hart (record { sound = sound; runs = runs }) most made stop new new.ram hart'.regs hart'.cache hart'.fault_address some same refl row)
-
--- ---- one that uses nothing that is watched
-
--- what the hart says of it
-pub record Guarded (addresses bytes : List ℕ) (made : Bool) (ram ram' : List (List ℕ)) (hart hart' : Hart) : Type 0 where
-  pub done : made ≡ true → Instructed (root_of hart.root) ram hart.regs stops.Next ram' hart'.regs hart'.cache × IsUnwatched addresses bytes hart.regs (user_at ram (root_of hart.root))
-  pub refused : made ≡ false → IsUnwatched addresses bytes hart.regs (user_at ram (root_of hart.root)) → stop_of (instr hart.regs (user_at ram (root_of hart.root))) ≢ stops.Next
-  pub kept : made ≡ false → (ram' ≡ ram) × (hart'.regs ≡ hart.regs)
-  pub root : hart'.root ≡ hart.root
-  pub fault : hart'.fault_address ≡ hart.fault_address
-  pub fits : FitsHart ram' hart'.root hart'.cache
-
-module _ (old new : Memories) (slot : ℕ) (hart hart' : Hart) (addresses bytes : List ℕ) (sound : AreSound old) (r : RunsIn old slot hart) where
-  seen-here : user_at old.ram (root_of hart.root) ≡ user (held_at (each_of old) slot).image
-  seen-here =
-      ap (user_at old.ram) (ap root_of r.root) ∙ user-space old.ram r.memory.space
-      ∙ ap user (sym (image-seen (runs-stands old slot hart sound r (runs-inside r))))
-
-  pub unwatched-done : (made : Bool) → made ≡ true → Guarded addresses bytes made old.ram new.ram hart hart' → new.pool ≡ old.pool → new.each.items ≡ old.each.items → new.pipes.items ≡ old.pipes.items
-      → StepsUnwatched addresses bytes true old new slot hart hart'
-  unwatched-done made is g pool each pipes =
-      let (one, free) = g.done is in
-      let before = user_at old.ram (root_of hart.root) in (
-        record { spares = subst (IsUnwatched addresses bytes hart.regs) seen-here free; done = sym (ap (λ m. stop_of (instr hart.regs m)) seen-here) ∙ sym one.ends },
-        steps old new slot hart hart' stops.Next r (runs-stands old slot hart sound r (runs-inside r)) (record {
-          ends = one.ends;
-          regs = one.regs_are;
-          stepped = one.stepped;
-          root = g.root;
-          fits = g.fits;
-          fault = g.fault ∙ fault-stays stops.Next (instr hart.regs before) hart.fault_address (address_used hart.regs before) one.ends next-no-fault;
-        }) pool each pipes,
-      )
-
-  pub unwatched-refused : (made : Bool) → made ≡ false → Guarded addresses bytes made old.ram new.ram hart hart' → new ≡ old → StepsUnwatched addresses bytes false old new slot hart hart'
-  unwatched-refused made is g same =
-      let (ram, regs) = g.kept is in (
-        λ goes. g.refused is (subst (IsUnwatched addresses bytes hart.regs) (sym seen-here) goes.spares) (ap (λ m. stop_of (instr hart.regs m)) seen-here ∙ goes.done),
-        same,
-        regs,
-        record {
-          memory = r.memory;
-          is = r.is;
-          root = g.root ∙ r.root;
-          fits = fits_root old.ram hart'.root r.memory.space.root hart'.cache (g.root ∙ r.root) (subst (λ x. FitsHart x hart'.root hart'.cache) ram g.fits);
-        },
-      )
 
 -- ---- a single one of a row
 

@@ -1,10 +1,10 @@
 -- A vector is told by its parts: two with the same elements in the same place are one. So it is with the memories of a kernel.
 use Rattle.kcall_core.proofs.Prelude.{ℕ, ◌∙◌, ◌≡◌, ap, List, Memories, Pool, subst, sym}
 use Rattle.std.proofs.Props.{props}
-use Rattle.hart_core.specs.Rooms as rooms
 use Rattle.std.specs.declared.vec.Vec.{Vec, ok-type}
 use Rattle.std.proofs.Math.Bridge.{le_prop}
 use native.Mathlib.Nat.{ℕ_set}
+use Rattle.hart_core.specs.Rooms as rooms
 
 pub vec-same : {X Z : Type 0} (v : Vec X Z) (items : List X) (ok : ok-type X Z v.ptr v.len v.cap v.alloc items) → items ≡ v.items → record v { items = items; ok = ok } ≡ v
 vec-same {X} {Z} v items ok e =

@@ -1,5 +1,5 @@
 use Rattle.kcall_core.proofs.Prelude.{ℕ, ap, IsTree, refl, root_of, subst, sym}
-use Rattle.kcall_core.proofs.memory.Stepping.{unwatched-done, unwatched-refused}
+use Rattle.kcall_core.proofs.memory.Unwatched.{unwatched-done, unwatched-refused}
 use Rattle.kcall_core.proofs.memory.Vectors.{memories-same}
 use Rattle.kcall_core.proofs.memories.Memories.step_unwatched.Goals as goal
 

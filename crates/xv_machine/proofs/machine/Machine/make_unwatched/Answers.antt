@@ -1,7 +1,6 @@
-use Rattle.std.proofs.Common.{◌≡◌, sym, ap, subst, ◌∙◌, None}
-use Rattle.xv_machine.proofs.Advances.{now-running, is-on}
-use Rattle.xv_machine.proofs.Runs.{current-pid, first-lives}
-use Rattle.xv_machine.proofs.Unwatched.{now-made, now-stops, now-lives}
+use Rattle.xv_machine.proofs.Advances.{now-running}
+use Rattle.xv_machine.proofs.Runs.{current-pid}
+use Rattle.xv_machine.proofs.Unwatched.{now-made, now-stops, now-lives, now-whole}
 use Rattle.xv_machine.proofs.machine.Machine.make_unwatched.Goals as goal
 
 pub instructions_unwatched-requires-clause-running : goal.instructions_unwatched-requires-clause-running
@@ -14,7 +13,8 @@ invariant_of-self c =
     let i = c.self.inside in
     let e = c.instructions_unwatched in
     record {
-      whole = e.ensures.stays.whole;
+      whole = now-whole c.args.watch.now.addresses.now c.args.watch.now.bytes.now i.kernel i.hart i.halted i.trace c.args.self.now c.args.pid c.self.view_is c.requires.current
+          c.self.invariant.whole c.self.invariant.halted c.self.invariant.kept c.args.most e.result e.new.kernel e.new.hart e.ensures;
       halted = now-lives c.args.watch.now.addresses.now c.args.watch.now.bytes.now i.kernel i.hart i.halted i.trace c.args.self.now c.args.pid c.self.view_is c.requires.current
           c.self.invariant.whole c.self.invariant.halted c.self.invariant.kept c.args.most e.result e.new.kernel e.new.hart e.ensures;
       kept = c.self.invariant.kept;
