@@ -1,11 +1,33 @@
 //! Registers in a frame: the trapframe of a process that doesn't run.
-ghost use Rattle.std.specs.Prelude.{◌≡◌, ℕ, ◌%◌, ◌<◌, ◌≤◌, length, slice_index};
-ghost use Rattle.phys_ram.specs.Ram.{frame_at, word_at, OthersStay};
+ghost use Rattle.std.specs.Prelude.{◌≡◌, ℕ, ◌%◌, ◌<◌, ◌≤◌, [], ◌∷◌, length, slice_index};
+ghost use Rattle.phys_ram.specs.Ram.{frame_at, word_at, OthersStay, WordWritten};
 ghost use Rattle.hart_core.specs.Trapframe.{saved};
 
 use phys_ram::Ram;
-use rv64i_core::Regs;
-use xk_base::{Frame, Reg};
+use rv64i_core::{Regs, Width};
+use xk_base::{Frame, FrameBytes, Reg};
+
+// Writes a number into word `word` of a frame, which is said as frame 0 of a RAM that has no other.
+#[inline(always)]
+fn write_word(bytes: &mut FrameBytes, word: usize, number: u64)
+    requires { word < 512 }
+    ensures { WordWritten (bytes.old ∷ []) (bytes.new ∷ []) 0 word number }
+{
+    Width::DoubleWord.write(bytes, 8 * word, number);
+}
+
+// Writes registers into the bytes of a frame: the pc into word 0, and xi into word i.
+fn write_registers(regs: &Regs, bytes: &mut FrameBytes)
+    ensures saved { saved (bytes.new ∷ []) 0 ≡ regs.now }
+    ensures aligned { word_at (bytes.new ∷ []) 0 0 % 4 ≡ 0 }
+    ensures rest { (k : ℕ) → 256 ≤ k → slice_index bytes.new k ≡ slice_index bytes.old k }
+{
+    write_word(bytes, 0, regs.pc());
+    for i in 1..32 {
+        let value = regs.read(Reg::new(i as u8));
+        write_word(bytes, i, value);
+    }
+}
 
 /// Writes registers into a frame: the pc at byte 0, and xi at byte 8 i. The rest of the frame and all other
 /// frames stay.
@@ -17,11 +39,7 @@ pub fn save_registers(regs: &Regs, ram: &mut Ram, f: Frame)
     ensures rest { (k : ℕ) → 256 ≤ k
         → slice_index (frame_at ram.new f) k ≡ slice_index (frame_at ram.old f) k }
 {
-    ram.write_u64(f, 0, regs.pc());
-    for i in 1..32 {
-        let value = regs.read(Reg::new(i as u8));
-        ram.write_u64(f, i, value);
-    }
+    write_registers(regs, ram.frame_mut(f));
 }
 
 /// The registers that a frame holds. Its first word, the pc, must be a multiple of 4, as [`save_registers`]
