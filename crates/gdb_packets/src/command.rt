@@ -7,7 +7,7 @@ use crate::packet_text::{before, behind, is_text, number, two_numbers};
 use crate::query::{Document, query};
 
 /// Which threads are meant.
-#[derive(Clone, Copy, PartialEq, Eq)]
+#[derive(Clone, Copy)]
 pub enum Thread {
     /// `-1`.
     All,
@@ -18,7 +18,7 @@ pub enum Thread {
 }
 
 /// How the program goes on.
-#[derive(Clone, Copy, PartialEq, Eq)]
+#[derive(Clone, Copy)]
 pub enum Resume {
     /// Until something stops it.
     Continue,
@@ -27,7 +27,7 @@ pub enum Resume {
 }
 
 /// What the program stops at.
-#[derive(Clone, Copy, PartialEq, Eq)]
+#[derive(Clone, Copy)]
 pub enum Point {
     /// An instruction that is about to be done (types 0 and 1).
     Breakpoint,
@@ -36,7 +36,7 @@ pub enum Point {
 }
 
 /// What is asked for.
-#[derive(Clone, Copy, PartialEq, Eq)]
+#[derive(Clone, Copy)]
 pub enum Command {
     /// `?`: why the program stands.
     Reason,

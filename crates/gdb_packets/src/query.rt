@@ -6,7 +6,7 @@ use crate::command::{Command, parse_thread};
 use crate::packet_text::{before, behind, is_text, two_numbers};
 
 /// A document that a part is read of (`qXfer`).
-#[derive(Clone, Copy, PartialEq, Eq)]
+#[derive(Clone, Copy)]
 pub enum Document {
     /// `features`, annex `target.xml`: the registers.
     Registers,
