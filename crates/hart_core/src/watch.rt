@@ -1,10 +1,12 @@
 //! Addresses of instructions, and bytes of memory, that are watched.
-ghost use Rattle.std.specs.Prelude.{◌≡◌, ◌≢◌, ℕ, ◌/◌, ◌%◌, ◌-◌, ◌&&◌, true, false, nat_le, nat_lt};
+ghost use Rattle.std.specs.Prelude.{◌≡◌, ◌≢◌, ℕ, ◌/◌, ◌%◌, ◌-◌, ◌&&◌, true, false, length, get_or, nat_le, nat_lt};
 ghost use Rattle.rv64i_core.specs.Memory.{bytes_of_width};
-ghost use Rattle.hart_core.specs.Watch.{is_one, has_one_among, AreMarked};
+ghost use Rattle.hart_core.specs.CodePages.{index_at};
+ghost use Rattle.hart_core.specs.Watch.{is_one, has_one_among, AreMarked, AreStops};
 
-use crate::fast::lines::LINE_BYTES;
+use crate::fast::blocks::index_at;
 use crate::fast::places::Places;
+use crate::fast::stops::Stops;
 use rv64i_core::Width;
 use xk_base::limits::PAGE_BYTES;
 
@@ -13,10 +15,10 @@ use xk_base::limits::PAGE_BYTES;
 pub struct Watch<'a> {
     addresses: &'a [u64],
     bytes: &'a [u64],
-    // Of the lines in which the addresses lie, and of the pages in which the bytes lie.
-    lines: Places,
+    // The indices of the addresses, and the pages in which the bytes lie.
+    stops: Stops,
     pages: Places,
-    ghost lines_are: { AreMarked 256 lines.marks addresses.now },
+    ghost stops_are: { AreStops stops.marks addresses.now },
     ghost pages_are: { AreMarked 4096 pages.marks bytes.now },
 }
 
@@ -40,7 +42,7 @@ impl<'a> Watch<'a> {
         Watch {
             addresses,
             bytes,
-            lines: Places::of(addresses, LINE_BYTES),
+            stops: Stops::of(addresses),
             pages: Places::of(bytes, PAGE_BYTES),
         }
     }
@@ -64,21 +66,28 @@ impl<'a> Watch<'a> {
     pub(crate) fn has_address(&self, address: u64) -> bool
         ensures { result ≡ is_one self.now.addresses.now address }
     {
-        if !self.lines.is_marked(address / LINE_BYTES) {
+        if !self.is_marked(address) {
             return false;
         }
         self.addresses.contains(&address)
     }
 
-    // Whether an address lies in this line.
+    // Marks for indices: if none stands at the index of an address, it isn't watched.
     #[inline(always)]
-    pub(crate) fn has_address_in(&self, line: u64) -> bool {
-        if !self.lines.is_marked(line) {
-            return false;
-        }
-        self.addresses
-            .iter()
-            .any(|address| *address / LINE_BYTES == line)
+    pub(crate) fn marks(&self) -> &[bool]
+        ensures value { result.now ≡ self.now.stops.marks }
+        ensures long { length result.now ≡ 4096 }
+        ensures stops { AreStops self.now.stops.marks self.now.addresses.now }
+    {
+        self.stops.marks()
+    }
+
+    // Whether a mark stands at the index of an address.
+    #[inline(always)]
+    pub(crate) fn is_marked(&self, address: u64) -> bool
+        ensures { result ≡ get_or self.now.stops.marks (index_at address % 4096) false }
+    {
+        self.stops.has(index_at(address))
     }
 
     // Whether a page in this place, modulo 64, may have a watched byte.
