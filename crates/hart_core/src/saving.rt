@@ -3,8 +3,9 @@ ghost use Rattle.std.specs.Prelude.{◌≡◌, ℕ, ◌%◌, ◌<◌, ◌≤◌,
 ghost use Rattle.phys_ram.specs.Ram.{frame_at, word_at, OthersStay, WordWritten};
 ghost use Rattle.hart_core.specs.Trapframe.{saved};
 
+use byteorder::{ByteOrder, LittleEndian};
 use phys_ram::Ram;
-use rv64i_core::{Regs, Width};
+use rv64i_core::Regs;
 use xk_base::{Frame, FrameBytes, Reg};
 
 // Writes a number into word `word` of a frame, which is said as frame 0 of a RAM that has no other.
@@ -13,7 +14,7 @@ fn write_word(bytes: &mut FrameBytes, word: usize, number: u64)
     requires { word < 512 }
     ensures { WordWritten (bytes.old ∷ []) (bytes.new ∷ []) 0 word number }
 {
-    Width::DoubleWord.write(bytes, 8 * word, number);
+    LittleEndian::write_u64(&mut bytes[8 * word..8 * word + 8], number);
 }
 
 // Writes registers into the bytes of a frame: the pc into word 0, and xi into word i.
