@@ -17,7 +17,7 @@ int main(void)
 {
     unsigned value = 1;
 
-    for (int round = 0; round < 120000; round++)
+    for (int round = 0; round < 600000; round++)
         for (int i = 0; i < 64; i++)
             value = functions[(i + round) & 63](value);
     return (int)(value % 251);

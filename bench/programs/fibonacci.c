@@ -6,5 +6,5 @@ static unsigned fibonacci(unsigned n)
 
 int main(void)
 {
-    return (int)(fibonacci(33) % 251);
+    return (int)(fibonacci(36) % 251);
 }

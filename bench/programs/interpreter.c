@@ -52,7 +52,7 @@ static void run(void)
 
 int main(void)
 {
-    variables[0] = 380000;
+    variables[0] = 1900000;
     variables[1] = 1;
     run();
     return (int)((unsigned)variables[2] % 251);

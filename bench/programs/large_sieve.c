@@ -1,5 +1,5 @@
 /* The same sieve over 1 MB: more pages than a hart keeps translations of. */
-enum { SIZE = 1 << 20, ROUNDS = 8 };
+enum { SIZE = 1 << 20, ROUNDS = 40 };
 
 static unsigned char is_composite[SIZE];
 

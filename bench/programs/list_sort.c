@@ -1,5 +1,5 @@
 /* Merge sort of a linked list: loads that follow one another, and branches that nobody can guess. */
-enum { LENGTH = 4096, ROUNDS = 180 };
+enum { LENGTH = 4096, ROUNDS = 900 };
 
 struct node {
     struct node *next;

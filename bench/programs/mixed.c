@@ -1,7 +1,7 @@
 /* Work of four kinds in turn: a matrix, a list, a machine of states over a text, and a checksum of the results. */
 #include <stdint.h>
 
-enum { SIDE = 12, NODES = 64, ROUNDS = 2000 };
+enum { SIDE = 12, NODES = 64, ROUNDS = 10000 };
 
 static int16_t left[SIDE][SIDE], right[SIDE][SIDE];
 static int32_t product[SIDE][SIDE];

@@ -16,7 +16,7 @@ int main(void)
 {
     unsigned sum = 0;
 
-    for (int round = 0; round < 120; round++)
+    for (int round = 0; round < 600; round++)
         sum += ways((1u << (9 + round % 2)) - 1, 0, 0, 0);
     return (int)(sum % 251);
 }

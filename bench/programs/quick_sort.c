@@ -1,5 +1,5 @@
 /* Quick sort with a function pointer for the order: indirect calls of a short function. */
-enum { LENGTH = 4096, ROUNDS = 130 };
+enum { LENGTH = 4096, ROUNDS = 650 };
 
 typedef int order(const void *, const void *);
 

@@ -8,7 +8,7 @@ struct record {
     char name[32];
 };
 
-enum { ROUNDS = 260000 };
+enum { ROUNDS = 1300000 };
 
 static struct record first, second;
 static int totals[64];

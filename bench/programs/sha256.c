@@ -1,7 +1,7 @@
 /* SHA-256 (FIPS 180-4) of a buffer that is changed each time: long straight code, words of 32 bits. */
 #include <stdint.h>
 
-enum { BLOCKS = 16, ROUNDS = 2300 };
+enum { BLOCKS = 16, ROUNDS = 11500 };
 
 static const uint32_t constants[64] = {
     0x428a2f98, 0x71374491, 0xb5c0fbcf, 0xe9b5dba5, 0x3956c25b, 0x59f111f1, 0x923f82a4, 0xab1c5ed5, 0xd807aa98, 0x12835b01, 0x243185be,

@@ -1,5 +1,5 @@
 /* Primes below 8,192 by the sieve of Eratosthenes, again and again: a loop over a few pages. */
-enum { SIZE = 8192, ROUNDS = 1200 };
+enum { SIZE = 8192, ROUNDS = 6000 };
 
 static unsigned char is_composite[SIZE];
 

@@ -1,5 +1,5 @@
 /* Texts: words are made, copied, hashed and counted in a table. Small functions, bytes. */
-enum { PLACES = 1024, WORDS = 512, LONGEST = 24, ROUNDS = 1300 };
+enum { PLACES = 1024, WORDS = 512, LONGEST = 24, ROUNDS = 6500 };
 
 struct entry {
     char word[LONGEST];
