@@ -7,7 +7,8 @@ ghost use Rattle.kernel_spec.specs.views.State.{named_file};
 ghost use Rattle.kernel_spec.specs.views.Programs.{first_bad, init_of};
 ghost use Rattle.kernel_spec.specs.runs.First.{unless_refused, first_init};
 ghost use Rattle.kernel_spec.specs.waking.Wakes.{is_turn};
-ghost use Rattle.xv_machine.specs.Events.{outcome_of, halted_by};
+ghost use Rattle.xv_machine.specs.Events.{event_of, outcome_of, halted_by};
+ghost use Rattle.xv_machine.specs.Notes.{note};
 
 mod observers;
 
@@ -84,6 +85,16 @@ fn push(trace: &mut Trace, note: Note)
     ensures { trace.new ≡ buffer (keep_last trace.old.capacity (trace.old.items ++ note ∷ [])) trace.old.capacity }
 {
     trace.push(note);
+}
+
+// Puts the note of an event and what came of it behind the others of a trace. The note is made here, so that a machine
+// without a trace makes none.
+#[cold]
+#[inline(never)]
+fn push_of(trace: &mut Trace, event: Event, outcome: &Outcome)
+    ensures { trace.new ≡ buffer (keep_last trace.old.capacity (trace.old.items ++ note (event_of event) (outcome_of outcome.now) ∷ [])) trace.old.capacity }
+{
+    trace.push(Note::of(event, outcome));
 }
 
 // Puts the note of a done instruction behind the others of a trace. It isn't inlined, so that the way of an
@@ -169,6 +180,7 @@ impl Machine {
     ghost use Rattle.xv_machine.specs.Events.{event_of, outcome_of};
     ghost use Rattle.xv_machine.specs.Instructions.{NextIsOther, RunsUnwatched, AreUnwatched, noted};
     ghost use Rattle.xv_machine.specs.Machine.{SameTrace};
+    ghost use Rattle.xv_machine.specs.Notes.{note};
     ghost use Rattle.xv_machine.specs.declared.trace.Note.TheVariants.{Stepped};
     ghost use Rattle.xv_machine.specs.Reached.{IsEvent};
     ghost use Rattle.xv_machine.specs.Sound.{IsSoundMachine};
@@ -253,7 +265,7 @@ impl Machine {
             self.keep_step(pid);
             return Outcome::Stepped { pid };
         }
-        self.keep(Note::of(event, &outcome));
+        self.keep_of(event, &outcome);
         outcome
     }
 
@@ -306,6 +318,18 @@ impl Machine {
             return;
         }
         push(&mut self.trace, note);
+    }
+
+    // The trace keeps the note of an event and what came of it, where it has room for any.
+    #[inline(always)]
+    fn keep_of(&mut self, event: Event, outcome: &Outcome)
+        ensures kept { self.new ≡ record self.old { notes = keep_last self.old.room (self.old.notes ++ note (event_of event) (outcome_of outcome.now) ∷ []) } }
+        ensures sound { IsSoundMachine self.new }
+    {
+        if self.trace.capacity() == 0 {
+            return;
+        }
+        push_of(&mut self.trace, event, outcome);
     }
 
     // The process that runs makes a step; where none runs, the next has its turn.
@@ -375,12 +399,11 @@ impl Machine {
         ensures sent { 0 < result }
     {
         let outcome = self.turn();
-        let note = Note::of(Event::Run, &outcome);
         if is_turn(&outcome) {
-            self.keep(note);
+            self.keep_of(Event::Run, &outcome);
             return 1;
         }
-        self.keep_often(note, most);
+        self.keep_often(Note::of(Event::Run, &outcome), most);
         most
     }
 
@@ -398,7 +421,7 @@ impl Machine {
         let Some(outcome) = end else {
             return made;
         };
-        self.keep(Note::of(Event::Run, &outcome));
+        self.keep_of(Event::Run, &outcome);
         made + 1
     }
 
