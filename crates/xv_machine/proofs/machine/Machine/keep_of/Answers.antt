@@ -13,4 +13,5 @@ returns-then-capacity-eq0-clause-sound c =
 pub returns-clause-sound : goal.returns-clause-sound
 returns-clause-sound c =
     let i = c.self.inside in
-    sound-of i.kernel i.hart i.halted c.push_of.new.trace (pushed i.trace (note (event_of c.args.event) (outcome_of c.args.outcome.now)) c.push_of.new.trace c.push_of.ensures) c.self.invariant.whole c.self.invariant.halted
+    let kept = note (event_of c.args.event) (outcome_of c.args.outcome.now) in
+    sound-of i.kernel i.hart i.halted c.push_of.new.trace (pushed i.trace kept c.push_of.new.trace c.push_of.ensures) c.self.invariant.whole c.self.invariant.halted
