@@ -8,7 +8,8 @@ ghost use Rattle.kernel_spec.specs.views.Programs.{first_bad, init_of};
 ghost use Rattle.kernel_spec.specs.runs.First.{unless_refused, first_init};
 ghost use Rattle.kernel_spec.specs.waking.Wakes.{is_turn};
 ghost use Rattle.xv_machine.specs.Events.{event_of, outcome_of, halted_by};
-ghost use Rattle.xv_machine.specs.Notes.{note};
+ghost use Rattle.kernel_spec.specs.runs.Run as runs;
+ghost use Rattle.xv_machine.specs.Notes.{note, ticked};
 
 mod observers;
 
@@ -97,6 +98,17 @@ fn push_of(trace: &mut Trace, event: Event, outcome: &Outcome)
     trace.push(Note::of(event, outcome));
 }
 
+// The note of a Tick that the clock has counted, or of one after the end of process 1.
+fn tick_note(is_counted: bool) -> Note
+    ensures { result ≡ note runs.Tick (ticked is_counted) }
+{
+    if is_counted {
+        Note::Ticked
+    } else {
+        Note::Halted
+    }
+}
+
 // Puts the note of a done instruction behind the others of a trace. It isn't inlined, so that the way of an
 // instruction in a machine without a trace doesn't hold it.
 #[inline(never)]
@@ -180,9 +192,9 @@ impl Machine {
     ghost use Rattle.xv_machine.specs.Events.{event_of, outcome_of};
     ghost use Rattle.xv_machine.specs.Instructions.{NextIsOther, RunsUnwatched, AreUnwatched, noted};
     ghost use Rattle.xv_machine.specs.Machine.{SameTrace};
-    ghost use Rattle.xv_machine.specs.Notes.{note};
+    ghost use Rattle.xv_machine.specs.Notes.{note, ticked};
     ghost use Rattle.xv_machine.specs.declared.trace.Note.TheVariants.{Stepped};
-    ghost use Rattle.xv_machine.specs.Reached.{IsEvent};
+    ghost use Rattle.xv_machine.specs.Reached.{IsEvent, TakesEvent};
     ghost use Rattle.xv_machine.specs.Sound.{IsSoundMachine};
     ghost use Rattle.xv_machine.specs.Steps.{runs_made, IsEnd};
     ghost use Rattle.xv_machine.specs.Stretches.{sends};
@@ -502,18 +514,39 @@ impl Machine {
         instructions(&mut self.kernel, &mut self.hart, most)
     }
 
-    // The clock counts a tick, unless process 1 is gone.
+    // The clock counts a tick, unless process 1 is gone. It tells whether it did.
+    #[inline(always)]
+    fn count_tick(&mut self) -> bool
+        ensures promised { Promised self.old.world runs.Tick (ticked result) self.new.world }
+        ensures frames { self.new.frames.count ≡ self.old.frames.count }
+        ensures trace { SameTrace self.old self.new }
+    {
+        if self.halted.is_some() {
+            return false;
+        }
+        self.kernel.tick(&mut self.hart);
+        true
+    }
+
+    // What comes of a Tick.
     #[inline(always)]
     fn tick(&mut self) -> Outcome
         ensures promised { Promised self.old.world runs.Tick (outcome_of result) self.new.world }
         ensures frames { self.new.frames.count ≡ self.old.frames.count }
         ensures trace { SameTrace self.old self.new }
     {
-        if self.halted.is_some() {
-            return Outcome::Halted;
+        if self.count_tick() {
+            return Outcome::Ticked;
         }
-        self.kernel.tick(&mut self.hart);
-        Outcome::Ticked
+        Outcome::Halted
+    }
+
+    // Sends Tick. No outcome is made, which would have room for an echo, and be cleared and copied.
+    pub(crate) fn send_tick(&mut self)
+        ensures { TakesEvent self.old runs.Tick self.new }
+    {
+        let is_counted = self.count_tick();
+        self.keep(tick_note(is_counted));
     }
 
     // The console takes a key, unless process 1 is gone.
