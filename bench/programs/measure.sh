@@ -2,7 +2,8 @@
 # Measures programs in C: bench/run.sh programs [NAME..], or all of this folder. Each is built for the machine and, from the
 # same source, for Linux. Then ours (the whole of xv_run, in rounds of 1,000 Runs), the interpreter in plain Rust
 # (../pages/plain.rs), a JIT (qemu-riscv64, if it is there) and ours as a module (by node, if it is there) run it in turn, five
-# times; the least user and system time of each counts, of the module the least time from start to end, beside ours. With --count instead, valgrind's callgrind counts ours between 2,000 and 6,000 rounds, in which boot cancels.
+# times, or TURNS times; the least user and system time of each counts, of the module the least time from start to end, beside
+# ours. With --count instead, valgrind's callgrind counts ours between 2,000 and 6,000 rounds, in which boot cancels.
 # It needs the C compiler that ../../programs/c/build.sh names.
 set -e
 here=$(cd "$(dirname "$0")" && pwd)
@@ -47,7 +48,7 @@ measure() {
     local name=$1 told way
     told=$(plain "$name")
     are_equal "$name" "$told"
-    for _ in 1 2 3 4 5; do
+    for _ in $(seq "${TURNS-5}"); do
         for way in ours plain ${has_jit:+jit}; do seconds "$way" "$name" >>"$work/$name/$way"; done
         [ -z "$has_node" ] || for way in ours node_ours; do elapsed "$way" "$name" >>"$work/$name/$way-elapsed"; done
     done

@@ -2,7 +2,9 @@
    its variables, and behind them what malloc gives. Below the stack is the text, which can't be written: a stack that
    grows too far ends the program by a fault, and no byte is overwritten.
 
-   __stack_size    bytes of the stack, without it 262,144: -Wl,--defsym=__stack_size=1048576
+   __stack_size    bytes of the stack, without it 294,912: -Wl,--defsym=__stack_size=1048576. These are 72 pages, and not 64,
+                   since a hart keeps what it knows of page v in place v modulo 64: so the last pages of the stack, which
+                   are used most, don't take the places of the text
    __stack_rights  6 (to be read and written) without it; 7 lets instructions lie there, as functions within functions
                    need it whose address is taken: -Wl,--defsym=__stack_rights=7
    __base          where the text begins, without it 0: a host's emulator may want another place */
@@ -36,7 +38,7 @@ SECTIONS {
   } :text
   . = ALIGN(4096);
   .stack (NOLOAD) : {
-    . += DEFINED(__stack_size) ? __stack_size : 0x40000;
+    . += DEFINED(__stack_size) ? __stack_size : 0x48000;
     . = ALIGN(4096);
     __stack_top = .;
   } :stack

@@ -1,0 +1,20 @@
+#!/bin/bash
+# Measures a program over a C library: bench/run.sh library [XV_RUN]. valgrind's callgrind counts the machine instructions for
+# one instruction between 2,000 and 6,000 rounds of 1,000 Runs, in which boot cancels. It needs what programs/c/xvcc names.
+set -e
+here=$(cd "$(dirname "$0")" && pwd)
+root=$(cd "$here/../.." && pwd)
+xv=${1-$root/crates/xv_run/out/xv_run}
+[ -x "$xv" ] || "$root/xv" --build
+work=$(mktemp -d)
+trap 'rm -rf "$work"' EXIT
+"$root/programs/c/xvcc" -O2 "$here/texts.c" -o "$work/init"
+
+counted() {
+    valgrind --tool=callgrind --callgrind-out-file="$work/callgrind" \
+        "$xv" --rounds "$1" --quantum 1000 "$work/init" </dev/null 2>&1 >/dev/null | sed -n 's/.*Collected : //p'
+}
+
+few=$(counted 2000)
+many=$(counted 6000)
+awk -v few="$few" -v many="$many" 'BEGIN { printf "machine instructions for one: %.1f\n", (many - few) / 4e6 }'
