@@ -7,9 +7,7 @@ ghost use Rattle.kernel_spec.specs.views.State.{named_file};
 ghost use Rattle.kernel_spec.specs.views.Programs.{first_bad, init_of};
 ghost use Rattle.kernel_spec.specs.runs.First.{unless_refused, first_init};
 ghost use Rattle.kernel_spec.specs.waking.Wakes.{is_turn};
-ghost use Rattle.xv_machine.specs.Events.{event_of, outcome_of, halted_by};
-ghost use Rattle.kernel_spec.specs.runs.Run as runs;
-ghost use Rattle.xv_machine.specs.Notes.{note, ticked};
+ghost use Rattle.xv_machine.specs.Events.{outcome_of, halted_by};
 
 mod observers;
 
@@ -86,27 +84,6 @@ fn push(trace: &mut Trace, note: Note)
     ensures { trace.new ≡ buffer (keep_last trace.old.capacity (trace.old.items ++ note ∷ [])) trace.old.capacity }
 {
     trace.push(note);
-}
-
-// Puts the note of an event and what came of it behind the others of a trace. The note is made here, so that a machine
-// without a trace makes none.
-#[cold]
-#[inline(never)]
-fn push_of(trace: &mut Trace, event: Event, outcome: &Outcome)
-    ensures { trace.new ≡ buffer (keep_last trace.old.capacity (trace.old.items ++ note (event_of event) (outcome_of outcome.now) ∷ [])) trace.old.capacity }
-{
-    trace.push(Note::of(event, outcome));
-}
-
-// The note of a Tick that the clock has counted, or of one after the end of process 1.
-fn tick_note(is_counted: bool) -> Note
-    ensures { result ≡ note runs.Tick (ticked is_counted) }
-{
-    if is_counted {
-        Note::Ticked
-    } else {
-        Note::Halted
-    }
 }
 
 // Puts the note of a done instruction behind the others of a trace. It isn't inlined, so that the way of an
@@ -192,9 +169,8 @@ impl Machine {
     ghost use Rattle.xv_machine.specs.Events.{event_of, outcome_of};
     ghost use Rattle.xv_machine.specs.Instructions.{NextIsOther, RunsUnwatched, AreUnwatched, noted};
     ghost use Rattle.xv_machine.specs.Machine.{SameTrace};
-    ghost use Rattle.xv_machine.specs.Notes.{note, ticked};
     ghost use Rattle.xv_machine.specs.declared.trace.Note.TheVariants.{Stepped};
-    ghost use Rattle.xv_machine.specs.Reached.{IsEvent, TakesEvent};
+    ghost use Rattle.xv_machine.specs.Reached.{IsEvent};
     ghost use Rattle.xv_machine.specs.Sound.{IsSoundMachine};
     ghost use Rattle.xv_machine.specs.Steps.{runs_made, IsEnd};
     ghost use Rattle.xv_machine.specs.Stretches.{sends};
@@ -277,7 +253,7 @@ impl Machine {
             self.keep_step(pid);
             return Outcome::Stepped { pid };
         }
-        self.keep_of(event, &outcome);
+        self.keep(Note::of(event, &outcome));
         outcome
     }
 
@@ -330,18 +306,6 @@ impl Machine {
             return;
         }
         push(&mut self.trace, note);
-    }
-
-    // The trace keeps the note of an event and what came of it, where it has room for any.
-    #[inline(always)]
-    fn keep_of(&mut self, event: Event, outcome: &Outcome)
-        ensures kept { self.new ≡ record self.old { notes = keep_last self.old.room (self.old.notes ++ note (event_of event) (outcome_of outcome.now) ∷ []) } }
-        ensures sound { IsSoundMachine self.new }
-    {
-        if self.trace.capacity() == 0 {
-            return;
-        }
-        push_of(&mut self.trace, event, outcome);
     }
 
     // The process that runs makes a step; where none runs, the next has its turn.
@@ -411,11 +375,12 @@ impl Machine {
         ensures sent { 0 < result }
     {
         let outcome = self.turn();
+        let note = Note::of(Event::Run, &outcome);
         if is_turn(&outcome) {
-            self.keep_of(Event::Run, &outcome);
+            self.keep(note);
             return 1;
         }
-        self.keep_often(Note::of(Event::Run, &outcome), most);
+        self.keep_often(note, most);
         most
     }
 
@@ -433,7 +398,7 @@ impl Machine {
         let Some(outcome) = end else {
             return made;
         };
-        self.keep_of(Event::Run, &outcome);
+        self.keep(Note::of(Event::Run, &outcome));
         made + 1
     }
 
@@ -514,39 +479,18 @@ impl Machine {
         instructions(&mut self.kernel, &mut self.hart, most)
     }
 
-    // The clock counts a tick, unless process 1 is gone. It tells whether it did.
-    #[inline(always)]
-    fn count_tick(&mut self) -> bool
-        ensures promised { Promised self.old.world runs.Tick (ticked result) self.new.world }
-        ensures frames { self.new.frames.count ≡ self.old.frames.count }
-        ensures trace { SameTrace self.old self.new }
-    {
-        if self.halted.is_some() {
-            return false;
-        }
-        self.kernel.tick(&mut self.hart);
-        true
-    }
-
-    // What comes of a Tick.
+    // The clock counts a tick, unless process 1 is gone.
     #[inline(always)]
     fn tick(&mut self) -> Outcome
         ensures promised { Promised self.old.world runs.Tick (outcome_of result) self.new.world }
         ensures frames { self.new.frames.count ≡ self.old.frames.count }
         ensures trace { SameTrace self.old self.new }
     {
-        if self.count_tick() {
-            return Outcome::Ticked;
+        if self.halted.is_some() {
+            return Outcome::Halted;
         }
-        Outcome::Halted
-    }
-
-    // Sends Tick. No outcome is made, which would have room for an echo, and be cleared and copied.
-    pub(crate) fn send_tick(&mut self)
-        ensures { TakesEvent self.old runs.Tick self.new }
-    {
-        let is_counted = self.count_tick();
-        self.keep(tick_note(is_counted));
+        self.kernel.tick(&mut self.hart);
+        Outcome::Ticked
     }
 
     // The console takes a key, unless process 1 is gone.

@@ -17,9 +17,9 @@ returns-in-Stepped c = record {
 
 pub returns : goal.returns
 returns c = record {
-  promised = subst (λ (m : Meaning). Promised c.args.self.now.world (event_of c.args.event) (outcome_of c.take-outcome.result) m.world) (sym c.keep_of.ensures.kept) c.take-outcome.ensures.promised;
+  promised = subst (λ (m : Meaning). Promised c.args.self.now.world (event_of c.args.event) (outcome_of c.take-outcome.result) m.world) (sym c.keep.ensures.kept) c.take-outcome.ensures.promised;
   notes = search rules;
   room = search rules;
   frames = search rules;
-  sound = c.keep_of.ensures.sound;
+  sound = c.keep.ensures.sound;
 }

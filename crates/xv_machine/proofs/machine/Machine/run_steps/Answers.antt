@@ -1,6 +1,8 @@
-use Rattle.std.proofs.Common.{subst, None, Some, Option}
+use Rattle.std.proofs.Common.{ap, ◌∙◌, subst, ◌∷◌, [], ◌++◌, None, Some, Option}
+use Rattle.circular_buffer.specs.Buffer.{keep_last}
 use Rattle.kernel_spec.specs.waking.Wakes.{IsPromised}
 use Rattle.xv_machine.specs.declared.event.Outcome.{Outcome}
+use Rattle.xv_machine.specs.declared.trace.Note.{Note}
 use Rattle.xv_machine.specs.Events.{outcome_of}
 use Rattle.xv_machine.specs.Steps.{runs_made, IsEnd}
 use Rattle.xv_machine.proofs.Sent.{all-ran, some-ran}
@@ -26,6 +28,6 @@ returns-clause-ran c =
     let end : IsEnd c.args.most made (Some o) = subst (λ (e : Option Outcome). IsEnd c.args.most made e) c.in-Some.is c.advance-made.ensures.end in
     let run : IsPromised old.world (runs_made c.args.pid made (Some o)) mid.world =
     subst (λ (e : Option Outcome). IsPromised old.world (runs_made c.args.pid made e) mid.world) c.in-Some.is c.advance-made.ensures.run in
-    some-ran c.args.most made c.args.pid (outcome_of o) old mid kept c.keep_of.new.self c.requires.current end.0
+    some-ran c.args.most made c.args.pid (outcome_of o) old mid kept c.keep.new.self c.requires.current end.0
     (end.1 c.args.pid) end.2 end.3 run c.advance-made.ensures.frames c.advance-made.ensures.trace c.keep_often.ensures.kept
-    c.keep_of.ensures.kept c.keep_of.ensures.sound
+    (c.keep.ensures.kept ∙ ap (λ (n : Note). record kept { notes = keep_last kept.room (kept.notes ++ n ∷ []) }) c.of.ensures) c.keep.ensures.sound
