@@ -1,4 +1,4 @@
-/* Numbers are printed as texts, sorted, and read again, by the functions of a C library: code in five pages. */
+/* Numbers are printed as texts, sorted, and read again, by the functions of a C library: text of four pages. */
 #include <stdio.h>
 #include <stdlib.h>
 #include <string.h>

@@ -3,8 +3,8 @@
    grows too far ends the program by a fault, and no byte is overwritten.
 
    __stack_size    bytes of the stack, without it 294,912: -Wl,--defsym=__stack_size=1048576. These are 72 pages, and not 64,
-                   since a hart keeps what it knows of page v in place v modulo 64: so the last pages of the stack, which
-                   are used most, don't take the places of the text
+                   since a hart keeps what it knows of page v in place v modulo 64: so the last eight pages of the stack,
+                   which are used most, don't take the places of a text of at most 56 pages
    __stack_rights  6 (to be read and written) without it; 7 lets instructions lie there, as functions within functions
                    need it whose address is taken: -Wl,--defsym=__stack_rights=7
    __base          where the text begins, without it 0: a host's emulator may want another place */
