@@ -53,7 +53,7 @@ pub fn saved_registers(ram: &Ram, f: Frame) -> Regs
     let mut regs = Regs::new(ram.read_u64(f, 0));
     for i in 1..32 {
         let value = ram.read_u64(f, i);
-        regs.write(Reg::new(i as u8), value);
+        regs.write_not_x0(Reg::new(i as u8), value);
     }
     regs
 }

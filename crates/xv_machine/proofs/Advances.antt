@@ -13,9 +13,9 @@ use Rattle.kcall_core.specs.Whole.{IsWhole}
 use Rattle.kcall_core.specs.declared.kernel.Kernel.{Kernel}
 use Rattle.kernel_spec.proofs.runs.Boot.{promised_runs_join}
 use Rattle.xv_machine.specs.declared.trace.Note.{Note}
-use Rattle.xv_machine.specs.declared.event.Outcome.{Outcome}
+use Rattle.xv_machine.specs.declared.event.RunOutcome.{RunOutcome}
 use Rattle.xv_machine.specs.Drives.{done_by}
-use Rattle.xv_machine.specs.Events.{outcome_of, halted_by}
+use Rattle.xv_machine.specs.Events.{run_outcome_of, halted_by}
 use Rattle.xv_machine.specs.Machine.{meaning_of}
 use Rattle.xv_machine.specs.Meaning.{Meaning}
 use Rattle.xv_machine.specs.Sound.{IsHalted}
@@ -54,7 +54,7 @@ module _ (k : Kernel) (h : Hart) (halted : Option ℤ) (pid : ℕ) (current : (t
     none-run a = subst (λ p. IsPromised (world_of k h None) (replicate made (done_by p)) (world_of k' h' None)) (sym (current-pid k pid current).1) (none-did a).run
 
     -- something else came of the last one
-    module _ (o : Outcome) (a : Advanced k h most made (Some o) k' h') where
+    module _ (o : RunOutcome) (a : Advanced k h most made (Some o) k' h') where
       pub some-whole : IsWhole k' h'
       some-whole = a.ends.1.whole
 
@@ -69,12 +69,12 @@ module _ (k : Kernel) (h : Hart) (halted : Option ℤ) (pid : ℕ) (current : (t
 
       pub some-run : IsPromised (world_of k h None) (runs_made pid made (Some o)) (world_of k' h' (halted_by o))
       some-run =
-          let one : Promised (world_of a.kernel a.hart None) Run (outcome_of o) (world_of k' h' (halted_by o)) =
+          let one : Promised (world_of a.kernel a.hart None) Run (run_outcome_of o) (world_of k' h' (halted_by o)) =
           run-step a.kernel k' a.hart h' (pid_now a.kernel) o a.did.whole a.did.running refl a.ends.1 a.ends.2 in
           let before : IsPromised (world_of k h None) (replicate made (done_by pid)) (world_of a.kernel a.hart None) =
           subst (λ p. IsPromised (world_of k h None) (replicate made (done_by p)) (world_of a.kernel a.hart None)) (sym (current-pid k pid current).1) a.did.run in
           promised_runs_join (world_of k h None) (world_of a.kernel a.hart None) (world_of k' h' (halted_by o)) (replicate made (done_by pid))
-          ((Run, outcome_of o) ∷ []) before (world_of k' h' (halted_by o), one, refl)
+          ((Run, run_outcome_of o) ∷ []) before (world_of k' h' (halted_by o), one, refl)
 
 -- the same from where the machine stood
 pub now-ran : (k : Kernel) (h : Hart) (halted : Option ℤ) (trace : Buffer Note) (now : Meaning)

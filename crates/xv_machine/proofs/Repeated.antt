@@ -27,9 +27,9 @@ use Rattle.kcall_core.specs.Makes.{Makes, MakesDone, IsUndone, IsLastMade, Makes
 use Rattle.kcall_core.specs.declared.kernel.Kernel.{Kernel}
 use Rattle.kernel_spec.proofs.runs.Boot.{promised_runs_join}
 use Rattle.kcall_core.proofs.runs.Promises.{step-promised, view-is}
-use Rattle.xv_machine.specs.declared.event.Outcome.{Outcome}
+use Rattle.xv_machine.specs.declared.event.RunOutcome.{RunOutcome}
 use Rattle.xv_machine.specs.Drives.{done_by}
-use Rattle.xv_machine.specs.Events.{outcome_of}
+use Rattle.xv_machine.specs.Events.{run_outcome_of}
 use Rattle.xv_machine.specs.Sound.{IsHalted}
 use Rattle.xv_machine.specs.Steps.{IsBusy, Did, Advanced}
 use Rattle.xv_machine.proofs.OneStep.{next-answer, stop-behind}
@@ -157,9 +157,9 @@ module _ (k k' : Kernel) (h h' : Hart) (most made : ℕ) (stop : Stop) (row : Ma
         by (stops.Fault cause) last e = let bad : ⊥ = cc in absurd bad
 
     -- the one behind them isn't done, and this came of it
-    pub row-trap : stop ≢ stops.Next → (pid : ℕ) (o : Outcome) (k'' : Kernel) (h'' : Hart) → pid ≡ pid_now k
-        → Makes k' h' (own (view_now k' h')) k'' h'' → outcome_of o ≡ Step_of pid (own (view_now k' h')).answer
-        → ((p : ℕ) → outcome_of o ≢ Step_of p Stepped) → Advanced k h most made (Some o) k'' h''
+    pub row-trap : stop ≢ stops.Next → (pid : ℕ) (o : RunOutcome) (k'' : Kernel) (h'' : Hart) → pid ≡ pid_now k
+        → Makes k' h' (own (view_now k' h')) k'' h'' → run_outcome_of o ≡ Step_of pid (own (view_now k' h')).answer
+        → ((p : ℕ) → run_outcome_of o ≢ Step_of p Stepped) → Advanced k h most made (Some o) k'' h''
     row-trap other pid o k'' h'' is made answer not_done = record {
       kernel = k';
       hart = h';
@@ -168,9 +168,9 @@ module _ (k k' : Kernel) (h h' : Hart) (most made : ℕ) (stop : Stop) (row : Ma
     }
 
 -- a step of a process that is busy
-pub busy-advanced : (k k' : Kernel) (h h' : Hart) (most pid : ℕ) (o : Outcome) → IsWhole k h → IsRunning k → IsSome (live (state_of k h) 1)
+pub busy-advanced : (k k' : Kernel) (h h' : Hart) (most pid : ℕ) (o : RunOutcome) → IsWhole k h → IsRunning k → IsSome (live (state_of k h) 1)
     → 0 < most → pid ≡ pid_now k → Makes k h (own (view_now k h)) k' h'
-    → outcome_of o ≡ Step_of pid (own (view_now k h)).answer → ((p : ℕ) → outcome_of o ≢ Step_of p Stepped) → Advanced k h most 0 (Some o) k' h'
+    → run_outcome_of o ≡ Step_of pid (own (view_now k h)).answer → ((p : ℕ) → run_outcome_of o ≢ Step_of p Stepped) → Advanced k h most 0 (Some o) k' h'
 busy-advanced k k' h h' most pid o whole runs first some is made answer not_done = record {
   kernel = k;
   hart = h;

@@ -24,8 +24,8 @@ use Rattle.kcall_core.specs.declared.kernel.Kernel.{Kernel}
 use Rattle.kcall_core.proofs.runs.Promises.{step-promised, turn-promised, idle-promised, halted-promised, tick-promised, key-promised, send-promised}
 use Rattle.kcall_core.proofs.turns.Turned.{live-is}
 use Rattle.xv_machine.specs.declared.trace.Note.{Note}
-use Rattle.xv_machine.specs.declared.event.Outcome.{Outcome}
-use Rattle.xv_machine.specs.Events.{outcome_of, halted_by}
+use Rattle.xv_machine.specs.declared.event.RunOutcome.{RunOutcome}
+use Rattle.xv_machine.specs.Events.{run_outcome_of, halted_by}
 use Rattle.xv_machine.specs.Machine.{meaning_of, frames_in}
 use Rattle.xv_machine.specs.Meaning.{Meaning}
 use Rattle.xv_machine.specs.Sound.{IsHalted, IsSoundMachine}
@@ -50,7 +50,7 @@ gone-stops p (Faulted cause) status e = refl
 -- ---- a step
 
 -- the status that the machine keeps is that with which process 1 went
-pub halts-as : (outcome : Outcome) (p : ℕ) (a : Answer) → outcome_of outcome ≡ Step_of p a → halted_by outcome ≡ halts_with p a
+pub halts-as : (outcome : RunOutcome) (p : ℕ) (a : Answer) → run_outcome_of outcome ≡ Step_of p a → halted_by outcome ≡ halts_with p a
 halts-as outcome p a e = ap runs.halted_by e
 
 -- whether p is process 1
@@ -110,21 +110,21 @@ not-halted k h (Some status) end runs = absurd (no k.current runs end.1)
     no (Some i) some none = none-some (pid_now k) (sym none)
 
 -- a step, with what the machine answers and keeps
-pub run-step : (k k' : Kernel) (h h' : Hart) (pid : ℕ) (outcome : Outcome) → IsWhole k h → IsRunning k → pid ≡ pid_now k
-    → Makes k h (own (view_now k h)) k' h' → outcome_of outcome ≡ Step_of pid (own (view_now k h)).answer
-    → Promised (world_of k h None) runs.Run (outcome_of outcome) (world_of k' h' (halted_by outcome))
+pub run-step : (k k' : Kernel) (h h' : Hart) (pid : ℕ) (outcome : RunOutcome) → IsWhole k h → IsRunning k → pid ≡ pid_now k
+    → Makes k h (own (view_now k h)) k' h' → run_outcome_of outcome ≡ Step_of pid (own (view_now k h)).answer
+    → Promised (world_of k h None) runs.Run (run_outcome_of outcome) (world_of k' h' (halted_by outcome))
 run-step k k' h h' pid outcome whole now is made answer =
-    let told : outcome_of outcome ≡ Step_of (pid_now k) (own (view_now k h)).answer = answer ∙ ap (λ p. Step_of p (own (view_now k h)).answer) is in
+    let told : run_outcome_of outcome ≡ Step_of (pid_now k) (own (view_now k h)).answer = answer ∙ ap (λ p. Step_of p (own (view_now k h)).answer) is in
     let promised = step-promised k k' h h' whole now made in
     subst (λ o. Promised (world_of k h None) runs.Run o (world_of k' h' (halted_by outcome))) (sym told)
     (subst (λ s. Promised (world_of k h None) runs.Run (Step_of (pid_now k) (own (view_now k h)).answer) (world_of k' h' s))
     (sym (halts-as outcome (pid_now k) (own (view_now k h)).answer told)) promised)
 
-pub run-halts : (k k' : Kernel) (h h' : Hart) (pid : ℕ) (outcome : Outcome) → IsWhole k h → IsRunning k → IsSome (live (state_of k h) 1)
-    → pid ≡ pid_now k → Makes k h (own (view_now k h)) k' h' → outcome_of outcome ≡ Step_of pid (own (view_now k h)).answer
+pub run-halts : (k k' : Kernel) (h h' : Hart) (pid : ℕ) (outcome : RunOutcome) → IsWhole k h → IsRunning k → IsSome (live (state_of k h) 1)
+    → pid ≡ pid_now k → Makes k h (own (view_now k h)) k' h' → run_outcome_of outcome ≡ Step_of pid (own (view_now k h)).answer
     → IsHalted (state_of k' h') (turns_of k' (halted_by outcome)) (halted_by outcome)
 run-halts k k' h h' pid outcome whole now first is made answer =
-    let told : outcome_of outcome ≡ Step_of (pid_now k) (own (view_now k h)).answer = answer ∙ ap (λ p. Step_of p (own (view_now k h)).answer) is in
+    let told : run_outcome_of outcome ≡ Step_of (pid_now k) (own (view_now k h)).answer = answer ∙ ap (λ p. Step_of p (own (view_now k h)).answer) is in
     subst (λ s. IsHalted (state_of k' h') (turns_of k' s) s) (sym (halts-as outcome (pid_now k) (own (view_now k h)).answer told)) (halts-after k k' h h' whole now made first)
 
 -- ---- no step
@@ -243,15 +243,15 @@ sent-ends k k' h None same stirs lives = ap (λ ps. is_some (live_part (get ps 1
 sent-ends k k' h (Some status) same stirs ended = (ap (λ ps. get ps 1) same ∙ ended.0, ap (λ (u : Turns). u.current) stirs.0 ∙ ended.1)
 
 -- whether the machine is halted after a step
-pub run-ends : (k k' : Kernel) (h h' : Hart) (halted after : Option ℤ) (pid : ℕ) (outcome : Outcome) → IsWhole k h
+pub run-ends : (k k' : Kernel) (h h' : Hart) (halted after : Option ℤ) (pid : ℕ) (outcome : RunOutcome) → IsWhole k h
     → (turns_of k None).current ≡ Some pid → IsHalted (state_of k h) (turns_of k halted) halted → Makes k h (own (view_now k h)) k' h'
-    → outcome_of outcome ≡ Step_of pid (own (view_now k h)).answer → after ≡ halted_by outcome → IsHalted (state_of k' h') (turns_of k' after) after
+    → run_outcome_of outcome ≡ Step_of pid (own (view_now k h)).answer → after ≡ halted_by outcome → IsHalted (state_of k' h') (turns_of k' after) after
 run-ends k k' h h' halted after pid outcome whole current end made answer kept =
     let now = current-pid k pid current in
     subst (λ s. IsHalted (state_of k' h') (turns_of k' s) s) (sym kept) (run-halts k k' h h' pid outcome whole now.0 (first-lives k h halted end (not-halted k h halted end now.0)) now.1 made answer)
 
 -- after an instruction that is done the status of process 1 is as it was: none
-pub stepped-keeps : (k : Kernel) (h : Hart) (halted : Option ℤ) (pid p : ℕ) (outcome : Outcome) → outcome ≡ Outcome.Stepped p
+pub stepped-keeps : (k : Kernel) (h : Hart) (halted : Option ℤ) (pid p : ℕ) (outcome : RunOutcome) → outcome ≡ RunOutcome.Stepped p
     → (turns_of k None).current ≡ Some pid → IsHalted (state_of k h) (turns_of k halted) halted → halted ≡ halted_by outcome
 stepped-keeps k h halted pid p outcome is current end =
     not-halted k h halted end (current-pid k pid current).0 ∙ sym (ap halted_by is)

@@ -1,5 +1,5 @@
 -- What a trace keeps of events: a note of each.
-use Rattle.std.specs.Prelude.{ℕ, List, map, length}
+use Rattle.std.specs.Prelude.{ℕ, Bool, true, false, List, map, length}
 use Rattle.kernel_spec.specs.steps.Own as answers
 use Rattle.kernel_spec.specs.runs.Run as runs
 use Rattle.xv_machine.specs.declared.trace.Note.{Note}
@@ -29,6 +29,11 @@ note event runs.Ticked = Ticked
 note event (runs.Typed echo) = Typed (key_of event) (length echo)
 note event (runs.Sent byte) = Sent byte
 note event runs.Halted = Halted
+
+-- what comes of a Tick, if the clock has counted it, and if process 1 is gone
+abbrev pub ticked : Bool → runs.Outcome
+ticked true = runs.Ticked
+ticked false = runs.Halted
 
 -- those of a list, in order
 abbrev pub notes_of : List (runs.Event × runs.Outcome) → List Note

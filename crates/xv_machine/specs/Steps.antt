@@ -13,9 +13,9 @@ use Rattle.kcall_core.specs.Machine.{world_of}
 use Rattle.kcall_core.specs.Whole.{IsWhole}
 use Rattle.kcall_core.specs.Makes.{Makes, view_now}
 use Rattle.kcall_core.specs.declared.kernel.Kernel.{Kernel}
-use Rattle.xv_machine.specs.declared.event.Outcome.{Outcome}
+use Rattle.xv_machine.specs.declared.event.RunOutcome.{RunOutcome}
 use Rattle.xv_machine.specs.Drives.{done_by}
-use Rattle.xv_machine.specs.Events.{outcome_of}
+use Rattle.xv_machine.specs.Events.{run_outcome_of}
 
 -- its next step is no instruction: it is marked, or in a call
 abbrev pub IsBusy : Live → Type 0
@@ -32,24 +32,24 @@ pub record Did (k : Kernel) (h : Hart) (made : ℕ) (k' : Kernel) (h' : Hart) : 
   pub frames : frame_count k' ≡ frame_count k
 
 -- behind the instructions all that were asked for are done; or a step was made to which something else came
-abbrev pub EndsIn : (k : Kernel) (h : Hart) (most made : ℕ) (end : Option Outcome) (k' : Kernel) (h' : Hart) → Type 0
+abbrev pub EndsIn : (k : Kernel) (h : Hart) (most made : ℕ) (end : Option RunOutcome) (k' : Kernel) (h' : Hart) → Type 0
 EndsIn k h most made None k' h' = (made ≡ most) × (k' ≡ k) × (h' ≡ h)
 EndsIn k h most made (Some o) k' h' =
-    (made < most) × Makes k h (own (view_now k h)) k' h' × (outcome_of o ≡ Step_of (pid_now k) (own (view_now k h)).answer) × ((p : ℕ) → outcome_of o ≢ Step_of p Stepped)
+    (made < most) × Makes k h (own (view_now k h)) k' h' × (run_outcome_of o ≡ Step_of (pid_now k) (own (view_now k h)).answer) × ((p : ℕ) → run_outcome_of o ≢ Step_of p Stepped)
 
 -- steps up to the first that is no done instruction, so many at most
-pub record Advanced (k : Kernel) (h : Hart) (most made : ℕ) (end : Option Outcome) (k' : Kernel) (h' : Hart) : Type 0 where
+pub record Advanced (k : Kernel) (h : Hart) (most made : ℕ) (end : Option RunOutcome) (k' : Kernel) (h' : Hart) : Type 0 where
   pub kernel : Kernel
   pub hart : Hart
   pub did : Did k h made kernel hart
   pub ends : EndsIn kernel hart most made end k' h'
 
 -- the Runs of such steps of process p, with their outcomes
-abbrev pub runs_made : (p made : ℕ) (end : Option Outcome) → List (runs.Event × runs.Outcome)
+abbrev pub runs_made : (p made : ℕ) (end : Option RunOutcome) → List (runs.Event × runs.Outcome)
 runs_made p made None = replicate made (done_by p)
-runs_made p made (Some o) = replicate made (done_by p) ++ (runs.Run, outcome_of o) ∷ []
+runs_made p made (Some o) = replicate made (done_by p) ++ (runs.Run, run_outcome_of o) ∷ []
 
 -- all were sent, or the last one is a step, and no done instruction
-abbrev pub IsEnd : (most made : ℕ) (end : Option Outcome) → Type 0
+abbrev pub IsEnd : (most made : ℕ) (end : Option RunOutcome) → Type 0
 IsEnd most made None = made ≡ most
-IsEnd most made (Some o) = (made < most) × ((p : ℕ) → outcome_of o ≢ Step_of p Stepped) × (outcome_of o ≢ runs.Idle) × (outcome_of o ≢ runs.Halted)
+IsEnd most made (Some o) = (made < most) × ((p : ℕ) → run_outcome_of o ≢ Step_of p Stepped) × (run_outcome_of o ≢ runs.Idle) × (run_outcome_of o ≢ runs.Halted)

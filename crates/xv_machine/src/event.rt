@@ -1,7 +1,8 @@
 //! What a machine is told, and what it tells.
 ghost use Rattle.std.specs.Prelude.{◌≡◌};
-ghost use Rattle.kernel_spec.specs.runs.Run.{bytes_out};
-ghost use Rattle.xv_machine.specs.Events.{outcome_of};
+ghost use Rattle.kernel_spec.specs.runs.Run.{Run, bytes_out};
+ghost use Rattle.xv_machine.specs.Events.{outcome_of, run_outcome_of};
+ghost use Rattle.xv_machine.specs.Notes.{note};
 
 use crate::trace::Note;
 use kcall_core::Echo;
@@ -60,6 +61,56 @@ impl Outcome {
             Outcome::Typed(echo) => echo.as_slice(),
             Outcome::Sent(Some(byte)) => slice::from_ref(byte),
             _ => &[],
+        }
+    }
+}
+
+// What came of a Run: an outcome without room for an echo. It has 24 bytes. An [`Outcome`] has 400, which are cleared where
+// one is made, and copied where one is handed on.
+#[derive(Drop)]
+pub(crate) enum RunOutcome {
+    Stepped { pid: Pid },
+    Called { pid: Pid, number: i32, value: i64 },
+    Blocked { pid: Pid, number: i32 },
+    Exited { pid: Pid, status: i32 },
+    Faulted { pid: Pid, cause: Cause },
+    Turn { pid: Pid },
+    Idle,
+    Halted,
+}
+
+impl RunOutcome {
+    // The same, as an event answers it.
+    #[inline(always)]
+    pub(crate) fn as_outcome(self) -> Outcome
+        ensures { outcome_of result ≡ run_outcome_of self }
+    {
+        match self {
+            RunOutcome::Stepped { pid } => Outcome::Stepped { pid },
+            RunOutcome::Called { pid, number, value } => Outcome::Called { pid, number, value },
+            RunOutcome::Blocked { pid, number } => Outcome::Blocked { pid, number },
+            RunOutcome::Exited { pid, status } => Outcome::Exited { pid, status },
+            RunOutcome::Faulted { pid, cause } => Outcome::Faulted { pid, cause },
+            RunOutcome::Turn { pid } => Outcome::Turn { pid },
+            RunOutcome::Idle => Outcome::Idle,
+            RunOutcome::Halted => Outcome::Halted,
+        }
+    }
+
+    // Its note.
+    #[inline(always)]
+    pub(crate) fn note(&self) -> Note
+        ensures { result ≡ note Run (run_outcome_of self.now) }
+    {
+        match *self {
+            RunOutcome::Stepped { pid } => Note::Stepped { pid },
+            RunOutcome::Called { pid, number, value } => Note::Called { pid, number, value },
+            RunOutcome::Blocked { pid, number } => Note::Blocked { pid, number },
+            RunOutcome::Exited { pid, status } => Note::Exited { pid, status },
+            RunOutcome::Faulted { pid, cause } => Note::Faulted { pid, cause },
+            RunOutcome::Turn { pid } => Note::Turn { pid },
+            RunOutcome::Idle => Note::Idle,
+            RunOutcome::Halted => Note::Halted,
         }
     }
 }

@@ -7,11 +7,13 @@ ghost use Rattle.kernel_spec.specs.views.State.{named_file};
 ghost use Rattle.kernel_spec.specs.views.Programs.{first_bad, init_of};
 ghost use Rattle.kernel_spec.specs.runs.First.{unless_refused, first_init};
 ghost use Rattle.kernel_spec.specs.waking.Wakes.{is_turn};
-ghost use Rattle.xv_machine.specs.Events.{outcome_of, halted_by};
+ghost use Rattle.xv_machine.specs.Events.{run_outcome_of, halted_by};
+ghost use Rattle.kernel_spec.specs.runs.Run as runs;
+ghost use Rattle.xv_machine.specs.Notes.{note, ticked};
 
 mod observers;
 
-use crate::event::{Event, Outcome};
+use crate::event::{Event, Outcome, RunOutcome};
 use crate::fast::trace_runs::Trace;
 use crate::step::{StepsMade, advance, instructions, instructions_unwatched, step};
 use crate::trace::Note;
@@ -67,12 +69,13 @@ fn without_init(programs: &[Program]) -> BootError
 }
 
 // The status with which process 1 goes, where it does.
-fn halted_by(outcome: &Outcome) -> Option<i32>
+#[inline(always)]
+fn halted_by(outcome: &RunOutcome) -> Option<i32>
     ensures { result ≡ halted_by outcome.now }
 {
     match *outcome {
-        Outcome::Exited { pid, status } if pid.number() == 1 => Some(status),
-        Outcome::Faulted { pid, .. } if pid.number() == 1 => Some(-1),
+        RunOutcome::Exited { pid, status } if pid.number() == 1 => Some(status),
+        RunOutcome::Faulted { pid, .. } if pid.number() == 1 => Some(-1),
         _ => None,
     }
 }
@@ -84,6 +87,17 @@ fn push(trace: &mut Trace, note: Note)
     ensures { trace.new ≡ buffer (keep_last trace.old.capacity (trace.old.items ++ note ∷ [])) trace.old.capacity }
 {
     trace.push(note);
+}
+
+// The note of a Tick that the clock has counted, or of one after the end of process 1.
+fn tick_note(is_counted: bool) -> Note
+    ensures { result ≡ note runs.Tick (ticked is_counted) }
+{
+    if is_counted {
+        Note::Ticked
+    } else {
+        Note::Halted
+    }
 }
 
 // Puts the note of a done instruction behind the others of a trace. It isn't inlined, so that the way of an
@@ -104,11 +118,12 @@ fn push_often(trace: &mut Trace, note: &Note, count: u32)
 }
 
 // Whether it is a turn.
-fn is_turn(outcome: &Outcome) -> bool
-    ensures { result ≡ is_turn (outcome_of outcome.now) }
+#[inline(always)]
+fn is_turn(outcome: &RunOutcome) -> bool
+    ensures { result ≡ is_turn (run_outcome_of outcome.now) }
 {
     match outcome {
-        Outcome::Turn { .. } => true,
+        RunOutcome::Turn { .. } => true,
         _ => false,
     }
 }
@@ -166,11 +181,12 @@ impl Machine {
     ghost use Rattle.circular_buffer.specs.Buffer.{keep_last};
     ghost use Rattle.xv_machine.specs.Boots.{Boots, HasEmptyTrace};
     ghost use Rattle.xv_machine.specs.Drives.{Goes, Ran, done_by};
-    ghost use Rattle.xv_machine.specs.Events.{event_of, outcome_of};
+    ghost use Rattle.xv_machine.specs.Events.{event_of, outcome_of, run_outcome_of};
     ghost use Rattle.xv_machine.specs.Instructions.{NextIsOther, RunsUnwatched, AreUnwatched, noted};
     ghost use Rattle.xv_machine.specs.Machine.{SameTrace};
+    ghost use Rattle.xv_machine.specs.Notes.{note, ticked};
     ghost use Rattle.xv_machine.specs.declared.trace.Note.TheVariants.{Stepped};
-    ghost use Rattle.xv_machine.specs.Reached.{IsEvent};
+    ghost use Rattle.xv_machine.specs.Reached.{IsEvent, TakesEvent};
     ghost use Rattle.xv_machine.specs.Sound.{IsSoundMachine};
     ghost use Rattle.xv_machine.specs.Steps.{runs_made, IsEnd};
     ghost use Rattle.xv_machine.specs.Stretches.{sends};
@@ -265,7 +281,7 @@ impl Machine {
         ensures trace { SameTrace self.old self.new }
     {
         match event {
-            Event::Run => self.run_once(),
+            Event::Run => self.run_once().as_outcome(),
             Event::Tick => self.tick(),
             Event::Key(byte) => self.key(byte),
             Event::Send => Outcome::Sent(self.take_byte()),
@@ -310,8 +326,8 @@ impl Machine {
 
     // The process that runs makes a step; where none runs, the next has its turn.
     #[inline(always)]
-    fn run_once(&mut self) -> Outcome
-        ensures promised { Promised self.old.world runs.Run (outcome_of result) self.new.world }
+    fn run_once(&mut self) -> RunOutcome
+        ensures promised { Promised self.old.world runs.Run (run_outcome_of result) self.new.world }
         ensures frames { self.new.frames.count ≡ self.old.frames.count }
         ensures trace { SameTrace self.old self.new }
     {
@@ -319,10 +335,9 @@ impl Machine {
             return self.turn();
         };
         let outcome = step(&mut self.kernel, &mut self.hart, pid);
-        if let Outcome::Stepped { pid: done } = outcome {
-            // The status stays: there is none while a process runs. An outcome has room for an echo, so it is
-            // written anew here and not copied.
-            return Outcome::Stepped { pid: done };
+        if let RunOutcome::Stepped { pid: done } = outcome {
+            // The status stays: there is none while a process runs.
+            return RunOutcome::Stepped { pid: done };
         }
         self.halted = halted_by(&outcome);
         outcome
@@ -330,19 +345,19 @@ impl Machine {
 
     // The next process has its turn, unless process 1 is gone.
     #[inline(always)]
-    fn turn(&mut self) -> Outcome
+    fn turn(&mut self) -> RunOutcome
         requires stopped { self.old.world.turns.current ≡ None }
-        ensures promised { Promised self.old.world runs.Run (outcome_of result) self.new.world }
+        ensures promised { Promised self.old.world runs.Run (run_outcome_of result) self.new.world }
         ensures frames { self.new.frames.count ≡ self.old.frames.count }
         ensures trace { SameTrace self.old self.new }
     {
         if self.halted.is_some() {
-            return Outcome::Halted;
+            return RunOutcome::Halted;
         }
         let Some(pid) = self.kernel.turn(&mut self.hart) else {
-            return Outcome::Idle;
+            return RunOutcome::Idle;
         };
-        Outcome::Turn { pid }
+        RunOutcome::Turn { pid }
     }
 
     /// Sends Run, `most` times at most: as long as an instruction is done, and once more where something else
@@ -375,7 +390,7 @@ impl Machine {
         ensures sent { 0 < result }
     {
         let outcome = self.turn();
-        let note = Note::of(Event::Run, &outcome);
+        let note = outcome.note();
         if is_turn(&outcome) {
             self.keep(note);
             return 1;
@@ -398,7 +413,7 @@ impl Machine {
         let Some(outcome) = end else {
             return made;
         };
-        self.keep(Note::of(Event::Run, &outcome));
+        self.keep(outcome.note());
         made + 1
     }
 
@@ -479,18 +494,39 @@ impl Machine {
         instructions(&mut self.kernel, &mut self.hart, most)
     }
 
-    // The clock counts a tick, unless process 1 is gone.
+    // The clock counts a tick, unless process 1 is gone. It tells whether it did.
+    #[inline(always)]
+    fn count_tick(&mut self) -> bool
+        ensures promised { Promised self.old.world runs.Tick (ticked result) self.new.world }
+        ensures frames { self.new.frames.count ≡ self.old.frames.count }
+        ensures trace { SameTrace self.old self.new }
+    {
+        if self.halted.is_some() {
+            return false;
+        }
+        self.kernel.tick(&mut self.hart);
+        true
+    }
+
+    // What comes of a Tick.
     #[inline(always)]
     fn tick(&mut self) -> Outcome
         ensures promised { Promised self.old.world runs.Tick (outcome_of result) self.new.world }
         ensures frames { self.new.frames.count ≡ self.old.frames.count }
         ensures trace { SameTrace self.old self.new }
     {
-        if self.halted.is_some() {
-            return Outcome::Halted;
+        if self.count_tick() {
+            return Outcome::Ticked;
         }
-        self.kernel.tick(&mut self.hart);
-        Outcome::Ticked
+        Outcome::Halted
+    }
+
+    // Sends Tick. No outcome is made, which would have room for an echo, and be cleared and copied.
+    pub(crate) fn send_tick(&mut self)
+        ensures { TakesEvent self.old runs.Tick self.new }
+    {
+        let is_counted = self.count_tick();
+        self.keep(tick_note(is_counted));
     }
 
     // The console takes a key, unless process 1 is gone.

@@ -100,7 +100,7 @@ impl RoundPlayer for Machine {
 
     #[inline(always)]
     fn play_tick(&mut self) -> Result<(), Infallible> {
-        self.event(Event::Tick);
+        self.send_tick();
         Ok(())
     }
 

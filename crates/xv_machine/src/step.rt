@@ -10,24 +10,24 @@ ghost use Rattle.kcall_core.specs.Whole.{IsWhole};
 ghost use Rattle.kcall_core.specs.Makes.{Makes, view_now, stop_now, answer_of};
 ghost use Rattle.kcall_core.specs.Watched.{MakesAllUnwatched};
 ghost use Rattle.rv64i_core.specs.declared.execution.Stop.TheVariants as stops;
-ghost use Rattle.xv_machine.specs.Events.{outcome_of};
+ghost use Rattle.xv_machine.specs.Events.{run_outcome_of};
 ghost use Rattle.xv_machine.specs.Instructions.{Instructed};
 ghost use Rattle.xv_machine.specs.Steps.{IsBusy, Advanced};
 
-use crate::event::Outcome;
+use crate::event::RunOutcome;
 use hart_core::{Hart, Series, Watch};
 use kcall_core::{CallEnd, Kernel, call_number};
 use rv64i_core::Stop;
 use xk_base::Pid;
 
 /// The outcome of a step in which a call of this number ends so.
-fn call_outcome(pid: Pid, number: i32, end: CallEnd) -> Outcome
-    ensures { outcome_of result ≡ Step_of pid (answer_of number end) }
+fn call_outcome(pid: Pid, number: i32, end: CallEnd) -> RunOutcome
+    ensures { run_outcome_of result ≡ Step_of pid (answer_of number end) }
 {
     match end {
-        CallEnd::Done(value) => Outcome::Called { pid, number, value },
-        CallEnd::Wait => Outcome::Blocked { pid, number },
-        CallEnd::Gone(status) => Outcome::Exited { pid, status },
+        CallEnd::Done(value) => RunOutcome::Called { pid, number, value },
+        CallEnd::Wait => RunOutcome::Blocked { pid, number },
+        CallEnd::Gone(status) => RunOutcome::Exited { pid, status },
     }
 }
 
@@ -47,18 +47,18 @@ fn is_busy(kernel: &Kernel) -> bool
 
 /// A step of a process that is marked, which ends it, or that is in a call, which goes on.
 #[inline(always)]
-fn go_on(kernel: &mut Kernel, hart: &mut Hart, pid: Pid) -> Outcome
+fn go_on(kernel: &mut Kernel, hart: &mut Hart, pid: Pid) -> RunOutcome
     requires whole { IsWhole kernel.old hart.old }
     requires running { IsRunning kernel.old }
     requires pid { pid ≡ pid_now kernel.old }
     requires busy { IsBusy (live_now kernel.old hart.old) }
     ensures made { Makes kernel.old hart.old (own (view_now kernel.old hart.old)) kernel.new hart.new }
-    ensures answer { outcome_of result ≡ Step_of pid (own (view_now kernel.old hart.old)).answer }
-    ensures other { (p : ℕ) → outcome_of result ≢ Step_of p Stepped }
+    ensures answer { run_outcome_of result ≡ Step_of pid (own (view_now kernel.old hart.old)).answer }
+    ensures other { (p : ℕ) → run_outcome_of result ≢ Step_of p Stepped }
 {
     if kernel.marked() {
         kernel.exit(hart, -1);
-        return Outcome::Exited { pid, status: -1 };
+        return RunOutcome::Exited { pid, status: -1 };
     }
     let Some(number) = kernel.in_call() else {
         unreachable!();
@@ -70,7 +70,7 @@ fn go_on(kernel: &mut Kernel, hart: &mut Hart, pid: Pid) -> Outcome
 /// What comes of an instruction that isn't done, for this reason: a call to the kernel begins, or the process
 /// ends.
 #[inline(always)]
-fn trap(kernel: &mut Kernel, hart: &mut Hart, pid: Pid, stop: Stop) -> Outcome
+fn trap(kernel: &mut Kernel, hart: &mut Hart, pid: Pid, stop: Stop) -> RunOutcome
     requires whole { IsWhole kernel.old hart.old }
     requires running { IsRunning kernel.old }
     requires between_calls { laws.IsBetweenCalls (live_now kernel.old hart.old) }
@@ -78,8 +78,8 @@ fn trap(kernel: &mut Kernel, hart: &mut Hart, pid: Pid, stop: Stop) -> Outcome
     requires stop { stop ≡ stop_now kernel.old hart.old }
     requires undone { stop ≢ stops.Next }
     ensures made { Makes kernel.old hart.old (own (view_now kernel.old hart.old)) kernel.new hart.new }
-    ensures answer { outcome_of result ≡ Step_of pid (own (view_now kernel.old hart.old)).answer }
-    ensures other { (p : ℕ) → outcome_of result ≢ Step_of p Stepped }
+    ensures answer { run_outcome_of result ≡ Step_of pid (own (view_now kernel.old hart.old)).answer }
+    ensures other { (p : ℕ) → run_outcome_of result ≢ Step_of p Stepped }
 {
     match stop {
         Stop::Next => unreachable!(),
@@ -90,23 +90,23 @@ fn trap(kernel: &mut Kernel, hart: &mut Hart, pid: Pid, stop: Stop) -> Outcome
         }
         Stop::Fault(cause) => {
             kernel.exit(hart, -1);
-            Outcome::Faulted { pid, cause }
+            RunOutcome::Faulted { pid, cause }
         }
     }
 }
 
 /// The instruction at the pc.
 #[inline(always)]
-fn instruction(kernel: &mut Kernel, hart: &mut Hart, pid: Pid) -> Outcome
+fn instruction(kernel: &mut Kernel, hart: &mut Hart, pid: Pid) -> RunOutcome
     requires whole { IsWhole kernel.old hart.old }
     requires running { IsRunning kernel.old }
     requires between_calls { laws.IsBetweenCalls (live_now kernel.old hart.old) }
     requires pid { pid ≡ pid_now kernel.old }
     ensures made { Makes kernel.old hart.old (own (view_now kernel.old hart.old)) kernel.new hart.new }
-    ensures answer { outcome_of result ≡ Step_of pid (own (view_now kernel.old hart.old)).answer }
+    ensures answer { run_outcome_of result ≡ Step_of pid (own (view_now kernel.old hart.old)).answer }
 {
     match kernel.step(hart) {
-        Stop::Next => Outcome::Stepped { pid },
+        Stop::Next => RunOutcome::Stepped { pid },
         Stop::Ecall => trap(kernel, hart, pid, Stop::Ecall),
         Stop::Fault(cause) => trap(kernel, hart, pid, Stop::Fault(cause)),
     }
@@ -115,12 +115,12 @@ fn instruction(kernel: &mut Kernel, hart: &mut Hart, pid: Pid) -> Outcome
 /// One step of the process that runs: it ends where it is marked, goes on with the call that it is in,
 /// and does the instruction at the pc where it is in none.
 #[inline(always)]
-pub(crate) fn step(kernel: &mut Kernel, hart: &mut Hart, pid: Pid) -> Outcome
+pub(crate) fn step(kernel: &mut Kernel, hart: &mut Hart, pid: Pid) -> RunOutcome
     requires whole { IsWhole kernel.old hart.old }
     requires running { IsRunning kernel.old }
     requires pid { pid ≡ pid_now kernel.old }
     ensures made { Makes kernel.old hart.old (own (view_now kernel.old hart.old)) kernel.new hart.new }
-    ensures answer { outcome_of result ≡ Step_of pid (own (view_now kernel.old hart.old)).answer }
+    ensures answer { run_outcome_of result ≡ Step_of pid (own (view_now kernel.old hart.old)).answer }
 {
     if is_busy(kernel) {
         return go_on(kernel, hart, pid);
@@ -133,7 +133,7 @@ pub(crate) fn step(kernel: &mut Kernel, hart: &mut Hart, pid: Pid) -> Outcome
 #[derive(Drop)]
 pub(crate) struct StepsMade {
     pub(crate) made: u32,
-    pub(crate) end: Option<Outcome>,
+    pub(crate) end: Option<RunOutcome>,
 }
 
 /// Steps of the process that runs, up to the first that is no done instruction, `most` at most.

@@ -5,7 +5,7 @@ use Rattle.kcall_core.specs.Makes.{answer_of}
 use Rattle.kernel_spec.specs.steps.Own.{Exited}
 use Rattle.kernel_spec.specs.runs.Run.{Step_of}
 use Rattle.kernel_spec.specs.views.Words.{minus_one}
-use Rattle.xv_machine.specs.Events.{outcome_of}
+use Rattle.xv_machine.specs.Events.{run_outcome_of}
 use Rattle.xv_machine.proofs.OneStep.{ends-marked, marked-answer, resume-answer, call-missing}
 use Rattle.xv_machine.proofs.Repeated.{busy-in-call, some-none}
 use Rattle.xv_machine.proofs.step.go_on.Goals as goal
@@ -33,6 +33,6 @@ resume-end-requires-clause-in_call c =
 
 pub returns-clause-answer : goal.returns-clause-answer
 returns-clause-answer c =
-    resume-answer c.args.kernel.now c.args.hart.now c.args.pid c.in-Some.number c.resume-end.result (outcome_of c.call_outcome.result)
+    resume-answer c.args.kernel.now c.args.hart.now c.args.pid c.in-Some.number c.resume-end.result (run_outcome_of c.call_outcome.result)
     (sym c.in-Some.is ∙ c.in_call.ensures c.args.hart.now) c.resume-end.ensures.answer
     (c.call_outcome.ensures ∙ ap (λ n. Step_of c.args.pid (answer_of n c.resume-end.result)) (to_z-of_z w32 c.in-Some.number (search rules)))

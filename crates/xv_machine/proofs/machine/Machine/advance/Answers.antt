@@ -3,7 +3,7 @@ use Rattle.std.specs.Prelude.{ℤ}
 use Rattle.kcall_core.specs.Machine.{turns_of, world_of}
 use Rattle.kcall_core.specs.Kernel.{state_of}
 use Rattle.kernel_spec.specs.waking.Wakes.{IsPromised}
-use Rattle.xv_machine.specs.declared.event.Outcome.{Outcome}
+use Rattle.xv_machine.specs.declared.event.RunOutcome.{RunOutcome}
 use Rattle.xv_machine.specs.Sound.{IsHalted}
 use Rattle.xv_machine.specs.Steps.{Advanced, runs_made}
 use Rattle.xv_machine.proofs.Runs.{current-pid, count-is, now-frames}
@@ -28,7 +28,7 @@ returns-in_default-clause-run c =
     let h = c.advance-made.new.hart in
     let current = now-running i.kernel i.hart i.halted i.trace c.args.self.now c.args.pid c.self.view_is c.requires.current in
     let on = is-on i.kernel i.hart i.halted c.args.pid current c.self.invariant.halted in
-    let a : Advanced i.kernel i.hart c.args.most made None k h = subst (λ (e : Option Outcome). Advanced i.kernel i.hart c.args.most made e k h) c.in_default.is c.advance-made.ensures in
+    let a : Advanced i.kernel i.hart c.args.most made None k h = subst (λ (e : Option RunOutcome). Advanced i.kernel i.hart c.args.most made e k h) c.in_default.is c.advance-made.ensures in
     now-ran i.kernel i.hart i.halted i.trace c.args.self.now c.self.view_is (runs_made c.args.pid made None) (world_of k h i.halted) on
     (subst (λ (s : Option ℤ). IsPromised (world_of i.kernel i.hart None) (runs_made c.args.pid made None) (world_of k h s)) (sym on)
     (none-run i.kernel i.hart i.halted c.args.pid current c.self.invariant.halted c.args.most made k h a))
@@ -40,7 +40,7 @@ returns-in_default-clause-frames c =
     let k = c.advance-made.new.kernel in
     let h = c.advance-made.new.hart in
     let current = now-running i.kernel i.hart i.halted i.trace c.args.self.now c.args.pid c.self.view_is c.requires.current in
-    let a : Advanced i.kernel i.hart c.args.most made None k h = subst (λ (e : Option Outcome). Advanced i.kernel i.hart c.args.most made e k h) c.in_default.is c.advance-made.ensures in
+    let a : Advanced i.kernel i.hart c.args.most made None k h = subst (λ (e : Option RunOutcome). Advanced i.kernel i.hart c.args.most made e k h) c.in_default.is c.advance-made.ensures in
     count-is k ∙ none-frames i.kernel i.hart i.halted c.args.pid current c.self.invariant.halted c.args.most made k h a ∙ now-frames i.kernel i.hart i.halted i.trace c.args.self.now c.self.view_is
 
 pub invariant_of-self-2 : goal.invariant_of-self-2
@@ -51,7 +51,7 @@ invariant_of-self-2 c =
     let h = c.advance-made.new.hart in
     let o = c.in-Some.last in
     let current = now-running i.kernel i.hart i.halted i.trace c.args.self.now c.args.pid c.self.view_is c.requires.current in
-    let a : Advanced i.kernel i.hart c.args.most made (Some o) k h = subst (λ (e : Option Outcome). Advanced i.kernel i.hart c.args.most made e k h) c.in-Some.is c.advance-made.ensures in
+    let a : Advanced i.kernel i.hart c.args.most made (Some o) k h = subst (λ (e : Option RunOutcome). Advanced i.kernel i.hart c.args.most made e k h) c.in-Some.is c.advance-made.ensures in
     record {
       whole = some-whole i.kernel i.hart i.halted c.args.pid current c.self.invariant.halted c.args.most made k h o a;
       halted = subst (λ (s : Option ℤ). IsHalted (state_of k h) (turns_of k s) s) (sym c.halted_by-self-inside.ensures)
@@ -68,7 +68,7 @@ returns-clause-run c =
     let o = c.in-Some.last in
     let current = now-running i.kernel i.hart i.halted i.trace c.args.self.now c.args.pid c.self.view_is c.requires.current in
     let on = is-on i.kernel i.hart i.halted c.args.pid current c.self.invariant.halted in
-    let a : Advanced i.kernel i.hart c.args.most made (Some o) k h = subst (λ (e : Option Outcome). Advanced i.kernel i.hart c.args.most made e k h) c.in-Some.is c.advance-made.ensures in
+    let a : Advanced i.kernel i.hart c.args.most made (Some o) k h = subst (λ (e : Option RunOutcome). Advanced i.kernel i.hart c.args.most made e k h) c.in-Some.is c.advance-made.ensures in
     now-ran i.kernel i.hart i.halted i.trace c.args.self.now c.self.view_is (runs_made c.args.pid made (Some o)) (world_of k h c.halted_by-self-inside.result) on
     (subst (λ (s : Option ℤ). IsPromised (world_of i.kernel i.hart None) (runs_made c.args.pid made (Some o)) (world_of k h s))
     (sym c.halted_by-self-inside.ensures) (some-run i.kernel i.hart i.halted c.args.pid current c.self.invariant.halted c.args.most made k h o a))
@@ -81,7 +81,7 @@ returns-clause-frames c =
     let h = c.advance-made.new.hart in
     let o = c.in-Some.last in
     let current = now-running i.kernel i.hart i.halted i.trace c.args.self.now c.args.pid c.self.view_is c.requires.current in
-    let a : Advanced i.kernel i.hart c.args.most made (Some o) k h = subst (λ (e : Option Outcome). Advanced i.kernel i.hart c.args.most made e k h) c.in-Some.is c.advance-made.ensures in
+    let a : Advanced i.kernel i.hart c.args.most made (Some o) k h = subst (λ (e : Option RunOutcome). Advanced i.kernel i.hart c.args.most made e k h) c.in-Some.is c.advance-made.ensures in
     count-is k ∙ some-frames i.kernel i.hart i.halted c.args.pid current c.self.invariant.halted c.args.most made k h o a ∙ now-frames i.kernel i.hart i.halted i.trace c.args.self.now c.self.view_is
 
 pub returns-clause-end : goal.returns-clause-end
@@ -92,5 +92,5 @@ returns-clause-end c =
     let h = c.advance-made.new.hart in
     let o = c.in-Some.last in
     let current = now-running i.kernel i.hart i.halted i.trace c.args.self.now c.args.pid c.self.view_is c.requires.current in
-    let a : Advanced i.kernel i.hart c.args.most made (Some o) k h = subst (λ (e : Option Outcome). Advanced i.kernel i.hart c.args.most made e k h) c.in-Some.is c.advance-made.ensures in
+    let a : Advanced i.kernel i.hart c.args.most made (Some o) k h = subst (λ (e : Option RunOutcome). Advanced i.kernel i.hart c.args.most made e k h) c.in-Some.is c.advance-made.ensures in
     some-end i.kernel i.hart i.halted c.args.pid current c.self.invariant.halted c.args.most made k h o a

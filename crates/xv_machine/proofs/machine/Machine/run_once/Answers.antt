@@ -2,8 +2,8 @@ use Rattle.std.proofs.Common.{sym, ◌∙◌, None, subst, rules}
 use Rattle.kernel_spec.specs.runs.Run as runs
 use Rattle.kcall_core.specs.Machine.{world_of}
 use Rattle.kernel_spec.specs.waking.Wakes.{Promised}
-use Rattle.xv_machine.specs.declared.event.Outcome.{Outcome}
-use Rattle.xv_machine.specs.Events.{outcome_of, halted_by}
+use Rattle.xv_machine.specs.declared.event.RunOutcome.{RunOutcome}
+use Rattle.xv_machine.specs.Events.{run_outcome_of, halted_by}
 use Rattle.xv_machine.proofs.Runs.{current-pid, not-halted, count-is, now-frames, now-promised, run-step, run-ends, stepped-keeps}
 use Rattle.xv_machine.proofs.machine.Machine.run_once.Goals as goal
 
@@ -32,9 +32,9 @@ returns-in-Stepped-clause-promised c =
     let i = c.self.inside in
     let current = sym (c.current.ensures None) ∙ c.in-Some.is in
     let now = current-pid i.kernel c.in-Some.pid current in
-    subst (λ (o : Outcome). Promised c.args.self.now.world runs.Run (outcome_of o) (world_of c.step-outcome.new.kernel c.step-outcome.new.hart i.halted)) c.in-Stepped.is
+    subst (λ (o : RunOutcome). Promised c.args.self.now.world runs.Run (run_outcome_of o) (world_of c.step-outcome.new.kernel c.step-outcome.new.hart i.halted)) c.in-Stepped.is
     (now-promised i.kernel i.hart i.halted i.trace c.args.self.now c.self.view_is runs.Run c.step-outcome.new.kernel c.step-outcome.new.hart
-    (halted_by c.step-outcome.result) (outcome_of c.step-outcome.result) i.halted
+    (halted_by c.step-outcome.result) (run_outcome_of c.step-outcome.result) i.halted
     (not-halted i.kernel i.hart i.halted c.self.invariant.halted now.0)
     (stepped-keeps i.kernel i.hart i.halted c.in-Some.pid c.in-Stepped.done c.step-outcome.result c.in-Stepped.is current c.self.invariant.halted)
     (run-step i.kernel c.step-outcome.new.kernel i.hart c.step-outcome.new.hart c.in-Some.pid c.step-outcome.result c.self.invariant.whole now.0
@@ -60,7 +60,7 @@ returns-clause-promised c =
     let i = c.self.inside in
     let now = current-pid i.kernel c.in-Some.pid (sym (c.current.ensures None) ∙ c.in-Some.is) in
     now-promised i.kernel i.hart i.halted i.trace c.args.self.now c.self.view_is runs.Run c.step-outcome.new.kernel c.step-outcome.new.hart
-    (halted_by c.step-outcome.result) (outcome_of c.step-outcome.result) c.halted_by-self-inside.result
+    (halted_by c.step-outcome.result) (run_outcome_of c.step-outcome.result) c.halted_by-self-inside.result
     (not-halted i.kernel i.hart i.halted c.self.invariant.halted now.0) c.halted_by-self-inside.ensures
     (run-step i.kernel c.step-outcome.new.kernel i.hart c.step-outcome.new.hart c.in-Some.pid c.step-outcome.result c.self.invariant.whole now.0
     now.1 c.step-outcome.ensures.made c.step-outcome.ensures.answer)
