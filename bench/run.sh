@@ -38,17 +38,18 @@ if [ -f "$here/$name/plain.rs" ]; then
     programs+=("$work/plain")
 fi
 (cd "$work/crates/measured" && rt run > "$work/log" 2>&1) || { tail -20 "$work/log"; exit 1; }
-counted() {
-    valgrind --tool=callgrind --callgrind-out-file="$work/callgrind" "$@" 2> "$work/counts" > "$work/printed"
-    echo "$(grep Collected "$work/counts" | sed 's/.*: //') $(cat "$work/printed")"
+. "$here/times.sh"
+counted_and_printed() {
+    PRINTED=$work/printed counted "$@"
+    cat "$work/printed"
 }
 if [ -n "$count" ]; then
     few=${1:?"how many rounds at first"}
     many=${2:?"and how many then"}
     shift 2
     for program in "${programs[@]}"; do
-        read -r few_counted few_done _ < <(counted "$program" "$few" "$@")
-        read -r many_counted many_done _ < <(counted "$program" "$many" "$@")
+        read -r few_counted few_done _ < <(counted_and_printed "$program" "$few" "$@" | tr '\n' ' ')
+        read -r many_counted many_done _ < <(counted_and_printed "$program" "$many" "$@" | tr '\n' ' ')
         echo "$(basename "$program"): $((many_counted - few_counted)) machine instructions for $((many_done - few_done))"
     done
     rm -r "$work"

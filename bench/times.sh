@@ -2,6 +2,8 @@
 #
 #   seconds COMMAND..   the seconds of the processor
 #   elapsed COMMAND..   the seconds from its start to its end
+#   counted COMMAND..   its machine instructions, by valgrind's callgrind; what it prints goes to the file that PRINTED names, if any.
+#                       Of one `rep stos` or `rep movs` callgrind counts each byte, so the C library is told to use neither
 #   least FILE          the least of a file's numbers, one in a line
 # shellcheck shell=bash
 
@@ -13,6 +15,12 @@ seconds() {
 elapsed() {
     local TIMEFORMAT='%R'
     { time "$@" </dev/null >/dev/null 2>&1 || true; } 2>&1
+}
+
+counted() {
+    GLIBC_TUNABLES=glibc.cpu.x86_rep_stosb_threshold=1000000000:glibc.cpu.x86_rep_movsb_threshold=1000000000 \
+        valgrind --tool=callgrind --callgrind-out-file=/dev/null "$@" </dev/null 2>&1 >"${PRINTED-/dev/null}" |
+        sed -n 's/.*Collected : //p'
 }
 
 least() {

@@ -4,17 +4,13 @@
 set -e
 here=$(cd "$(dirname "$0")" && pwd)
 root=$(cd "$here/../.." && pwd)
+. "$root/bench/times.sh"
 xv=${1-$root/crates/xv_run/out/xv_run}
 [ -x "$xv" ] || "$root/xv" --build
 work=$(mktemp -d)
 trap 'rm -rf "$work"' EXIT
 "$root/programs/c/xvcc" -O2 "$here/texts.c" -o "$work/init"
 
-counted() {
-    valgrind --tool=callgrind --callgrind-out-file="$work/callgrind" \
-        "$xv" --rounds "$1" --quantum 1000 "$work/init" </dev/null 2>&1 >/dev/null | sed -n 's/.*Collected : //p'
-}
-
-few=$(counted 2000)
-many=$(counted 6000)
+few=$(counted "$xv" --rounds 2000 --quantum 1000 "$work/init")
+many=$(counted "$xv" --rounds 6000 --quantum 1000 "$work/init")
 awk -v few="$few" -v many="$many" 'BEGIN { printf "machine instructions for one: %.1f\n", (many - few) / 4e6 }'

@@ -60,16 +60,10 @@ measure() {
             if (node > 0) printf " %.2f |\n", here / node; else print " |" }'
 }
 
-# The machine instructions that so many rounds of a program take.
-counted() {
-    valgrind --tool=callgrind --callgrind-out-file="$work/callgrind" \
-        "$xv" --rounds "$2" --quantum 1000 "$work/$1/init" </dev/null 2>&1 >/dev/null | sed -n 's/.*Collected : //p'
-}
-
 count() {
     local few many
-    few=$(counted "$1" 2000)
-    many=$(counted "$1" 6000)
+    few=$(counted "$xv" --rounds 2000 --quantum 1000 "$work/$1/init")
+    many=$(counted "$xv" --rounds 6000 --quantum 1000 "$work/$1/init")
     awk -v name="$1" -v few="$few" -v many="$many" 'BEGIN { printf "| `%s` | %.1f |\n", name, (many - few) / 4e6 }'
 }
 
