@@ -65,8 +65,8 @@ impl Outcome {
     }
 }
 
-// What came of a Run: an outcome without room for an echo. It has 24 bytes. An [`Outcome`] has 400, which are cleared where
-// one is made, and copied where one is handed on.
+// What came of a Run: an outcome that no key, tick or Send has. It has no room for an echo, so it is small enough to be handed
+// on by value.
 #[derive(Drop)]
 pub(crate) enum RunOutcome {
     Stepped { pid: Pid },
