@@ -39,17 +39,17 @@ if [ -f "$here/$name/plain.rs" ]; then
 fi
 (cd "$work/crates/measured" && rt run > "$work/log" 2>&1) || { tail -20 "$work/log"; exit 1; }
 . "$here/times.sh"
+# One line: the machine instructions, and what the program prints.
 counted_and_printed() {
-    PRINTED=$work/printed counted "$@"
-    cat "$work/printed"
+    echo "$(PRINTED=$work/printed counted "$@") $(cat "$work/printed")"
 }
 if [ -n "$count" ]; then
     few=${1:?"how many rounds at first"}
     many=${2:?"and how many then"}
     shift 2
     for program in "${programs[@]}"; do
-        read -r few_counted few_done _ < <(counted_and_printed "$program" "$few" "$@" | tr '\n' ' ')
-        read -r many_counted many_done _ < <(counted_and_printed "$program" "$many" "$@" | tr '\n' ' ')
+        read -r few_counted few_done _ < <(counted_and_printed "$program" "$few" "$@")
+        read -r many_counted many_done _ < <(counted_and_printed "$program" "$many" "$@")
         echo "$(basename "$program"): $((many_counted - few_counted)) machine instructions for $((many_done - few_done))"
     done
     rm -r "$work"
