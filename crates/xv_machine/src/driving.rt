@@ -183,6 +183,9 @@ fn play_part<P: RoundPlayer, W: ByteSink>(
     ensures refused { IfErr result (λ _. PlayedFirst (replicate count (event_of event)) (P.machine player.old) (P.machine player.new) (W.sink sink.old) (W.sink sink.new)) }
     ensures none_failed { IfErr result (λ _. W.failures sink.new ≡ W.failures sink.old) }
 {
+    if count == 0 {
+        return Ok(Ok(()));
+    }
     match event {
         Event::Run => {
             run_often(player, count)?;

@@ -1,11 +1,17 @@
-use Rattle.std.proofs.Common.{ap, replicate, sym}
+use Rattle.std.proofs.Common.{ℕ, ap, replicate, sym}
 use Rattle.kernel_spec.specs.runs.Run.{Run, Tick}
 use Rattle.xv_machine.specs.Events.{event_of}
 use Rattle.xv_machine.specs.declared.event.Event as told
-use Rattle.xv_machine.proofs.Joins.{silent-played}
+use Rattle.xv_machine.proofs.Joins.{none-played, silent-played}
 use Rattle.xv_machine.proofs.PlayedParts.{played-those}
 use Rattle.xv_machine.proofs.Refused.{if-err, first-those, first-silent}
 use Rattle.xv_machine.proofs.driving.play_part.Goals as goal
+
+-- nothing is played
+pub returns-then-count-clause-plays : goal.returns-then-count-clause-plays
+returns-then-count-clause-plays g c =
+    let e = event_of c.args.event in
+    played-those (replicate 0 e) (replicate c.args.count e) _ _ _ _ (ap (λ (n : ℕ). replicate n e) (sym c.if-count.true)) (none-played _ _ c.requires)
 
 pub returns-in_ok-run_often-in-Run-clause-plays : goal.returns-in_ok-run_often-in-Run-clause-plays
 returns-in_ok-run_often-in-Run-clause-plays g c =
