@@ -43,6 +43,19 @@ pub fn save_registers(regs: &Regs, ram: &mut Ram, f: Frame)
     write_registers(regs, ram.frame_mut(f));
 }
 
+// Sets registers to those that a frame holds.
+pub(crate) fn restore_registers(regs: &mut Regs, ram: &Ram, f: Frame)
+    requires frame_in { f < length ram.now }
+    requires aligned { word_at ram.now f 0 % 4 ≡ 0 }
+    ensures { regs.new ≡ saved ram.now f }
+{
+    regs.set_pc(ram.read_u64(f, 0));
+    for i in 1..32 {
+        let value = ram.read_u64(f, i);
+        regs.write_not_x0(Reg::new(i as u8), value);
+    }
+}
+
 /// The registers that a frame holds. Its first word, the pc, must be a multiple of 4, as [`save_registers`]
 /// leaves it.
 pub fn saved_registers(ram: &Ram, f: Frame) -> Regs
@@ -50,10 +63,7 @@ pub fn saved_registers(ram: &Ram, f: Frame) -> Regs
     requires aligned { word_at ram.now f 0 % 4 ≡ 0 }
     ensures { result ≡ saved ram.now f }
 {
-    let mut regs = Regs::new(ram.read_u64(f, 0));
-    for i in 1..32 {
-        let value = ram.read_u64(f, i);
-        regs.write_not_x0(Reg::new(i as u8), value);
-    }
+    let mut regs = Regs::new(0);
+    restore_registers(&mut regs, ram, f);
     regs
 }

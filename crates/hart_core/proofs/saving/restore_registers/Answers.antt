@@ -1,6 +1,6 @@
 use Rattle.std.proofs.Common.{◌≤◌, sym, arith}
 use Rattle.hart_core.proofs.Saved.{saved-is}
-use Rattle.hart_core.proofs.saving.saved_registers.Goals as goal
+use Rattle.hart_core.proofs.saving.restore_registers.Goals as goal
 
 pub returns : goal.returns
 returns c =
