@@ -8,10 +8,10 @@ use Rattle.xv_machine.proofs.Refused.{if-err, first-those, first-silent}
 use Rattle.xv_machine.proofs.driving.play_part.Goals as goal
 
 -- nothing is played
-pub returns-then-count-clause-plays : goal.returns-then-count-clause-plays
-returns-then-count-clause-plays g c =
+pub returns-then-count-eq0-clause-plays : goal.returns-then-count-eq0-clause-plays
+returns-then-count-eq0-clause-plays g c =
     let e = event_of c.args.event in
-    played-those (replicate 0 e) (replicate c.args.count e) _ _ _ _ (ap (λ (n : ℕ). replicate n e) (sym c.if-count.true)) (none-played _ _ c.requires)
+    played-those (replicate 0 e) (replicate c.args.count e) _ _ _ _ (ap (λ (n : ℕ). replicate n e) (sym c.if-count-eq0.true)) (none-played _ _ c.requires)
 
 pub returns-in_ok-run_often-in-Run-clause-plays : goal.returns-in_ok-run_often-in-Run-clause-plays
 returns-in_ok-run_often-in-Run-clause-plays g c =
