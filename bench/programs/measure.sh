@@ -3,7 +3,8 @@
 # same source, for Linux. Then ours (the whole of xv_run, in rounds of 1,000 Runs), the interpreter in plain Rust
 # (../pages/plain.rs), a JIT (qemu-riscv64, if it is there) and ours as a module (by node, if it is there) run it in turn, five
 # times, or TURNS times; the least user and system time of each counts, of the module the least time from start to end, beside
-# ours. With --count instead, valgrind's callgrind counts ours between 2,000 and 6,000 rounds, in which boot cancels.
+# ours. With --count instead, valgrind's callgrind counts ours between 2,000 and 6,000 rounds (large_sieve: 25,400), in which boot
+# cancels.
 # It needs the C compiler that ../../programs/c/build.sh names.
 set -e
 here=$(cd "$(dirname "$0")" && pwd)
@@ -61,10 +62,13 @@ measure() {
 }
 
 count() {
-    local few many
+    local few many last=6000
+    # Its loops take ever more pages, so it is counted over one whole sieve.
+    [ "$1" != large_sieve ] || last=25400
     few=$(counted "$xv" --rounds 2000 --quantum 1000 "$work/$1/init")
-    many=$(counted "$xv" --rounds 6000 --quantum 1000 "$work/$1/init")
-    awk -v name="$1" -v few="$few" -v many="$many" 'BEGIN { printf "| `%s` | %.1f |\n", name, (many - few) / 4e6 }'
+    many=$(counted "$xv" --rounds "$last" --quantum 1000 "$work/$1/init")
+    awk -v name="$1" -v few="$few" -v many="$many" -v done="$(((last - 2000) * 1000))" \
+        'BEGIN { printf "| `%s` | %.1f |\n", name, (many - few) / done }'
 }
 
 does=measure
