@@ -43,17 +43,34 @@ pub fn save_registers(regs: &Regs, ram: &mut Ram, f: Frame)
     write_registers(regs, ram.frame_mut(f));
 }
 
+// The number in word `word` of a frame, which is said as frame 0 of a RAM that has no other.
+#[inline(always)]
+fn read_word(bytes: &FrameBytes, word: usize) -> u64
+    requires { word < 512 }
+    ensures { result ≡ word_at (bytes.now ∷ []) 0 word }
+{
+    LittleEndian::read_u64(&bytes[8 * word..])
+}
+
+// Sets registers to those that the bytes of a frame hold.
+fn read_registers(regs: &mut Regs, bytes: &FrameBytes)
+    requires { word_at (bytes.now ∷ []) 0 0 % 4 ≡ 0 }
+    ensures { regs.new ≡ saved (bytes.now ∷ []) 0 }
+{
+    regs.set_pc(read_word(bytes, 0));
+    for i in 1..32 {
+        let value = read_word(bytes, i);
+        regs.write_not_x0(Reg::new(i as u8), value);
+    }
+}
+
 // Sets registers to those that a frame holds.
 pub(crate) fn restore_registers(regs: &mut Regs, ram: &Ram, f: Frame)
     requires frame_in { f < length ram.now }
     requires aligned { word_at ram.now f 0 % 4 ≡ 0 }
     ensures { regs.new ≡ saved ram.now f }
 {
-    regs.set_pc(ram.read_u64(f, 0));
-    for i in 1..32 {
-        let value = ram.read_u64(f, i);
-        regs.write_not_x0(Reg::new(i as u8), value);
-    }
+    read_registers(regs, ram.frame(f));
 }
 
 /// The registers that a frame holds. Its first word, the pc, must be a multiple of 4, as [`save_registers`]

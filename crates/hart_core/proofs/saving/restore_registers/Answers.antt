@@ -1,9 +1,9 @@
-use Rattle.std.proofs.Common.{◌≤◌, sym, arith}
-use Rattle.hart_core.proofs.Saved.{saved-is}
+use Rattle.std.proofs.Common.{◌%◌, ap, sym, ◌∙◌}
+use Rattle.hart_core.proofs.Saved.{saved_same, word_same}
 use Rattle.hart_core.proofs.saving.restore_registers.Goals as goal
 
+pub read_registers-requires : goal.read_registers-requires
+read_registers-requires c = ap (λ n. n % 4) (sym (word_same c.args.ram.now c.args.f c.frame.result.now (sym c.frame.ensures) 0)) ∙ c.requires.aligned
+
 pub returns : goal.returns
-returns c =
-    let held = c.loop-i.invariant.1 in
-    let all : 32 ≤ c.loop-i.i = omega arith in
-    sym (saved-is c.args.ram.now c.args.f c.loop-i.regs c.loop-i.i held.holds all held.long)
+returns c = c.read_registers.ensures ∙ sym (saved_same c.args.ram.now c.args.f c.frame.result.now (sym c.frame.ensures))
