@@ -19,11 +19,12 @@ from words import ECALL, WIDTH, Instruction, signed, word  # noqa: E402
 # How many words of the first page stand behind the beginning.
 WORDS_LEFT = PAGE // 4 - len(beginning("xv6", 0))
 
-# Pages stand in one of 64 places, by their numbers.
-PLACES = 64
+# Pages stand in one of 64 places, by their numbers, and behind these in one of 512.
+PLACES, FAR_PLACES = 64, 512
 
-# Behind the data there is room for so many pages: each place twice, and some more.
-ROOM_PAGES = 2 * PLACES + 2
+# Behind the data so many pages are used: each of the 64 places twice, and some more; and those 512 pages further on.
+NEAR_PAGES = 2 * PLACES + 2
+ROOM_PAGES = FAR_PLACES + NEAR_PAGES
 
 # Registers that hold the arguments of calls.
 ARGUMENTS = [10, 11, 12, 17]
@@ -262,14 +263,15 @@ class Changing(Program):
     def somewhere(self):
         """An address in the room behind the data: often in a page whose place code has too, or data."""
         numbers = self.numbers
-        page = numbers.below(ROOM_PAGES)
+        page = numbers.below(NEAR_PAGES)
         place = numbers.one_of([BASE // PAGE, BASE // PAGE + 1, None, None])
         within = 8 * numbers.below(PAGE // 8 - 1)
+        further = FAR_PLACES if numbers.in_one_of(4) else 0
 
         def address():
             first = self.data // PAGE + 1
             number = first + page if place is None else first + (place - first) % PLACES + PLACES * (page % 2)
-            return min(number, first + ROOM_PAGES - 2) * PAGE + within
+            return min(number + further, first + ROOM_PAGES - 2) * PAGE + within
 
         return address
 

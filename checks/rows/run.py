@@ -17,7 +17,7 @@ from wild import DATA, NEAR_2_GB, WORDS, Wild
 
 CASES = 30
 WILD_CASES = 6
-FRAMES = 2048
+FRAMES = 4096
 
 # The notes that a trace keeps: more than a play has.
 NOTES = 65536
