@@ -105,6 +105,11 @@ impl<E: Write> RoundPlayer for Watched<E> {
         Ok(())
     }
 
+    // Each of these events is told.
+    fn pass_tick(&mut self) -> Result<bool, Stop> {
+        Ok(false)
+    }
+
     fn play_key(&mut self, byte: u8) -> Result<Outcome, Stop> {
         self.work.add_event();
         Ok(self.explained.send(Event::Key(byte)))

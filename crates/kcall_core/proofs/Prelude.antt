@@ -203,7 +203,7 @@ pub use Rattle.kcall_core.specs.Holdings.{byte_of, HasMemory, Held, held_at, hel
 pub use Rattle.kcall_core.specs.Kernel.{by_status, descriptor_map, entry_at, entry_of, frame_count, HasImage, IsCurrent, IsIdle, IsParked, IsRepriced, IsRunning, IsSound, IsTooDear, live_now, live_of}
 pub use Rattle.kcall_core.specs.Kernel.{or_nobody, pid_now, place_now, process_of, regs_at, slot_now}
 unfoldable pub use Rattle.kcall_core.specs.Kernel.{state_of}
-pub use Rattle.kcall_core.specs.Machine.{sleeper_in, slot_entry, with_sleeper, world_of}
+pub use Rattle.kcall_core.specs.Machine.{resting, sleeper_in, slot_entry, with_sleeper, world_of}
 unfoldable pub use Rattle.kcall_core.specs.Machine.{sleepers_below, slots_of, turns_of}
 pub use Rattle.kcall_core.specs.Makes.{answer_of, IsLastMade, IsUndone, Makes, MakesDone, MakesInARow, Stays, StillRuns, stop_now, view_now}
 pub use Rattle.kcall_core.specs.Memories.{AreSound, held_in, is_between, IsAccounted, IsLastStep, IsMemory, keeps_pipe, kept_pipe, owners, PipeChanges, process_frames, RunsIn, Same, slot_frames}

@@ -2,6 +2,7 @@
 pub mod Chosen
 pub mod GoneTurns
 pub mod NextTurn
+pub mod Rests
 pub mod StepSlots
 pub mod Turned
 pub mod WhoRuns

@@ -53,3 +53,7 @@ turns_of k halted = record {
 
 abbrev pub world_of : Kernel → Hart → (halted : Option ℤ) → World
 world_of k h halted = record { state = state_of k h; turns = turns_of k halted }
+
+-- the same world, but nobody runs
+abbrev pub resting : World → World
+resting w = record w { turns = record w.turns { current = None } }

@@ -31,6 +31,7 @@ mod booting;
 mod console;
 mod exec;
 mod exit;
+mod fast;
 mod file;
 mod fork;
 mod kill;

@@ -21,7 +21,7 @@ never p v unready (inr (inl due)) = let tick : Sent None ≡ Ticked = due.1 in c
 never p v unready (inr (inr due)) = let step : Sent None ≡ Step_of due.2.0 due.2.1 = due.2.2 in cc
 
 -- where nothing waits, a Send gives nothing, and the world stays
-idle-send : (t : World) → NoReadySleeper t → t.state.console.to_send ≡ [] → Promised t Send (Sent None) t
+pub idle-send : (t : World) → NoReadySleeper t → t.state.console.to_send ≡ [] → Promised t Send (Sent None) t
 idle-send t unready empty = (
   (
     ap (λ bytes. Sent (first_sent bytes)) (sym empty),

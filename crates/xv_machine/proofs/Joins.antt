@@ -68,7 +68,7 @@ silent-calls (s ∷ list) e =
     ap₂ (λ bytes calls. call_of bytes ++ calls) both.0 (silent-calls list both.1)
 
 -- nothing has to be written of it
-wrote-silent : (h : Sink) (list : Steps) → out list ≡ [] → Wrote h h list
+pub wrote-silent : (h : Sink) (list : Steps) → out list ≡ [] → Wrote h h list
 wrote-silent h list e = record {
   bytes = subst (Appends h.held h.held) (sym e) (Appends-nil h.held);
   calls = subst (Calls h.calls h.calls) (sym (silent-calls list e)) (calls-nil h.calls);

@@ -1,4 +1,5 @@
 pub mod Owned
+pub mod Quiet
 pub mod PlayedParts
 pub mod Refused
 pub mod Counts
@@ -16,6 +17,7 @@ pub mod Repeated
 pub mod Sent
 pub mod Idle
 pub mod Advances
+pub mod OverTicks
 pub mod Instructed
 pub mod Unwatched
 pub mod Uses

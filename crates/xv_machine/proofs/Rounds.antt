@@ -19,8 +19,8 @@ use Rattle.xv_machine.specs.declared.driving.DriveError.TheVariants.{Read, Write
 use Rattle.xv_machine.specs.Drives.{Goes, Wrote, calls_of, AskedFor, is_halted, key_in, keys_in, Done, StoppedByRead, StoppedByWrite, StoppedByPlayer, AreTyped, OnRead, OnWrite}
 use Rattle.xv_machine.specs.Meaning.{Meaning}
 use Rattle.xv_machine.specs.Sound.{IsSoundMachine}
-use Rattle.xv_machine.specs.Stretches.{Played, PlayedFirst, BrokeOff, TakesKey}
-use Rattle.xv_machine.proofs.Joins.{events-join, calls-join, calls-trans, wrote-nil, wrote-join, goes-none, goes-join}
+use Rattle.xv_machine.specs.Stretches.{Played, PlayedFirst, PlayedQuietly, BrokeOff, TakesKey}
+use Rattle.xv_machine.proofs.Joins.{events-join, calls-join, calls-trans, wrote-nil, wrote-join, goes-none, goes-join, wrote-silent}
 use Rattle.xv_machine.proofs.Shown.{ends-in}
 
 abbrev Steps : Type 0
@@ -304,6 +304,51 @@ module _ (quantum count : ℕ) (at_end : Bool) (left now after : Option (List �
         calls = asked-typed key asked asked_after (length (keys_in (events g.list))) (length (keys_in (events (g.list ++ p.list))))
             (ap length read ∙ length-append (keys_in (events g.list)) (option_to_list key)) one_asked;
       }
+
+-- ---- rounds over ticks, in which nothing is typed
+
+quiet-keys : (count quantum : ℕ) (halted : Bool) (list : Steps) → AreRounds count quantum [] halted list → keys_in (events list) ≡ []
+quiet-keys zero quantum halted list are = ap (λ xs. keys_in (events xs)) are
+quiet-keys (suc count) quantum true list are = absurd are
+quiet-keys (suc count) quantum false list are =
+    ap (λ xs. keys_in (events xs)) are.2 ∙ ap keys_in (events-join are.0 are.1) ∙ keys-join (events are.0) (events are.1)
+    ∙ ap₂ (λ xs ys. xs ++ ys) (ap keys_in are.3 ∙ keys-of-round quantum None) (quiet-keys count quantum (halts are.0) are.1 are.4)
+
+pub over-more : (quantum count passed : ℕ) (at_end : Bool) (left now : Option (List ℕ)) (old mid new : Meaning) (sink sink_now : Sink) (asked asked_now : Option ℕ)
+    → Going quantum count at_end left now old mid sink sink_now asked asked_now → mid.world.turns.halted ≡ None → PlayedQuietly passed quantum mid new
+    → (at_end ≡ true) ⊎ (passed ≡ 0) → Going quantum (count + passed) at_end left now old new sink sink_now asked asked_now
+over-more quantum count passed at_end left now old mid new sink sink_now asked asked_now g on q why =
+    let read : keys_in (events (g.list ++ q.list)) ≡ keys_in (events g.list) =
+    ap keys_in (events-join g.list q.list) ∙ keys-join (events g.list) (events q.list)
+    ∙ ap (λ ks. keys_in (events g.list) ++ ks) (quiet-keys passed quantum false q.list q.rounds) ∙ append-nil (keys_in (events g.list)) in
+    let keys : List ℕ = keys_in (events g.list) ++ g.rest in
+    let further : AreRounds passed quantum (drop count keys) (is_halted old || halts g.list) q.list =
+    subst (λ b. AreRounds passed quantum (drop count keys) b q.list) (sym (goes-on old g.list mid g.goes on)) (later g.pace why) in
+    record {
+      list = g.list ++ q.list;
+      rest = g.rest;
+      goes = goes-join g.list q.list old mid new g.goes q.goes;
+      leaves = subst (λ ks. Leaves left now ks g.rest) (sym read) g.leaves;
+      pace = subst (λ ks. Pace at_end ks g.rest (count + passed)) (sym read) (paced at_end (keys_in (events g.list)) g.pace why);
+      rounds = subst (λ ks. AreRounds (count + passed) quantum (ks ++ g.rest) (is_halted old) (g.list ++ q.list)) (sym read)
+          (rounds_follow_rounds count passed quantum keys (is_halted old) g.list q.list g.rounds further);
+      written = wrote-join sink sink_now sink_now g.list q.list g.written (wrote-silent sink_now q.list q.silent);
+      calls = subst (λ ks. AskedSo at_end asked asked_now (length ks)) (sym read) g.calls;
+    }
+  where
+    none-left : (b : Bool) → b ≡ true → Pace b (keys_in (events g.list)) g.rest count → drop count (keys_in (events g.list) ++ g.rest) ≡ []
+    none-left true e pace = ap (λ ks. drop count (keys_in (events g.list) ++ ks)) pace.0 ∙ drop-all (keys_in (events g.list)) count (omega (arith, pace.1))
+    none-left false e pace = cc
+
+    later : Pace at_end (keys_in (events g.list)) g.rest count → (at_end ≡ true) ⊎ (passed ≡ 0) → AreRounds passed quantum (drop count (keys_in (events g.list) ++ g.rest)) false q.list
+    later pace (inl end) = subst (λ ks. AreRounds passed quantum ks false q.list) (sym (none-left at_end end pace)) q.rounds
+    later pace (inr none) =
+        subst (λ n. AreRounds n quantum (drop count (keys_in (events g.list) ++ g.rest)) false q.list) (sym none) (subst (λ n. AreRounds n quantum [] false q.list) none q.rounds)
+
+    paced : (b : Bool) (ks : List ℕ) → Pace b ks g.rest count → (b ≡ true) ⊎ (passed ≡ 0) → Pace b ks g.rest (count + passed)
+    paced true ks pace why = (pace.0, omega (arith, pace.1))
+    paced false ks pace (inl e) = cc
+    paced false ks pace (inr none) = omega (arith, pace, none)
 
 pub none-from-some : (key : Option ℕ) (b : Bool) → is_some key ≡ not b → b ≡ is_none key
 none-from-some None true h = refl

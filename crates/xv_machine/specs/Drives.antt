@@ -1,6 +1,7 @@
 -- What a machine that is driven in rounds goes through.
 use Rattle.std.specs.Prelude.{◌≡◌, ◌≢◌, ◌⊎◌, ℕ, ◌+◌, ◌<◌, Bool, false, ◌||◌, List, [], ◌∷◌, ◌++◌, flat_map, length, replicate, drop, nat_lt, if◌then◌else◌, Option, None, Some, IfSome, is_some, ⊤}
 use Rattle.std.specs.Io.KnownBytes.{Appends, Consumes}
+use Rattle.xk_base.specs.declared.limits.TheConstants.{SEND_BYTES}
 use Rattle.circular_buffer.specs.Buffer.{keep_last}
 use Rattle.kernel_spec.specs.runs.Run as runs
 use Rattle.kernel_spec.specs.steps.Own.{Stepped}
@@ -53,6 +54,21 @@ pub record SendsMade (sent : ℕ) (byte : Option ℕ) (old new : Meaning) : Type
   pub idle : ℕ
   pub goes : Goes old (replicate idle (Send, Sent None) ++ (Send, Sent byte) ∷ []) new
   pub count : sent ≡ idle + 1
+
+-- ---- over a tick
+
+-- a turn was given, or no process may run
+abbrev pub GivesTurn : Outcome → Type 0
+GivesTurn o = (o ≡ runs.Idle) ⊎ ((p : ℕ) × (o ≡ runs.Turn p))
+
+-- The clock counted a tick, and no byte waited to be sent, as often as a round asks; then the next turn was given
+pub record PassesTick (old new : Meaning) : Type 0 where
+  pub between : Meaning
+  pub ends : Goes old ((Tick, runs.Ticked) ∷ replicate SEND_BYTES (Send, Sent None)) between
+  pub goes_on : between.world.turns.halted ≡ None
+  pub outcome : Outcome
+  pub gives : GivesTurn outcome
+  pub begins : Goes between ((Run, outcome) ∷ []) new
 
 -- ---- rounds
 

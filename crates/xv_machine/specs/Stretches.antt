@@ -1,10 +1,14 @@
 -- Stretches of a drive: events that were sent one after another. Only this crate's private functions speak of them.
-use Rattle.std.specs.Prelude.{◌≡◌, ◌≢◌, ℕ, Bool, true, false, List, [], ◌∷◌, ◌++◌, replicate, Option, None, Some, Result, MatchResult}
-use Rattle.kernel_spec.specs.runs.Run.{Event, Send, Outcome, Sent, bytes_out, out}
-use Rattle.kernel_spec.specs.runs.Rounds.{events}
+use Rattle.std.specs.Prelude.{◌≡◌, ◌≢◌, ◌≤◌, ℕ, Bool, true, false, List, [], ◌∷◌, ◌++◌, replicate, Option, None, Some, Result, MatchResult}
+use Rattle.xk_base.specs.declared.limits.TheConstants.{SEND_BYTES}
+use Rattle.kernel_spec.specs.runs.Run.{Event, Run, Tick, Send, Outcome, Sent, Ticked, bytes_out, out}
+use Rattle.kernel_spec.specs.runs.Rounds.{events, round, AreRounds}
+use Rattle.kernel_spec.specs.waking.Wakes.{Promised, IsPromised}
 use Rattle.xv_machine.specs.Devices.{one_more, GivesKey, Sink, Calls, failed}
-use Rattle.xv_machine.specs.Drives.{Goes, Wrote, calls_of}
+use Rattle.xv_machine.specs.Drives.{GivesTurn, Goes, Wrote, calls_of}
+use Rattle.xv_machine.specs.Machine.{SameTrace}
 use Rattle.xv_machine.specs.Meaning.{Meaning}
+use Rattle.xv_machine.specs.Sound.{IsSoundMachine}
 
 -- these events were sent, and show no byte
 pub record Silent (wanted : List Event) (old new : Meaning) : Type 0 where
@@ -61,3 +65,43 @@ FailsSo written before after = MatchResult written (λ _. after ≡ before) (λ 
 abbrev pub TakesKey : (at_end : Bool) → (left : Option (List ℕ)) → (key : Option ℕ) → (left_after : Option (List ℕ)) → Type 0
 TakesKey true left key after = (key ≡ None) × (after ≡ left)
 TakesKey false left key after = GivesKey left key after
+
+-- ---- over ticks
+
+-- so many whole rounds without a key were played, and nothing was shown; if the machine wasn't halted, it still isn't
+pub record PlayedQuietly (count quantum : ℕ) (old new : Meaning) : Type 0 where
+  pub list : List (Event × Outcome)
+  pub goes : Goes old list new
+  pub rounds : AreRounds count quantum [] false list
+  pub silent : out list ≡ []
+  pub goes_on : old.world.turns.halted ≡ None → new.world.turns.halted ≡ None
+
+-- and then the Runs of one more
+abbrev pub RanOver : (passed quantum : ℕ) → Meaning → Meaning → Type 0
+RanOver passed quantum old new = (start : Meaning) × PlayedQuietly passed quantum old start × Silent (replicate quantum Run) start new
+
+-- so many at most, and then the first of the Runs of one more
+abbrev pub RanOverFirst : (most quantum : ℕ) → Meaning → Meaning → Type 0
+RanOverFirst most quantum old new = (passed : ℕ) × (start : Meaning) × (passed ≤ most) × PlayedQuietly passed quantum old start × SilentFirst (replicate quantum Run) start new
+
+-- and then one round more, with this key, was played, or its events up to one whose bytes could not be written
+abbrev pub PlaysOn : {E : Type 0} → (passed : ℕ) → Result (Unit {0}) E → (quantum : ℕ) → (keys : List ℕ) → Meaning → Meaning → Sink → Sink → Type 0
+PlaysOn passed result quantum keys old new sink sink_after = (start : Meaning) × PlayedQuietly passed quantum old start × Plays result (round quantum keys) start new sink sink_after
+
+-- or the first of its events
+abbrev pub PlayedOnFirst : (most quantum : ℕ) (keys : List ℕ) → Meaning → Meaning → Sink → Sink → Type 0
+PlayedOnFirst most quantum keys old new sink sink_after =
+    (passed : ℕ) × (start : Meaning) × (passed ≤ most) × PlayedQuietly passed quantum old start × PlayedFirst (round quantum keys) start new sink sink_after
+
+-- a round ends and the next one begins; the trace keeps no note yet
+pub record TicksAndTurns (outcome : Outcome) (old new : Meaning) : Type 0 where
+  pub between : Meaning
+  pub ends : IsPromised old.world ((Tick, Ticked) ∷ replicate SEND_BYTES (Send, Sent None)) between.world
+  pub goes_on : between.world.turns.halted ≡ None
+  pub begins : Promised between.world Run outcome new.world
+  pub gives : GivesTurn outcome
+  pub frames_then : between.frames.count ≡ old.frames.count
+  pub frames : new.frames.count ≡ old.frames.count
+  pub trace_then : SameTrace old between
+  pub trace : SameTrace old new
+  pub sound : IsSoundMachine between

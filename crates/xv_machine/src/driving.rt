@@ -1,5 +1,5 @@
 //! Rounds, played between a source of keys and a sink of bytes: by a machine that is driven, or by whoever has one.
-ghost use Rattle.std.specs.Prelude.{◌≡◌, ◌≢◌, ◌∷◌, [], false, if◌then◌else◌, OnOk, OnErr, IfOk, IfErr, replicate};
+ghost use Rattle.std.specs.Prelude.{◌≡◌, ◌≢◌, ◌≤◌, ◌∷◌, [], true, false, if◌then◌else◌, OnOk, OnErr, IfOk, IfErr, replicate};
 ghost use Rattle.std.specs.Option.{option_to_list};
 ghost use Rattle.std.specs.Io.KnownBytes.{Appends};
 ghost use Rattle.kernel_spec.specs.runs.Run as runs;
@@ -10,7 +10,7 @@ ghost use Rattle.xv_machine.specs.Drives.{Done, StoppedByRead, StoppedByWrite, S
 ghost use Rattle.xv_machine.specs.Events.{event_of};
 ghost use Rattle.xv_machine.specs.RoundParts.{events_of_parts};
 ghost use Rattle.xv_machine.specs.Sound.{IsSoundMachine};
-ghost use Rattle.xv_machine.specs.Stretches.{Plays, PlayedFirst, FailsSo, Silent, SilentFirst, TakesKey};
+ghost use Rattle.xv_machine.specs.Stretches.{Plays, PlayedFirst, PlayedOnFirst, PlaysOn, FailsSo, RanOver, RanOverFirst, Silent, SilentFirst, TakesKey};
 
 use crate::devices::{ByteSink, DeviceFault, KeySource};
 use crate::event::Event;
@@ -19,6 +19,7 @@ use crate::parts::{RoundPart, round_parts};
 use crate::player::RoundPlayer;
 use std::slice;
 use thiserror::Error;
+use xk_base::limits::SEND_BYTES;
 
 /// How long a machine is driven.
 #[derive(Clone, Copy)]
@@ -51,6 +52,14 @@ pub enum DriveError {
 
 /// Whether all bytes were written.
 type Written = Result<(), DeviceFault>;
+
+/// A round that was played.
+#[derive(Drop)]
+struct Played {
+    // After so many others, none of which showed a byte.
+    passed: u64,
+    written: Written,
+}
 
 // Writes the bytes at once, where there are any.
 fn write_some<W: ByteSink>(sink: &mut W, bytes: &[u8]) -> Written
@@ -221,21 +230,89 @@ fn play_parts<P: RoundPlayer, W: ByteSink>(
     Ok(Ok(()))
 }
 
-// One round.
-fn play_round<P: RoundPlayer, W: ByteSink>(
+// A round whose key is typed.
+fn play_keyed_round<P: RoundPlayer, W: ByteSink>(
     player: &mut P,
-    key: Option<u8>,
+    key: u8,
     quantum: u32,
     sink: &mut W,
 ) -> Result<Written, P::Refusal>
     requires { IsSoundMachine (P.machine player.old) }
-    ensures plays { IfOk result (λ w. Plays w (round quantum (option_to_list key)) (P.machine player.old) (P.machine player.new) (W.sink sink.old) (W.sink sink.new)) }
+    ensures plays { IfOk result (λ w. Plays w (round quantum (key ∷ [])) (P.machine player.old) (P.machine player.new) (W.sink sink.old) (W.sink sink.new)) }
     ensures failures { IfOk result (λ w. FailsSo w (W.failures sink.old) (W.failures sink.new)) }
-    ensures refused { IfErr result (λ _. PlayedFirst (round quantum (option_to_list key)) (P.machine player.old) (P.machine player.new) (W.sink sink.old) (W.sink sink.new)) }
+    ensures refused { IfErr result (λ _. PlayedFirst (round quantum (key ∷ [])) (P.machine player.old) (P.machine player.new) (W.sink sink.old) (W.sink sink.new)) }
     ensures none_failed { IfErr result (λ _. W.failures sink.new ≡ W.failures sink.old) }
 {
-    let parts = round_parts(key, quantum);
+    let parts = round_parts(Some(key), quantum);
     play_parts(player, &parts, sink)
+}
+
+// Sends the Runs of a round. If the player then passes over the tick to the next round, it sends the Runs of that one too, and
+// so on, `more` times at most. How often the player passed.
+#[inline(never)]
+fn run_over_ticks<P: RoundPlayer>(
+    player: &mut P,
+    quantum: u32,
+    more: u64,
+) -> Result<u64, P::Refusal>
+    requires { IsSoundMachine (P.machine player.old) }
+    ensures ran { IfOk result (λ passed. RanOver passed quantum (P.machine player.old) (P.machine player.new)) }
+    ensures within { IfOk result (λ passed. passed ≤ more) }
+    ensures refused { IfErr result (λ _. RanOverFirst more quantum (P.machine player.old) (P.machine player.new)) }
+{
+    run_often(player, quantum)?;
+    if quantum == 0 {
+        return Ok(0);
+    }
+    for passed in 0..more {
+        if !player.pass_tick()? {
+            return Ok(passed);
+        }
+        run_often(player, quantum - 1)?;
+    }
+    Ok(more)
+}
+
+// A round in which no key is typed, after so many others over whose ends the player passed.
+fn play_on<P: RoundPlayer, W: ByteSink>(
+    player: &mut P,
+    quantum: u32,
+    more: u64,
+    sink: &mut W,
+) -> Result<Played, P::Refusal>
+    requires { IsSoundMachine (P.machine player.old) }
+    ensures plays { IfOk result (λ p. PlaysOn p.passed p.written quantum [] (P.machine player.old) (P.machine player.new) (W.sink sink.old) (W.sink sink.new)) }
+    ensures within { IfOk result (λ p. p.passed ≤ more) }
+    ensures failures { IfOk result (λ p. FailsSo p.written (W.failures sink.old) (W.failures sink.new)) }
+    ensures refused { IfErr result (λ _. PlayedOnFirst more quantum [] (P.machine player.old) (P.machine player.new) (W.sink sink.old) (W.sink sink.new)) }
+    ensures none_failed { IfErr result (λ _. W.failures sink.new ≡ W.failures sink.old) }
+{
+    let passed = run_over_ticks(player, quantum, more)?;
+    tick_often(player, 1)?;
+    let written = send_often(player, SEND_BYTES as u32, sink)?;
+    Ok(Played { passed, written })
+}
+
+// One round; or if no key is typed, as many before it as the player passes over, `more` at most.
+fn play_round<P: RoundPlayer, W: ByteSink>(
+    player: &mut P,
+    key: Option<u8>,
+    quantum: u32,
+    more: u64,
+    sink: &mut W,
+) -> Result<Played, P::Refusal>
+    requires { IsSoundMachine (P.machine player.old) }
+    ensures plays { IfOk result (λ p. PlaysOn p.passed p.written quantum (option_to_list key) (P.machine player.old) (P.machine player.new) (W.sink sink.old) (W.sink sink.new)) }
+    ensures within { IfOk result (λ p. p.passed ≤ more) }
+    ensures failures { IfOk result (λ p. FailsSo p.written (W.failures sink.old) (W.failures sink.new)) }
+    ensures refused { IfErr result (λ _. PlayedOnFirst more quantum (option_to_list key) (P.machine player.old) (P.machine player.new) (W.sink sink.old) (W.sink sink.new)) }
+    ensures none_failed { IfErr result (λ _. W.failures sink.new ≡ W.failures sink.old) }
+{
+    let Some(byte) = key else {
+        return play_on(player, quantum, more, sink);
+    };
+    let written = play_keyed_round(player, byte, quantum, sink)?;
+    Ok(Played { passed: 0, written })
 }
 
 // The next key; none where the source was at its end before.
@@ -250,6 +327,15 @@ fn take_key<R: KeySource>(at_end: bool, keys: &mut R) -> Result<Option<u8>, Devi
         return Ok(None);
     }
     keys.next_key()
+}
+
+// Of so many rounds those of which it is known that no key is typed in them: all, after the source was at its end.
+fn rounds_without_key(at_end: bool, rounds: u64) -> u64
+    ensures none { at_end ≡ false → result ≡ 0 }
+    ensures all { at_end ≡ true → result ≡ rounds }
+    ensures within { result ≤ rounds }
+{
+    if at_end { rounds } else { 0 }
 }
 
 /// Lets a player play rounds, as [`drive`] drives a machine: the same events are sent, the same bytes are written and
@@ -279,18 +365,21 @@ pub fn play_rounds<P: RoundPlayer, R: KeySource, W: ByteSink>(
 {
     let mut at_end = false;
     let mut halted = player.status();
-    for count in 0..plan.rounds {
+    let mut count = 0;
+    'rounds: while count < plan.rounds {
         if let Some(status) = halted {
             return Ok(Ok(DriveEnd::Halted(status)));
         }
+        let more = rounds_without_key(at_end, plan.rounds - count - 1);
         let Ok(key) = take_key(at_end, keys) else {
             return Ok(Err(DriveError::Read));
         };
         at_end = key.is_none();
-        let written = play_round(player, key, plan.quantum, sink)?;
-        let Ok(()) = written else {
+        let played = play_round(player, key, plan.quantum, more, sink)?;
+        let Ok(()) = played.written else {
             return Ok(Err(DriveError::Write));
         };
+        count += 1 + played.passed;
         halted = player.status();
     }
     match halted {

@@ -11,6 +11,7 @@ ghost use Rattle.xv_machine.specs.Events.{run_outcome_of, halted_by};
 ghost use Rattle.kernel_spec.specs.runs.Run as runs;
 ghost use Rattle.xv_machine.specs.Notes.{note, ticked};
 
+mod fast;
 mod observers;
 
 use crate::event::{Event, Outcome, RunOutcome};

@@ -1,7 +1,7 @@
 //! Who plays rounds: a machine, or whoever has one and looks on.
-ghost use Rattle.std.specs.Prelude.{◌≡◌, ◌<◌, ◌≤◌, IfOk, IfErr};
+ghost use Rattle.std.specs.Prelude.{◌≡◌, ◌<◌, ◌≤◌, IfOk, IfErr, true, false};
 ghost use Rattle.kernel_spec.specs.runs.Run as runs;
-ghost use Rattle.xv_machine.specs.Drives.{Ran, SendsMade};
+ghost use Rattle.xv_machine.specs.Drives.{PassesTick, Ran, SendsMade};
 ghost use Rattle.xv_machine.specs.Events.{outcome_of};
 ghost use Rattle.xv_machine.specs.Meaning.{Meaning};
 ghost use Rattle.xv_machine.specs.Reached.{IsEvent, TakesEvent};
@@ -59,6 +59,17 @@ pub trait RoundPlayer {
         ensures ticked { IfOk result (λ _. TakesEvent (machine self.old) runs.Tick (machine self.new)) }
         ensures refused { IfErr result (λ _. machine self.new ≡ machine self.old) };
 
+    /// Ends a round and begins the next one, if it can do so faster than event by event: sends Tick, then Send as often as
+    /// a round does, at which no byte leaves, and then Run. Else it sends nothing. It tells whether it sent them.
+    ///
+    /// # Errors
+    ///
+    /// Its refusal: then nothing is sent.
+    fn pass_tick(&mut self) -> Result<bool, Self::Refusal>
+        ensures passed { IfOk result (λ done. done ≡ true → PassesTick (machine self.old) (machine self.new)) }
+        ensures stays { IfOk result (λ done. done ≡ false → machine self.new ≡ machine self.old) }
+        ensures refused { IfErr result (λ _. machine self.new ≡ machine self.old) };
+
     /// Types a key, and gives what came of it.
     ///
     /// # Errors
@@ -102,6 +113,11 @@ impl RoundPlayer for Machine {
     fn play_tick(&mut self) -> Result<(), Infallible> {
         self.send_tick();
         Ok(())
+    }
+
+    #[inline(always)]
+    fn pass_tick(&mut self) -> Result<bool, Infallible> {
+        Ok(self.pass_over_tick())
     }
 
     #[inline(always)]

@@ -1,4 +1,5 @@
--- The timer interrupts: the clock counts, nobody runs, and those who count ticks wake.
+-- The timer interrupts: the clock counts, nobody runs any more, and those who count ticks wake.
+use Rattle.kcall_core.proofs.Prelude.{channel_of, Holds, Option, Process, resting, unless_woken}
 use Rattle.kcall_core.proofs.Prelude.{ℕ, ◌%◌, ◌+◌, ◌||◌, ◌∙◌, ◌≡◌, ◌⊎◌, ap, AreCounted, Bool, Channel, CLOCK_ROUND, descriptors_at, each_changed, false, frame_count, Hart, inl, inr, is_for, is_open}
 use Rattle.kcall_core.proofs.Prelude.{IsEnd, IsInCall, IsSound, IsWhole, KeepBuffers, Kernel, length, Live, live, namings, None, none-some, NPROC, opens_tick, option_map, pid_now, place_at}
 use Rattle.kcall_core.proofs.Prelude.{place_is_live, process_pid, ready, ready_is, refl, same_channel, same_Some, sleepers_below, Slots, slots_of, Some, State, state_of, subst, sym, table, Ticked}
@@ -12,10 +13,9 @@ use Rattle.file_table.specs.OpenFiles as files
 use Rattle.proc_table.specs.declared.channel.Channel.TheVariants as on
 use Rattle.kernel_spec.proofs.well.WellLaws as well
 
--- What `tick` leaves
+-- What a tick leaves, whether or not the process that ran stays in the hart
 pub record HasTicked (k : Kernel) (h : Hart) (k' : Kernel) (h' : Hart) : Type 0 where
   pub sound : IsSound k' h'
-  pub stopped : k'.current ≡ None
   pub files : k'.files ≡ k.files
   pub frames : frame_count k' ≡ frame_count k
   pub table : k'.table ≡ each_changed (woken on.Clock) k.table
@@ -68,9 +68,9 @@ module _ {k : Kernel} {h : Hart} {k' : Kernel} {h' : Hart} (whole : IsWhole k h)
     closed = λ j dead. ap (λ (u : Slots). descriptors_at u j) x.table ∙ whole.counted.closed j (sym (ap place_is_live (places j) ∙ live-woken wakes (place_at k.table j)) ∙ dead);
   })
 
-  pub tick-whole : IsWhole k' h'
+  pub tick-whole : ((slot : ℕ) (p : Process) → k'.current ≡ Some slot → Holds k'.table slot p → channel_of p ≡ None) → IsWhole k' h'
   unfolding turns_of
-  tick-whole = record {
+  tick-whole awake = record {
     sound = x.sound;
     well = subst (λ n. WellFormed n (state_of k' h')) (sym x.frames)
         (subst (WellFormed (frame_count k)) (sym x.state)
@@ -79,12 +79,25 @@ module _ {k : Kernel} {h : Hart} {k' : Kernel} {h' : Hart} (whole : IsWhole k h)
     files = subst files.IsTable (sym x.files) whole.files;
     counted = counted;
     channels = on-channels whole x.sound sleeping;
-    awake = λ j y is at. absurd (none-some j (sym x.stopped ∙ is));
+    awake = awake;
     unready = unready whole x.sound sleeping;
     buffers = subst KeepBuffers (sym x.state) whole.buffers;
   }
 
-  pub tick-happens : TickHappens (world_of k h None) None Ticked (world_of k' h' None)
+  -- nobody is in the hart
+  pub none-awake : k'.current ≡ None → (slot : ℕ) (p : Process) → k'.current ≡ Some slot → Holds k'.table slot p → channel_of p ≡ None
+  none-awake stopped slot p is at = absurd (none-some slot (sym stopped ∙ is))
+
+  -- whoever was there still is
+  pub same-awake : k'.current ≡ k.current → (slot : ℕ) (p : Process) → k'.current ≡ Some slot → Holds k'.table slot p → channel_of p ≡ None
+  same-awake same slot p is at = by (place_at k.table slot) refl (sym (places slot) ∙ at)
+    where
+      by : (o : Option Process) → place_at k.table slot ≡ o → option_map (woken_by wakes) o ≡ Some p → channel_of p ≡ None
+      by None was e = absurd (none-some p e)
+      by (Some y) was e =
+          ap channel_of (sym (same_Some (woken_by wakes y) p e)) ∙ woken-channel wakes y ∙ ap (unless_woken wakes) (whole.awake slot y (sym same ∙ is) was)
+
+  pub tick-happens : TickHappens (world_of k h None) None Ticked (resting (world_of k' h' None))
   unfolding turns_of
   tick-happens = (
     refl,
@@ -94,7 +107,7 @@ module _ {k : Kernel} {h : Hart} {k' : Kernel} {h' : Hart} (whole : IsWhole k h)
         slots = slots i;
         sleepers = sleepers_below k'.table NPROC;
         last = (x.table i).last;
-        current = option_map (λ _. pid_now k') (x.stopped i);
+        current = None;
         halted = None;
       }),
       λ q asleep. elim (slept-before whole x.sound sleeping q asleep) [ inl before ↦ before | inr fell ↦ let no : ⊥ = cc in absurd no ],
@@ -128,16 +141,28 @@ now-clock : (k : Kernel) (h : Hart) → (state_of k h).clock ≡ k.clock
 unfolding state_of
 now-clock k h = refl
 
-pub has-ticked : (k k0 k' : Kernel) (h h1 : Hart) (n : ℕ) → IsSound k0 h1 → k0.current ≡ None
-    → k0 ≡ record k { memories = k0.memories; current = None } → frame_count k0 ≡ frame_count k → state_of k0 h1 ≡ state_of k h
+-- (k0 is the kernel before the clock counts)
+pub has-ticked : (k k0 k' : Kernel) (h h1 : Hart) (n : ℕ) → IsSound k0 h1
+    → k0 ≡ record k { memories = k0.memories; current = k0.current } → frame_count k0 ≡ frame_count k → state_of k0 h1 ≡ state_of k h
     → n ≡ (k0.clock + 1) % CLOCK_ROUND
     → k'.table ≡ each_changed (woken on.Clock) k0.table → k' ≡ record (clocked n k0) { table = k'.table }
     → (IsSound (clocked n k0) h1 → IsSound k' h1) → state_of k' h1 ≡ state_of (clocked n k0) h1 → HasTicked k h k' h1
-has-ticked k k0 k' h h1 n sound0 stopped0 rest0 frames0 state0 count table rest sound state = record {
+has-ticked k k0 k' h h1 n sound0 rest0 frames0 state0 count table rest sound state = record {
   sound = sound (clocked-sound k0 h1 n sound0);
-  stopped = ap (λ (y : Kernel). y.current) rest ∙ stopped0;
   files = ap (λ (y : Kernel). y.files) rest ∙ ap (λ (y : Kernel). y.files) rest0;
   frames = ap (λ (y : Kernel). length y.memories.ram) rest ∙ frames0;
   table = table ∙ ap (λ (y : Kernel). each_changed (woken on.Clock) y.table) rest0;
   state = state ∙ clocked-state k0 h1 n ∙ (λ i. record (state0 i) { clock = (count ∙ ap (λ m. (m + 1) % CLOCK_ROUND) (ap (λ (y : Kernel). y.clock) rest0 ∙ sym (now-clock k h))) i });
+}
+
+-- the kernel in which nobody runs any more
+pub paused-first : (k k0 : Kernel) → k0.current ≡ None → k0 ≡ record k { memories = k0.memories; current = None } → k0 ≡ record k { memories = k0.memories; current = k0.current }
+paused-first k k0 stopped rest = rest ∙ (λ i. record k { memories = k0.memories; current = sym stopped i })
+
+-- nobody ran already
+pub rests-already : (k : Kernel) (h : Hart) → k.current ≡ None → resting (world_of k h None) ≡ world_of k h None
+unfolding turns_of
+rests-already k h stopped = λ i. record {
+  state = state_of k h;
+  turns = record (turns_of k None) { current = option_map (λ _. pid_now k) (sym stopped i) };
 }

@@ -65,6 +65,30 @@ idle-tick e = cc
 idle-turn : (p : ℕ) → Idle ≡ Turn p → ⊥
 idle-turn p e = cc
 
+-- in a world in which nobody runs
+module _ (w t : World) (on : w.turns.halted ≡ None) (stopped : w.turns.current ≡ None) (unready : NoReadySleeper w) where
+  happens-now : (o : Outcome) → RunHappens w None None o t → Happens w Run o t
+  happens-now o h = subst (λ a. RunHappens w a w.turns.current o t) (sym on) (subst (λ c. RunHappens w None c o t) (sym stopped) h)
+
+  pub turn-comes : (p : ℕ) → TurnTaken w (Turn p) t → IsRunnable w p → IsNearest w p → Promised w Run (Turn p) t
+  turn-comes p taken can near = (
+    happens-now (Turn p) taken,
+    none-wakes w t (Turn p) (ap (λ (x : World). x.state) taken.3) (ap (λ (x : World). x.turns.sleepers) taken.3) unready (turn-tick p) (λ end. turn-end p end.0 end.1 end.2),
+    λ e halted idle. (
+      (λ is. absurd (turn-idle p is), λ none. absurd (none p can)),
+      λ q is. subst (λ (n : ℕ). IsRunnable w n × IsNearest w n) (turn-pid p q is) (can, near),
+    ),
+    subst AreShown (sym (ap (λ (x : World). x.state) taken.3)),
+  )
+
+  pub none-comes : t ≡ w → ((p : ℕ) → ¬ IsRunnable w p) → Promised w Run Idle t
+  none-comes same nobody = (
+    happens-now Idle same,
+    none-wakes w t Idle (ap (λ (x : World). x.state) same) (ap (λ (x : World). x.turns.sleepers) same) unready idle-tick (λ end. idle-end end.0 end.1 end.2),
+    λ e halted idle. ((λ is. nobody, λ none. refl), λ q is. absurd (idle-turn q is)),
+    subst AreShown (sym (ap (λ (x : World). x.state) same)),
+  )
+
 module _ (k k' : Kernel) (h h' : Hart) (whole : IsWhole k h) (stopped : k.current ≡ None) where
   current : option_map (λ (i : ℕ). pid_now k) k.current ≡ None
   current = ap (option_map (λ (i : ℕ). pid_now k)) stopped
@@ -72,28 +96,11 @@ module _ (k k' : Kernel) (h h' : Hart) (whole : IsWhole k h) (stopped : k.curren
   pub turn-promised : (p : ℕ) → TurnTaken (world_of k h None) (Turn p) (world_of k' h' None) → IsRunnable (world_of k h None) p
       → IsNearest (world_of k h None) p → Promised (world_of k h None) Run (Turn p) (world_of k' h' None)
   unfolding turns_of
-  turn-promised p taken can near =
-      let w = world_of k h None in
-      let t = world_of k' h' None in (
-        subst (λ c. RunHappens w None c (Turn p) t) (sym current) taken,
-        none-wakes w t (Turn p) (ap (λ (x : World). x.state) taken.3) (ap (λ (x : World). x.turns.sleepers) taken.3) whole.unready (turn-tick p) (λ end. turn-end p end.0 end.1 end.2),
-        λ e halted idle. (
-          (λ is. absurd (turn-idle p is), λ none. absurd (none p can)),
-          λ q is. subst (λ (n : ℕ). IsRunnable w n × IsNearest w n) (turn-pid p q is) (can, near),
-        ),
-        subst AreShown (sym (ap (λ (x : World). x.state) taken.3)),
-      )
+  turn-promised p taken can near = turn-comes (world_of k h None) (world_of k' h' None) refl current whole.unready p taken can near
 
   pub idle-promised : world_of k' h' None ≡ world_of k h None → ((p : ℕ) → ¬ IsRunnable (world_of k h None) p) → Promised (world_of k h None) Run Idle (world_of k' h' None)
   unfolding turns_of
-  idle-promised same nobody =
-      let w = world_of k h None in
-      let t = world_of k' h' None in (
-        subst (λ c. RunHappens w None c Idle t) (sym current) same,
-        none-wakes w t Idle (ap (λ (x : World). x.state) same) (ap (λ (x : World). x.turns.sleepers) same) whole.unready idle-tick (λ end. idle-end end.0 end.1 end.2),
-        λ e halted idle. ((λ is. nobody, λ none. refl), λ q is. absurd (idle-turn q is)),
-        subst AreShown (sym (ap (λ (x : World). x.state) same)),
-      )
+  idle-promised same nobody = none-comes (world_of k h None) (world_of k' h' None) refl current whole.unready same nobody
 
 -- ---- after the end
 
@@ -120,10 +127,19 @@ halted-promised k h status e whole happens =
 tick-run : Tick ≡ Run → ⊥
 tick-run e = cc
 
+-- in a world in which nobody is halted
+pub tick-comes : (w t : World) → w.turns.halted ≡ None → TickHappens w None Ticked t → WakesWhereDue w Ticked t → Promised w Tick Ticked t
+tick-comes w t on happens wakes = (
+  subst (λ a. TickHappens w a Ticked t) (sym on) happens,
+  wakes,
+  λ e halted idle. absurd (tick-run e),
+  λ shown. subst AreShown (sym happens.1) shown,
+)
+
 pub tick-promised : (k k' : Kernel) (h h' : Hart) → TickHappens (world_of k h None) None Ticked (world_of k' h' None)
     → WakesWhereDue (world_of k h None) Ticked (world_of k' h' None) → Promised (world_of k h None) Tick Ticked (world_of k' h' None)
 unfolding turns_of
-tick-promised k k' h h' happens wakes = (happens, wakes, λ e halted idle. absurd (tick-run e), λ shown. subst AreShown (sym happens.1) shown)
+tick-promised k k' h h' happens wakes = tick-comes (world_of k h None) (world_of k' h' None) refl happens wakes
 
 -- ---- a key, and a byte that is sent
 

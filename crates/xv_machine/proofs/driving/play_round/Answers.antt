@@ -1,19 +1,46 @@
-use Rattle.std.proofs.Common.{List, subst, IfErr, IfOk}
-use Rattle.kernel_spec.specs.runs.Run.{Event}
-use Rattle.xv_machine.specs.Stretches.{Plays, PlayedFirst}
+use Rattle.std.proofs.Common.{ℕ, Option, IfErr, IfOk, arith, subst, sym}
+use Rattle.std.specs.Option.{option_to_list}
+use Rattle.kernel_spec.specs.runs.Rounds.{round}
+use Rattle.xv_machine.specs.Stretches.{PlayedFirst, PlayedOnFirst, Plays, PlaysOn}
+use Rattle.xv_machine.proofs.Quiet.{none-quiet}
+use Rattle.xv_machine.proofs.Refused.{if-err}
 use Rattle.xv_machine.proofs.driving.play_round.Goals as goal
+
+pub returns-in_default-clause-plays : goal.returns-in_default-clause-plays
+returns-in_default-clause-plays g c =
+    subst
+    (λ (key : Option ℕ). IfOk c.play_on.result (λ p. PlaysOn p.passed p.written c.args.quantum (option_to_list key) (g.P.RoundPlayer.machine c.args.player.now)
+    (g.P.RoundPlayer.machine c.play_on.new.player) (g.W.ByteSink.sink c.args.sink.now) (g.W.ByteSink.sink c.play_on.new.sink)))
+    (sym c.in_default.is) c.play_on.ensures.plays
+
+pub returns-in_default-clause-refused : goal.returns-in_default-clause-refused
+returns-in_default-clause-refused g c =
+    subst
+    (λ (key : Option ℕ). IfErr c.play_on.result (λ _. PlayedOnFirst c.args.more c.args.quantum (option_to_list key) (g.P.RoundPlayer.machine c.args.player.now)
+    (g.P.RoundPlayer.machine c.play_on.new.player) (g.W.ByteSink.sink c.args.sink.now) (g.W.ByteSink.sink c.play_on.new.sink)))
+    (sym c.in_default.is) c.play_on.ensures.refused
+
+pub returns-in_err-written-clause-refused : goal.returns-in_err-written-clause-refused
+returns-in_err-written-clause-refused g c =
+    let m = g.P.RoundPlayer.machine c.args.player.now in
+    let new = g.P.RoundPlayer.machine c.play_keyed_round.new.player in
+    let sink = g.W.ByteSink.sink c.args.sink.now in
+    let after = g.W.ByteSink.sink c.play_keyed_round.new.sink in
+    if-err c.from_residual.result (
+      0,
+      m,
+      omega arith,
+      none-quiet c.args.quantum m c.requires,
+      subst (λ (key : Option ℕ). PlayedFirst (round c.args.quantum (option_to_list key)) m new sink after) (sym c.in-Some.is) c.in_err-written.ensures.refused,
+    )
 
 pub returns-clause-plays : goal.returns-clause-plays
 returns-clause-plays g c =
-    subst
-    (λ (es : List Event). IfOk c.play_parts.result (λ w. Plays w es (g.P.RoundPlayer.machine c.args.player.now) (g.P.RoundPlayer.machine c.play_parts.new.player) (g.W.ByteSink.sink c.args.sink.now)
-    (g.W.ByteSink.sink c.play_parts.new.sink)))
-    c.round_parts-parts.ensures c.play_parts.ensures.plays
-
-pub returns-clause-refused : goal.returns-clause-refused
-returns-clause-refused g c =
-    let old = g.P.RoundPlayer.machine c.args.player.now in
-    let new = g.P.RoundPlayer.machine c.play_parts.new.player in
+    let m = g.P.RoundPlayer.machine c.args.player.now in
+    let new = g.P.RoundPlayer.machine c.play_keyed_round.new.player in
     let sink = g.W.ByteSink.sink c.args.sink.now in
-    let sink_after = g.W.ByteSink.sink c.play_parts.new.sink in
-    subst (λ (es : List Event). IfErr c.play_parts.result (λ _. PlayedFirst es old new sink sink_after)) c.round_parts-parts.ensures c.play_parts.ensures.refused
+    let after = g.W.ByteSink.sink c.play_keyed_round.new.sink in (
+      m,
+      none-quiet c.args.quantum m c.requires,
+      subst (λ (key : Option ℕ). Plays c.in_ok-written.written (round c.args.quantum (option_to_list key)) m new sink after) (sym c.in-Some.is) c.in_ok-written.ensures.plays,
+    )
