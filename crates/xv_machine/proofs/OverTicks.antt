@@ -79,9 +79,6 @@ module _ (k k1 : Kernel) (h : Hart) (halted : Option ℤ) (trace : Buffer Note) 
   pub goes-on : halted ≡ None
   goes-on = not-halted k h halted end runs
 
-  ticked : World
-  ticked = resting (world_of k1 h None)
-
   lives : IsSome (live (state_of k1 h) 1)
   lives = ap (λ (s : State). is_some (live_part (get s.processes 1))) happens.1 ∙ first-lives k h halted end goes-on
 
@@ -163,6 +160,6 @@ passes outcome old turned noted-tick noted-sends new t first second third sound 
           (refl, t.trace.1 ∙ sym t.trace_then.1) refl last sound;
     }
 
-pub nothing-waits : (bytes : List ℕ) → is_some (slice_get bytes 0) ≡ false → bytes ≡ []
+pub nothing-waits : (bytes : List ℕ) → slice_get bytes 0 ≡ None → bytes ≡ []
 nothing-waits [] e = refl
 nothing-waits (b ∷ bytes) e = cc

@@ -2,6 +2,7 @@
 use Rattle.std.proofs.Common.{◌≡◌, ◌≢◌, ◌∙◌, ℕ, zero, suc, ◌+◌, ◌-◌, arith, List, [], ◌∷◌, ◌++◌, append-nil, drop, replicate, Bool, true, false, ◌||◌, inl, inr, refl, sym, ap, ap₂, subst}
 use Rattle.std.proofs.Common.{Option, None, Some, Result, Ok, Err}
 use Rattle.std.specs.Prelude.{ℤ, is_some}
+use Rattle.std.proofs.lemmas.Bool.{or_parts}
 use Rattle.xk_base.specs.declared.limits.TheConstants.{SEND_BYTES}
 use Rattle.kernel_spec.specs.runs.Run.{World, Event, Run, Tick, Send, Outcome, Ticked, Halted, Sent, TickHappens, bytes_out, out}
 use Rattle.kernel_spec.specs.runs.Rounds.{events, halts, key_events, round, AreRounds}
@@ -44,15 +45,6 @@ counts-on : (w t : World) (halted : Option ℤ) → TickHappens w halted Ticked 
 counts-on w t None happens = refl
 counts-on w t (Some status) happens = let bad : Ticked ≡ Halted = happens.0 in let no : ⊥ = cc in absurd no
 
--- neither of two
-or-left : (a b : Bool) → (a || b) ≡ false → a ≡ false
-or-left true b e = e
-or-left false b e = refl
-
-or-right : (a b : Bool) → (a || b) ≡ false → b ≡ false
-or-right true b e = let no : ⊥ = cc in absurd no
-or-right false b e = e
-
 module _ (passed quantum : ℕ) (old start mid new : Meaning) (q : PlayedQuietly passed quantum old start) (s : Silent (replicate quantum Run) start mid) (p : PassesTick mid new) where
   mid-on : is_halted mid ≡ false
   mid-on = counts-on mid.world p.ends.run.0 mid.world.turns.halted p.ends.run.1.0
@@ -61,7 +53,7 @@ module _ (passed quantum : ℕ) (old start mid new : Meaning) (q : PlayedQuietly
   started = sym (ends-in start.world s.list mid.world s.goes.run) ∙ mid-on
 
   before : (is_halted old || halts q.list) ≡ false
-  before = sym (ends-in old.world q.list start.world q.goes.run) ∙ or-left (is_halted start) (halts s.list) started
+  before = sym (ends-in old.world q.list start.world q.goes.run) ∙ (or_parts (is_halted start) (halts s.list) started).0
 
   pub quiet-more : PlayedQuietly (passed + 1) quantum old p.between
   quiet-more =
@@ -70,7 +62,7 @@ module _ (passed quantum : ℕ) (old start mid new : Meaning) (q : PlayedQuietly
       events-join s.list the-end ∙ ap₂ (λ xs ys. xs ++ ys) s.those end-events ∙ ap (λ ks. key_events ks ++ replicate quantum Run ++ Tick ∷ replicate SEND_BYTES Send) (sym (drop-nil passed)) in
       let now_one : AreRounds 1 quantum (drop passed []) false one = (one, [], sym (append-nil one), those, refl) in
       let next : AreRounds 1 quantum (drop passed []) (false || halts q.list) one =
-      subst (λ b. AreRounds 1 quantum (drop passed []) b one) (sym (or-right (is_halted old) (halts q.list) before)) now_one in
+      subst (λ b. AreRounds 1 quantum (drop passed []) b one) (sym (or_parts (is_halted old) (halts q.list) before).1) now_one in
       record {
         list = q.list ++ one;
         goes = goes-join q.list one old start p.between q.goes (goes-join s.list the-end start mid p.between s.goes p.ends);

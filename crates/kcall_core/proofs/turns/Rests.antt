@@ -1,6 +1,7 @@
 -- The process that ran gives way: its registers are saved, and the kernel is whole.
-use Rattle.kcall_core.proofs.Prelude.{◌∙◌, ◌≡◌, AreCounted, ap, Channel, channel_of, contains, frame_count, Hart, Holds, is_for, IsSound, IsWhole, KeepBuffers, Kernel, live, Live, None, none-some, NPROC}
-use Rattle.kcall_core.proofs.Prelude.{option_map, pid_now, Process, resting, sleepers_below, Slots, slots_of, Some, State, state_of, subst, sym, true, turns_of, view, waits_for, WellFormed, world_of, ℕ}
+use Rattle.kcall_core.proofs.Prelude.{◌∙◌, ◌≡◌, AreCounted, ap, Channel, channel_of, contains, frame_count, Hart, Holds, is_for, IsSound, IsWhole, KeepBuffers, Kernel, live, Live}
+use Rattle.kcall_core.proofs.Prelude.{None, none-some, NPROC, option_map, pid_now, Process, resting, sleepers_below, Slots, slots_of, Some, State, state_of, subst, sym, true}
+use Rattle.kcall_core.proofs.Prelude.{turns_of, view, waits_for, WellFormed, world_of, ℕ}
 use Rattle.file_table.specs.OpenFiles as files
 
 -- who sleeps does so on its channel, as the state stands

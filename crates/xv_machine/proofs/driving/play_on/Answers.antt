@@ -45,7 +45,8 @@ returns-in_err-written-clause-refused g c =
       c.in_ok-passed.ensures.within,
       q,
       first-later runs (Tick ∷ replicate SEND_BYTES Send) start ran new sink sink after (silent-played runs start ran sink s)
-          (first-later (Tick ∷ []) (replicate SEND_BYTES Send) ran ticked new sink sink after (silent-played (Tick ∷ []) ran ticked sink c.in_ok-tick_often.ensures.sent) c.in_err-written.ensures.refused),
+          (first-later (Tick ∷ []) (replicate SEND_BYTES Send) ran ticked new sink sink after
+          (silent-played (Tick ∷ []) ran ticked sink c.in_ok-tick_often.ensures.sent) c.in_err-written.ensures.refused),
     )
 
 pub returns-clause-plays : goal.returns-clause-plays

@@ -36,7 +36,8 @@ returns-in_default-written-clause-write g c =
     let source_now = g.R.KeySource.source l.keys in
     let on = sym l.invariant.halted ∙ c.in_default.is in
     let (start, q, plays) = c.in_ok-played.ensures.plays in
-    let before = over-more c.args.plan.quantum l.count played.passed l.at_end _ source_now.left _ (g.P.RoundPlayer.machine l.player) start _ (g.W.ByteSink.sink l.sink) _ source_now.asked l.invariant.going on q
+    let before = over-more c.args.plan.quantum l.count played.passed l.at_end _ source_now.left _ (g.P.RoundPlayer.machine l.player) start
+    _ (g.W.ByteSink.sink l.sink) _ source_now.asked l.invariant.going on q
     (whether l.at_end _ played.passed c.rounds_without_key-more.ensures.none c.in_ok-played.ensures.within) in
     write-stops c.args.plan (l.count + played.passed) l.at_end _ source_now (g.R.KeySource.source c.take_key.new.keys) c.in-Ok.key
     _ start (g.P.RoundPlayer.machine c.play_round.new.player) _ (g.W.ByteSink.sink l.sink) (g.W.ByteSink.sink c.play_round.new.sink)
@@ -49,7 +50,8 @@ returns-in_err-played-clause-refused g c =
     let source_now = g.R.KeySource.source l.keys in
     let on = sym l.invariant.halted ∙ c.in_default.is in
     let (passed, start, within, q, first) = c.in_err-played.ensures.refused in
-    let before = over-more c.args.plan.quantum l.count passed l.at_end _ source_now.left _ (g.P.RoundPlayer.machine l.player) start _ (g.W.ByteSink.sink l.sink) _ source_now.asked l.invariant.going on q
+    let before = over-more c.args.plan.quantum l.count passed l.at_end _ source_now.left _ (g.P.RoundPlayer.machine l.player) start
+    _ (g.W.ByteSink.sink l.sink) _ source_now.asked l.invariant.going on q
     (whether l.at_end _ passed c.rounds_without_key-more.ensures.none within) in
     if-err c.from_residual.result
     (player-stops c.args.plan (l.count + passed) l.at_end _ source_now (g.R.KeySource.source c.take_key.new.keys) c.in-Ok.key
@@ -66,7 +68,8 @@ rounds-preserved g c =
     let new = g.P.RoundPlayer.machine c.play_round.new.player in
     let on = sym l.invariant.halted ∙ c.in_default.is in
     let (start, q, plays) = c.in_ok-played.ensures.plays in
-    let before = over-more c.args.plan.quantum l.count played.passed l.at_end _ source_now.left _ (g.P.RoundPlayer.machine l.player) start _ (g.W.ByteSink.sink l.sink) _ source_now.asked l.invariant.going on q
+    let before = over-more c.args.plan.quantum l.count played.passed l.at_end _ source_now.left _ (g.P.RoundPlayer.machine l.player) start
+    _ (g.W.ByteSink.sink l.sink) _ source_now.asked l.invariant.going on q
     (whether l.at_end _ played.passed c.rounds_without_key-more.ensures.none c.in_ok-played.ensures.within) in
     let after =
     one-more c.args.plan.quantum (l.count + played.passed) l.at_end _ source_now.left source_after.left c.in-Ok.key _ start _ (g.W.ByteSink.sink l.sink)
