@@ -1,5 +1,5 @@
 -- The end of a round and the first Run of the next one, as one.
-use Rattle.std.proofs.Common.{◌≡◌, ◌≤◌, ◌∙◌, ℕ, [], ◌∷◌, ◌++◌, List, length, replicate, Option, None, Some, inl, inr, refl, sym, ap, subst, false}
+use Rattle.std.proofs.Common.{◌≡◌, ◌≤◌, ◌∙◌, ℕ, [], ◌∷◌, ◌++◌, List, length, replicate, Option, None, Some, inl, inr, refl, sym, ap, subst}
 use Rattle.std.specs.Prelude.{ℤ, IsSome, is_some, option_map, slice_get}
 use Rattle.std.specs.FinMap.{get}
 use Rattle.std.proofs.lemmas.Option.{none-some}

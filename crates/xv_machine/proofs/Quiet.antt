@@ -1,5 +1,5 @@
 -- Rounds without a key that are played over ticks, in which nothing is shown.
-use Rattle.std.proofs.Common.{◌≡◌, ◌≢◌, ◌∙◌, ℕ, zero, suc, ◌+◌, ◌-◌, arith, List, [], ◌∷◌, ◌++◌, append-nil, drop, replicate, Bool, true, false, ◌||◌, inl, inr, refl, sym, ap, ap₂, subst}
+use Rattle.std.proofs.Common.{◌≡◌, ◌≢◌, ◌∙◌, ℕ, zero, suc, ◌+◌, ◌-◌, arith, List, [], ◌∷◌, ◌++◌, append-nil, drop, replicate, false, ◌||◌, inl, inr, refl, sym, ap, ap₂, subst}
 use Rattle.std.proofs.Common.{Option, None, Some, Result, Ok, Err}
 use Rattle.std.specs.Prelude.{ℤ, is_some}
 use Rattle.std.proofs.lemmas.Bool.{or_parts}
