@@ -56,7 +56,7 @@ type Written = Result<(), DeviceFault>;
 /// A round that was played.
 #[derive(Drop)]
 struct Played {
-    // After so many others, none of which showed a byte.
+    // How many others were played before it, over whose ends the player passed. None of them showed a byte.
     passed: u64,
     written: Written,
 }
@@ -273,7 +273,7 @@ fn run_over_ticks<P: RoundPlayer>(
     Ok(more)
 }
 
-// A round in which no key is typed, after so many others over whose ends the player passed.
+// Rounds in which no key is typed: as many as the player passes over, `more` at most, and one to its end.
 fn play_on<P: RoundPlayer, W: ByteSink>(
     player: &mut P,
     quantum: u32,
@@ -293,7 +293,7 @@ fn play_on<P: RoundPlayer, W: ByteSink>(
     Ok(Played { passed, written })
 }
 
-// One round; or if no key is typed, as many before it as the player passes over, `more` at most.
+// One round. If no key is typed, the player may pass over others before it, `more` at most.
 fn play_round<P: RoundPlayer, W: ByteSink>(
     player: &mut P,
     key: Option<u8>,

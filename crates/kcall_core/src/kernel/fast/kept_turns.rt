@@ -53,7 +53,8 @@ impl Kernel {
         self.turn(hart)
     }
 
-    // Whether the process in the hart has the next turn. (If not, what follows does as it does in any case.)
+    // Whether the process in the hart has the next turn. To say no is never wrong, but slower: then it is saved, and the turn
+    // is given as always.
     fn has_next_turn(&self) -> bool
         ensures { result ≡ true → (slot : ℕ) × (self.now.current ≡ Some slot)
             × slots.IsNearest self.now.table.places self.now.table.last (Some slot) }
