@@ -10,6 +10,22 @@ use phys_ram::Ram;
 use xk_base::Frame;
 use xk_base::limits::PIPE_BYTES;
 
+// Copies `count` bytes of one frame over those of another, as `Ram::copy_part` does. Mostly there are none: what goes into a
+// pipe, or comes out of it, seldom lies across its ring's end.
+fn copy_rest(ram: &mut Ram, from: Frame, start: usize, to: Frame, at: usize, count: usize)
+    requires from_in { from < length ram.old }
+    requires to_in { to < length ram.old }
+    requires apart { from ≢ to }
+    requires start_in { start + count ≤ 4096 }
+    requires at_in { at + count ≤ 4096 }
+    ensures { ram.new ≡ set ram.old to (with_bytes at (take count (drop start (frame_at ram.old from))) (frame_at ram.old to)) }
+{
+    if count == 0 {
+        return;
+    }
+    ram.copy_part(from, start, to, at, count);
+}
+
 /// Appends `size` bytes of another frame, from byte `at` on. There is room for them.
 #[tactic(auto, using(crate::proofs::Changes::bytes_fit))]
 pub fn push_part(ram: &mut Ram, frame: Frame, from: Frame, at: usize, size: usize)
@@ -27,7 +43,7 @@ pub fn push_part(ram: &mut Ram, frame: Frame, from: Frame, at: usize, size: usiz
     let place = (oldest + count) % PIPE_BYTES;
     let before = size.min(PIPE_BYTES - place);
     ram.copy_part(from, at, frame, RING + place, before);
-    ram.copy_part(from, at + before, frame, RING, size - before);
+    copy_rest(ram, from, at + before, frame, RING, size - before);
     ram.write_u64(frame, COUNT, (count + size) as u64);
 }
 
@@ -65,7 +81,7 @@ pub fn copy_bytes(ram: &mut Ram, frame: Frame, skip: usize, to: Frame, at: usize
     let place = (oldest + skip) % PIPE_BYTES;
     let before = size.min(PIPE_BYTES - place);
     ram.copy_part(frame, RING + place, to, at, before);
-    ram.copy_part(frame, RING, to, at + before, size - before);
+    copy_rest(ram, frame, RING, to, at + before, size - before);
 }
 
 /// Takes out the `size` oldest bytes, which are there.
