@@ -2,7 +2,7 @@
 use Rattle.kernel_spec.proofs.Prelude.{ℕ, ◌+◌, ◌<◌, ◌∙◌, ◌≡◌, advance, advance_shown, advanced, Alive, ap, Bool, Call, Called, changed_state, cond, Descriptor, Descriptors, eqb_tells, false, File}
 use Rattle.kernel_spec.proofs.Prelude.{file_at, file_name, fun_ext, get, goes_on, inl, inr, insert, is_this, least_below, length, List, Live, live_part, ltb-true, named, nat_eq, nat_lt, NOFILE, None}
 use Rattle.kernel_spec.proofs.Prelude.{numbered, OpenFile, Option, option_map, pipe_name, pos, refl, rename, rename_shown, Shown, Shown_file, Shown_pipe, shown_pipe_name, Shown_terminal, Some, State}
-use Rattle.kernel_spec.proofs.Prelude.{sym, true, unwrap_or, View, view_of, with_a0, word, write_image}
+use Rattle.kernel_spec.proofs.Prelude.{sym, true, unwrap_or, view_of, with_a0, word, write_image}
 use Rattle.kernel_spec.proofs.steps.SeenByParts.{file_of, descriptor_at, descriptor_on}
 use Rattle.kernel_spec.proofs.steps.MapsAfterChange.{get_at, get_other}
 use Rattle.kernel_spec.proofs.steps.OthersTableIsSeen.{Spares, kind}

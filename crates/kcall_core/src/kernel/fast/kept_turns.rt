@@ -53,11 +53,12 @@ impl Kernel {
         self.turn(hart)
     }
 
-    // Whether the process in the hart has the next turn. To say no is never wrong, but slower: then it is saved, and the turn
-    // is given as always.
+    // Whether the process in the hart has the next turn.
     fn has_next_turn(&self) -> bool
-        ensures { result ≡ true → (slot : ℕ) × (self.now.current ≡ Some slot)
+        ensures yes { result ≡ true → (slot : ℕ) × (self.now.current ≡ Some slot)
             × slots.IsNearest self.now.table.places self.now.table.last (Some slot) }
+        ensures no { (slot : ℕ) → self.now.current ≡ Some slot
+            → slots.IsNearest self.now.table.places self.now.table.last (Some slot) → result ≡ true }
     {
         let Some(slot) = self.current else {
             return false;

@@ -17,6 +17,7 @@ impl Machine {
     pub(crate) fn pass_over_tick(&mut self) -> bool
         ensures passed { result ≡ true → PassesTick self.old self.new }
         ensures stays { result ≡ false → self.new ≡ self.old }
+        ensures sends { IsSome self.old.world.turns.current → self.old.world.state.console.to_send ≡ [] → result ≡ true }
     {
         if self.current().is_none() || self.has_to_send() {
             return false;
@@ -31,7 +32,8 @@ impl Machine {
     // Whether a byte waits to be sent.
     #[inline(always)]
     fn has_to_send(&self) -> bool
-        ensures { result ≡ false → self.now.world.state.console.to_send ≡ [] }
+        ensures no { result ≡ false → self.now.world.state.console.to_send ≡ [] }
+        ensures yes { self.now.world.state.console.to_send ≡ [] → result ≡ false }
     {
         self.console_byte(ConsoleList::ToSend, 0).is_some()
     }

@@ -22,7 +22,7 @@ returns-then-has_next_turn-clause-whole c =
     let h = c.args.hart.now in
     let slot = c.running_slot-slot.result in
     let table = c.take_turn.new.self in
-    let s = stays k table slot (c.has_next_turn.ensures c.if-has_next_turn.true) c.running_slot-slot.ensures.is c.take_turn.ensures in
+    let s = stays k table slot (c.has_next_turn.ensures.yes c.if-has_next_turn.true) c.running_slot-slot.ensures.is c.take_turn.ensures in
     let r = runs-in k.table slot s.near.1 in
     turned-whole k (noted k table) h h slot r.0 c.requires.whole r.1 s.is (noted-state k h slot table c.take_turn.ensures)
     (noted-sound k h slot table c.requires.whole.sound s.near.0 c.take_turn.ensures)
@@ -33,7 +33,7 @@ returns-then-has_next_turn-clause-turn c =
     let h = c.args.hart.now in
     let slot = c.running_slot-slot.result in
     let table = c.take_turn.new.self in
-    let s = stays k table slot (c.has_next_turn.ensures c.if-has_next_turn.true) c.running_slot-slot.ensures.is c.take_turn.ensures in
+    let s = stays k table slot (c.has_next_turn.ensures.yes c.if-has_next_turn.true) c.running_slot-slot.ensures.is c.take_turn.ensures in
     let r = runs-in k.table slot s.near.1 in
     let told : pid_at k.table slot ≡ Some c.pid.result = sym (ap (λ (t : Slots). pid_at t slot) c.take_turn.ensures) ∙ c.pid.ensures in
     turned-world k (noted k table) h h slot r.0 c.requires.whole r.1 s.is (noted-state k h slot table c.take_turn.ensures) c.pid.result told
@@ -44,7 +44,7 @@ returns-then-has_next_turn-clause-nearest c =
     let h = c.args.hart.now in
     let slot = c.running_slot-slot.result in
     let table = c.take_turn.new.self in
-    let s = stays k table slot (c.has_next_turn.ensures c.if-has_next_turn.true) c.running_slot-slot.ensures.is c.take_turn.ensures in
+    let s = stays k table slot (c.has_next_turn.ensures.yes c.if-has_next_turn.true) c.running_slot-slot.ensures.is c.take_turn.ensures in
     let r = runs-in k.table slot s.near.1 in
     let told : pid_at k.table slot ≡ Some c.pid.result = sym (ap (λ (t : Slots). pid_at t slot) c.take_turn.ensures) ∙ c.pid.ensures in
     turned-nearest k (noted k table) h h slot r.0 c.requires.whole r.1 s.is (noted-state k h slot table c.take_turn.ensures) c.pid.result told s.near.2
