@@ -1,12 +1,13 @@
 #!/bin/bash
-# build.sh: makes the modules anywhere/xv_run.wasm and anywhere/xv_tools.wasm of the proved programs, and sources.txt, which tells
-# of which sources they are. The same sources give the same bytes. It needs `rt` of the Rattle kit, python3, and wasm-opt (Debian's
-# binaryen, version 108), and proves what isn't proved yet: up to an hour on 4 processors.
+# build.sh: makes the modules anywhere/xv_run.wasm and anywhere/xv_tools.wasm of the proved programs, and STATE, which tells of
+# which state of the sources they are. The same sources give the same modules. It needs `rt` of the Rattle kit, python3, and wasm-opt
+# (Debian's binaryen, version 108), and proves what isn't proved yet: up to an hour on 4 processors. A change of code needn't do so:
+# CONTRIBUTING.md says who makes the modules, and when.
 #
 #   build.sh --compare          makes the modules, and that of the page, anew of what is proved (by `rt ci` or `./xv --build`), and
-#                               compares: so nobody has to believe who committed them. Without wasm-opt, or by another version of
-#                               it, the modules are compared as they are before it, by the sums that sources.txt and the page have.
-#   build.sh --same-modules     only comments, contracts or proofs were changed: writes sources.txt anew. It needs python3 alone.
+#                               compares: so nobody has to believe who committed them. Those that are of an earlier state, as STATE
+#                               or the page says, are told, and not compared. Without wasm-opt, or by another version of it, the
+#                               modules are compared as they are before it, by the sums that STATE and the page have.
 #   build.sh --unproved FOLDER  makes modules in FOLDER of which nothing is proved, for work on what stands around them
 set -eu
 cd "$(dirname "$(readlink -f "$0")")"
@@ -22,12 +23,23 @@ sum_of() {
     sha256sum <"$1" | cut -d ' ' -f 1
 }
 
-# The lines of sources.txt that tell of the modules in folder $1.
-modules() {
+# The text of STATE for the modules in folder $1.
+state() {
+    local made changes=
+    made=$(git -C "$root" log -1 --format='the commit %h of %cs' 2>/dev/null) || made='no commit'
+    [ -z "$(git -C "$root" status --porcelain -- ../crates 2>/dev/null)" ] || changes=', and changes that no commit had'
+    echo '# Of which state the modules in this folder are: anywhere/build.sh writes it.'
+    echo "state $(cat "$root/VERSION") and later, $made$changes"
+    echo "code $(python3 -B build/sources.py "$root" --code)"
     for name in "${programs[@]}"; do
-        echo "# module $name.64.wasm $(sum_of "$1/$name.64.wasm")"
-        echo "# module $name.wasm $(sum_of "$1/$name.wasm")"
+        echo "module $name.64.wasm $(sum_of "$1/$name.64.wasm")"
+        echo "module $name.wasm $(sum_of "$1/$name.wasm")"
     done
+}
+
+# What STATE says of the word or words $1.
+said() {
+    sed -n "s/^$1 //p" STATE
 }
 
 # Whether wasm-opt is here, of the version whose bytes are stored.
@@ -47,38 +59,45 @@ compare() {
     return 1
 }
 
-compare_all() {
-    build/modules.sh "$work" "${programs[@]}" xv_page
-    failed=
+compare_programs() {
     for name in "${programs[@]}"; do
-        [ "$(sum_of "$name.wasm")" = "$(sed -n "s/^# module $name.wasm //p" sources.txt)" ] || stop "$name.wasm has another sum than in sources.txt"
-        compare "$name" "$name.wasm" "$(sed -n "s/^# module $name.64.wasm //p" sources.txt)" || failed=yes
+        [ "$(sum_of "$name.wasm")" = "$(said "module $name.wasm")" ] || stop "$name.wasm has another sum than in STATE"
+        compare "$name" "$name.wasm" "$(said "module $name.64.wasm")" || failed=yes
     done
+}
+
+compare_page() {
     python3 -B ../page/build/module_of.py ../page/nektavoly.html "$work/page.wasm"
     compare xv_page "$work/page.wasm" "$(sed -n 's/.*<!-- module of 64 bits \([0-9a-f]*\) -->.*/\1/p' ../page/nektavoly.html)" || failed=yes
+}
+
+compare_all() {
+    local wanted=()
+    ! ./is_current.sh >/dev/null 2>&1 || wanted+=("${programs[@]}")
+    ! ../page/is_current.sh --module >/dev/null 2>&1 || wanted+=(xv_page)
+    [ "${#wanted[@]}" = 0 ] || build/modules.sh "$work" "${wanted[@]}"
+    failed=
+    case " ${wanted[*]} " in *' xv_run '*) compare_programs ;; *) ./is_current.sh --tell ;; esac
+    case " ${wanted[*]} " in *' xv_page '*) compare_page ;; *) ../page/is_current.sh --tell ;; esac
     [ -z "$failed" ] || exit 1
+    [ "${#wanted[@]}" != 0 ] || return 0
     how='with their bytes'
     is_binaryen || how='as they are before wasm-opt, of which version 108 is not here'
-    echo "modules: those of the programs and of the page are of the proved sources, $how"
+    echo "modules: ${wanted[*]}: made anew of the proved sources, and the same $how"
 }
 
 work=$(mktemp -d) && trap 'rm -rf "$work"' EXIT
 case ${1-} in
 --compare) compare_all ;;
---same-modules)
-    grep -qx "# code: $(python3 -B build/sources.py "$root" --code)" sources.txt || stop "the code is another: build the modules anew"
-    { python3 -B build/sources.py "$root" --list && grep '^# module ' sources.txt; } >"$work/sources.txt"
-    cp "$work/sources.txt" sources.txt
-    ;;
 --unproved) build/modules.sh --unproved "${2?}" "${programs[@]}" ;;
 '')
     command -v wasm-opt >/dev/null || stop "there is no wasm-opt: apt-get install binaryen"
     "$root/xv" --build
     build/modules.sh "$work" "${programs[@]}"
-    { python3 -B build/sources.py "$root" --list && modules "$work"; } >"$work/sources.txt"
+    state "$work" >"$work/STATE"
     for name in "${programs[@]}"; do cp "$work/$name.wasm" "$name.wasm"; done
-    cp "$work/sources.txt" sources.txt
+    cp "$work/STATE" STATE
     ls -l xv_run.wasm xv_tools.wasm
     ;;
-*) stop "it takes --compare, --same-modules, --unproved FOLDER, or nothing" ;;
+*) stop "it takes --compare, --unproved FOLDER, or nothing" ;;
 esac

@@ -4,9 +4,7 @@
     sources.py ROOT --page       the sum of all that the page is built of: the code of xv_page and of the crates below it, the scripts and
                                  modules of page/, the programs and the manual
     sources.py ROOT --module     the sum of what the page's module is built of: the crates' code, and how it is translated
-    sources.py ROOT --code       the sum of what the programs' modules are built of
-    sources.py ROOT --list       what they are built of, for anywhere/sources.txt: the crates, and each file with its SHA-256
-    sources.py ROOT --check      whether anywhere/sources.txt is of the sources that stand here: its status is 1 if not
+    sources.py ROOT --code       the sum of what the programs' modules are built of; anywhere/STATE has that of its modules
 
 In the sums of code, definitions, contracts, comments and proofs are left out: no byte of a module depends on them.
 """
@@ -83,27 +81,9 @@ def sum_of(root, what):
     return sums.hexdigest()
 
 
-def listed(root):
-    """The lines of anywhere/sources.txt that tell the sources."""
-    files = [f"{hashlib.sha256(content(f'{root}/{path}')).hexdigest()}  {path}" for path in files_of(root, "--code")]
-    return [f"# crates: {' '.join(crates_below(root, PROGRAMS))}", f"# code: {sum_of(root, '--code')}"] + files
-
-
-def is_current(root):
-    """Whether the lines of anywhere/sources.txt are those of these sources; further lines begin with `# module`."""
-    path = f"{root}/anywhere/sources.txt"
-    if not os.path.exists(path):
-        return False
-    with open(path, encoding="utf-8") as it:
-        lines = [line for line in it.read().splitlines() if not line.startswith("# module")]
-    return lines == listed(root)
-
-
 def main():
     root, what = sys.argv[1:3]
-    if what == "--check":
-        sys.exit(0 if is_current(root) else 1)
-    print("\n".join(listed(root)) if what == "--list" else sum_of(root, what))
+    print(sum_of(root, what))
 
 
 if __name__ == "__main__":

@@ -2,7 +2,7 @@
 import { spawnSync } from "node:child_process";
 import { existsSync, readFileSync } from "node:fs";
 import { file_of } from "./program.mjs";
-import { ROOT, state } from "./sources.mjs";
+import { ROOT, made_of, state } from "./sources.mjs";
 import { write_all } from "./streams.mjs";
 
 const WAYS = "./xv --build proves and builds, ./xv --unproved builds without proofs";
@@ -13,7 +13,10 @@ export const help = () => text_of("programs/host/help.txt");
 
 const are_there = () => ["xv_run", "xv_tools"].every((name) => existsSync(file_of(name)));
 
-/** What is known of the modules, and whether they run: {runs, text}. If they don't, the text has the ways on. */
+/**
+ * What is known of the modules, and whether they run: {runs, text}. If they don't, the text has the ways on. If they run and are of
+ * another state than the code here, `warning` says of which.
+ */
 export function status() {
   const node = `Node ${process.versions.node}`;
   const known = are_there() ? state() : "missing";
@@ -21,7 +24,10 @@ export function status() {
     case "release": return { runs: true, text: `${node} runs the modules of this release, which were made of proved builds` };
     case "current": return { runs: true, text: `${node} runs the modules in anywhere/, which are of these sources` };
     case "others": return { runs: true, text: `${node} runs the modules in ${process.env.XV_MODULES} (XV_MODULES): nobody knows of which sources they are` };
-    case "changed": return { runs: false, text: `the sources have changed since the modules in anywhere/ were made: ${WAYS}` };
+    case "changed": {
+      const warning = `the modules are of an earlier state than the code here: ${made_of()}`;
+      return { runs: true, warning, text: `${node} runs; ${warning}: ${WAYS}` };
+    }
     case "unknown": return { runs: false, text: `nobody knows of which sources the modules in anywhere/ are: ${WAYS}` };
     default: return { runs: false, text: `there is no module ${file_of("xv_run")}, or none beside it: a release has both; in a clone ${WAYS}` };
   }

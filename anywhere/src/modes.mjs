@@ -79,6 +79,7 @@ export function main() {
   if (mode === null) return say(`${modes.find((it) => it !== modes[0])} doesn't go with ${modes[0]}`, REFUSED);
   const known = status();
   if (!known.runs) return say(known.text, NOTHING_RUNS);
+  if (known.warning) say(known.warning);
   const taken = as_taken(mode === "--why" && modes.includes("--explain") ? ["--explain", ...rest] : rest);
   const kind = mode ?? (are_for_terminal(taken) ? "terminal" : "run");
   const looked = looked_at(kind, taken, (text) => say(text));
