@@ -1,0 +1,65 @@
+"""Compares what is written by hand of the kernel calls with the one table of them, crates/kernel_calls:
+
+    python3 -B checks/calls.py [--write]
+
+The numbers and names of programs/c/lib/calls.S, of the prototypes in unistd.h beside it, and of the table in the manual's
+docs/manual/machine.md are to be those of the table, with as many arguments. --write writes the lines of calls.S. The status is 1
+if something differs.
+"""
+import pathlib
+import re
+import sys
+
+TOP = pathlib.Path(__file__).resolve().parents[1]
+TABLE, CODE = TOP / "crates/kernel_calls/src/call.rt", TOP / "programs/c/lib/calls.S"
+HEADER, MANUAL = TOP / "programs/c/lib/unistd.h", TOP / "docs/manual/machine.md"
+
+
+def calls():
+    """The calls by their numbers: (number, name, how many arguments)."""
+    text = TABLE.read_text(encoding="utf-8")
+    arms = {word: re.findall(rf"{word} => ([^,\n]+),", text) for word in re.findall(r"KernelCall::(\w+),\n", text)}
+    lists = re.findall(r"((?:KernelCall::\w+(?: \| )?)+) => (?:\{\s*)?&\[(.*?)\]", text, re.S)
+    arguments = {word: items.count("Argument::") for words, items in lists for word in re.findall(r"::(\w+)", words)}
+    return sorted((int(number), name.strip('"'), arguments[word]) for word, (number, name, *_) in arms.items())
+
+
+def code_of(table):
+    """The lines of calls.S that name the calls."""
+    return "".join(f"    kernel_function {name}, {number}\n" for number, name, _ in table)
+
+
+def told_in_manual():
+    """The calls of the manual's table, in the same form."""
+    rows = re.findall(r"^\| (\d+) \| (\w+)(?:\(([^)]*)\))? \|", MANUAL.read_text(encoding="utf-8"), re.M)
+    return [(int(number), name, len(words.split(",")) if words else 0) for number, name, words in rows]
+
+
+def prototypes():
+    """How many arguments each function of unistd.h has."""
+    found = re.findall(r"(\w+)\(((?:[^()]|\[\])*)\);", HEADER.read_text(encoding="utf-8"))
+    return {name: 0 if words == "void" else words.count(",") + 1 for name, words in found}
+
+
+def main(words):
+    if words not in ([], ["--write"]):
+        print("usage: checks/calls.py [--write]", file=sys.stderr)
+        return 2
+    table, wrong = calls(), []
+    code = CODE.read_text(encoding="utf-8")
+    lines = re.compile(r"(?: +kernel_function \w+, \d+\n)+")
+    written = lines.sub(lambda _: code_of(table), code, count=1)
+    if words:
+        CODE.write_text(written, encoding="utf-8")
+    elif written != code:
+        wrong.append("calls.S has other numbers or names: checks/calls.py --write")
+    if told_in_manual() != table:
+        wrong.append(f"docs/manual/machine.md has another table: {sorted(set(told_in_manual()) ^ set(table))}")
+    of_header = prototypes()
+    wrong += [f"unistd.h has no {name} of {count} arguments" for _, name, count in table if of_header.get(name) != count]
+    print(*(f"calls: {it}" for it in wrong or [f"{len(table)} of them, with the same numbers, names and arguments everywhere"]), sep="\n")
+    return 1 if wrong else 0
+
+
+if __name__ == "__main__":
+    sys.exit(main(sys.argv[1:]))
