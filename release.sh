@@ -111,7 +111,7 @@ TEACHER=$room/teacher/$name
 mkdir -p "$RELEASE" "$TEACHER"
 
 # What the commit holds of it.
-git archive HEAD xv xv.mjs xv.cmd package.json anywhere README.md CONTRIBUTING.md LICENSE VERSION CHANGELOG.md docs programs \
+git archive HEAD xv xv.mjs xv.cmd package.json bin anywhere README.md CONTRIBUTING.md LICENSE VERSION CHANGELOG.md docs programs \
     page/nektavoly.html checks/sessions checks/why checks/c-programs checks/terminal checks/debugger checks/gdb checks/gdb.sh \
     checks/grading checks/programs.sh checks/parts.sh |
     tar -x -C "$RELEASE"
@@ -123,14 +123,13 @@ rm -rf "$RELEASE/anywhere/build" "$RELEASE/anywhere/try" "$RELEASE"/anywhere/*.s
 
 # A program's own file lies in libexec/. Those that are other names of xv_tools are scripts there. bin/ has a script of each
 # name, which knows --version.
-mkdir "$RELEASE/bin" "$RELEASE/libexec"
+mkdir "$RELEASE/libexec"
 for main in crates/*/src/main.rt; do
     program=$(basename "${main%/src/main.rt}")
     cp "crates/$program/out/$program" "$RELEASE/libexec/"
 done
 for script in bin/*; do
     program=${script#bin/}
-    cp "$RELEASE/programs/host/launch.sh" "$RELEASE/$script"
     [ ! -e "$RELEASE/libexec/$program" ] || continue
     cat >"$RELEASE/libexec/$program" <<END
 #!/bin/sh

@@ -1,4 +1,4 @@
-// What xv tells of itself: help, the version, and which modules would run.
+// What xv tells of itself: the version, and which modules would run.
 import { spawnSync } from "node:child_process";
 import { existsSync, readFileSync } from "node:fs";
 import { file_of } from "./program.mjs";
@@ -8,8 +8,6 @@ import { write_all } from "./streams.mjs";
 const WAYS = "./xv --build proves and builds, ./xv --unproved builds without proofs";
 
 const text_of = (name) => readFileSync(ROOT + name, "utf8");
-
-export const help = () => text_of("programs/host/help.txt");
 
 const are_there = () => ["xv_run", "xv_tools"].every((name) => existsSync(file_of(name)));
 

@@ -4,10 +4,10 @@ import { isatty } from "node:tty";
 import { is_release, tell_version } from "./about.mjs";
 import { module_of, run } from "./program.mjs";
 import { at_terminal } from "./terminal.mjs";
-import { as_taken, before_end, own_words } from "./words.mjs";
+import { as_taken, options_of, own_words, parts_of } from "./words.mjs";
 
 /** Whether the words leave it to this program to prepare the terminal. */
-const is_to_prepare = (words) => isatty(0) && !before_end(words).includes("--terminal");
+const is_to_prepare = (words) => isatty(0) && !options_of(parts_of(words)).some(({ name }) => name === "--terminal");
 
 /** Runs the program of this name with the words of this process, and gives the exit status. */
 export function main(name) {

@@ -30,9 +30,16 @@ export function file_of(name) {
   return join(process.env.XV_MODULES || FOLDER, name === "xv_run" ? "xv_run.wasm" : "xv_tools.wasm");
 }
 
-/** The module that has the program of this name. */
+const compiled = new Map();
+
+/** The module that has the program of this name. It is compiled once. */
 export function module_of(name) {
   const file = file_of(name);
+  if (!compiled.has(file)) compiled.set(file, compile(file));
+  return compiled.get(file);
+}
+
+function compile(file) {
   if (!existsSync(file)) throw new Error(`there is no module ${file}: a release has it, and in a clone anywhere/build.sh makes it`);
   try {
     return new WebAssembly.Module(readFileSync(file));

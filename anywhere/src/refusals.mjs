@@ -1,61 +1,41 @@
-// What speaks against words before a program gets them, said with what to do, as programs/host/refusals.sh says it: options of
-// other modes, FILEs that can't be, the assembler's mistakes, all of them up to twenty, and words without an init.
-import { copyFileSync, existsSync, mkdtempSync, readFileSync, rmSync, statSync } from "node:fs";
+// What speaks against words before a program gets them, said with what to do: options of other modes, FILEs that can't be, the
+// assembler's mistakes, all of them up to twenty, and words without an init. The texts are those of programs/host/words.txt, and
+// programs/host/refusals.sh says them natively.
+import { copyFileSync, existsSync, mkdtempSync, readFileSync, rmSync, statSync, writeFileSync } from "node:fs";
 import { tmpdir } from "node:os";
 import { join } from "node:path";
 import { module_of, path_of, run } from "./program.mjs";
-import { kinds_of } from "./words.mjs";
+import { MODES, OPTIONS, option_of, options_of, rows_of, said, takes } from "./words.mjs";
 
-const MOST_FILES = 64, MOST_NAME_BYTES = 14, MOST_MISTAKES = 20;
-const WORDS_REFUSED = 1, FILE_REFUSED = 2;
-const ALL = ["run", "terminal", "--why", "--explain", "--picture", "--debug", "--gdb"];
-const SESSION = ["terminal"], GDB = ["--gdb"], CALLS = ["--explain"];
-
-/** The kinds that take an option. */
-const TAKERS = {
-  "--frames": ALL, "--rounds": ["run", "--why", "--explain", "--picture"], "--quantum": ["run", "--why", "--explain", "--picture", "--gdb"],
-  "--trace": ["run", "terminal", "--why", "--explain", "--debug"],
-  "--budget": ["--why", "--explain", "--picture"],
-  "--pid": CALLS, "--call": CALLS, "--failed": CALLS, "--count": CALLS, "--explain": ["--why"],
-  "--tick": SESSION, "--record": SESSION, "--replay": SESSION,
-  "--most": GDB, "--keys": GDB, "--type": GDB, "--file": GDB, "--commands": GDB,
-  "--notes": ["--why"],
-};
-
-const MEANINGS = {
-  UnknownWord: "no word of the assembler, or none of this section",
-  BadOperand: "an operand is missing, is one too many, or hasn't the form that the word asks for",
-  OutOfRange: "a number or a distance is outside its range",
-  DuplicateLabel: "an earlier line has this label too",
-  UnknownLabel: "no line has the label that is named",
-};
+const MOST = rows_of("most"), KINDS = rows_of("kind"), MEANINGS = rows_of("mistake");
+const SOURCE = "dev/source.s";
 
 /** Why words are refused: texts, and the status. */
 class Refused extends Error {
-  constructor(status, ...texts) {
-    super(texts.join("\n"));
-    this.texts = texts;
-    this.status = status;
+  constructor(...its) {
+    super(its.map(({ text }) => text).join("\n"));
+    this.texts = its.map(({ text }) => text);
+    this.status = its[0].status;
   }
 }
 
-const refuse = (text) => {
-  throw new Refused(FILE_REFUSED, text);
+const refuse = (name, ...words) => {
+  throw new Refused(said(name, ...words));
 };
 
 /** Kinds in words: `a run in rounds, --why and --gdb`. */
 function in_words(kinds) {
-  const words = kinds.map((it) => ({ run: "a run in rounds", terminal: "a session at a terminal" })[it] ?? it);
+  const words = kinds.map((kind) => KINDS.get(kind).replace(/^\S+ /, ""));
   return words.length < 2 ? words.join("") : `${words.slice(0, -1).join(", ")} and ${words.at(-1)}`;
 }
 
-function look_at_option(kind, option) {
-  if (kind === "--debug" && option === "--prompt") return; // the line editor gives it
-  const takers = TAKERS[option];
-  if (!takers) throw new Refused(WORDS_REFUSED, `there is no option ${option}: ./xv --help tells those that there are`);
-  if (takers.includes(kind)) return;
-  const made_by = kind === "run" ? " (which --rounds and --quantum ask for)" : "";
-  throw new Refused(WORDS_REFUSED, `${option} isn't for ${in_words([kind])}${made_by}: it is for ${in_words(takers)}`);
+function look_at_option(kind, part) {
+  const { name, value } = option_of(part), option = OPTIONS.get(name);
+  if (value !== undefined && (MODES.includes(name) || (option && !option.value))) refuse("no-value", name);
+  if (!option?.takers.length) refuse("no-option", name);
+  if (takes(kind, name)) return;
+  if (kind === "run") refuse("not-in-rounds", name, in_words(option.takers));
+  refuse("other-kind", name, in_words([kind]), in_words(option.takers));
 }
 
 /** What stands at a path: nothing, or what the host tells. */
@@ -68,92 +48,101 @@ function about(path) {
 }
 
 /** The name of the program that a FILE gives. */
-const name_of = (file) => path_of(file).split("/").at(-1).replace(/\.s$/, "");
+export const name_of = (file) => path_of(file).split("/").at(-1).replace(/\.s$/, "");
 
-/** The first mistake in a source, [line, kind]; null if there is none. */
-function first_mistake(module, source) {
-  const path = "dev/source.s";
+/** The bytes of a FILE. */
+function bytes_of(file) {
+  try {
+    return readFileSync(file);
+  } catch {
+    return refuse("unread", file, "cannot be read");
+  }
+}
+
+/** What the assembler says of a source first: {line, kind}, or {why} it can't be read; null if it says nothing. */
+function first_mistake(source) {
   let told = "";
-  run(module, "xv_run", ["--rounds", "0", "--", `/${path}`], { files: { [path]: source }, input: () => [], output() {}, errors: (bytes) => { told += bytes; } });
-  const found = /: line (\d+): ([A-Za-z]+)\n/.exec(told);
-  return found && [Number(found[1]), found[2]];
+  run(module_of("xv_run"), "xv_run", ["--rounds", "0", "--", `/${SOURCE}`], { files: { [SOURCE]: source }, input: () => [], output() {}, errors: (bytes) => { told += bytes; } });
+  const [, line, kind, why] = /: line (\d+): ([A-Za-z]+)\n|: (too long|not text)\n/.exec(told) ?? [];
+  return told && (kind ? { line: Number(line), kind } : why ? { why } : null);
 }
 
 const LABEL = /^\s*[A-Za-z_]\w*:/;
 
 /** Refuses a source with the assembler's mistakes, if there are any: a line that was told is left out, but for its label. */
 function look_at_source(file) {
-  const source = readFileSync(file).toString("latin1").split("\n");
-  const module = module_of("xv_run"), texts = [];
+  const source = bytes_of(file).toString("latin1").split("\n"), told = [];
   for (;;) {
-    const mistake = first_mistake(module, Buffer.from(source.join("\n"), "latin1"));
+    const mistake = first_mistake(Buffer.from(source.join("\n"), "latin1"));
     if (!mistake) break;
-    if (texts.length === MOST_MISTAKES) {
-      texts.push("and there are more");
+    const { line, kind, why } = mistake;
+    if (why) refuse("unread", file, why);
+    if (told.length === Number(MOST.get("mistakes"))) {
+      told.push(said("more-mistakes"));
       break;
     }
-    const [line, kind] = mistake, text = source[line - 1];
+    const text = source[line - 1], label = LABEL.exec(text)?.[0] ?? "";
     const shown = Buffer.from(text.trim().replace(/[ \t]*#.*$/, ""), "latin1").toString();
-    texts.push(`${file}:${line}: ${shown}: ${MEANINGS[kind]} (${kind})`);
-    const label = LABEL.exec(text)?.[0] ?? "";
+    told.push(said("mistake", file, line, shown, MEANINGS.get(kind), kind));
     source[line - 1] = kind === "DuplicateLabel" ? text.slice(label.length) : label;
   }
-  if (texts.length > 0) throw new Refused(FILE_REFUSED, ...texts);
+  if (told.length > 0) throw new Refused(...told);
 }
 
 /** Looks at a FILE; `before` has the names before it, and the FILEs that give them. */
 function look_at_file(file, before) {
+  if (file === "") refuse("empty");
   const there = about(file);
-  if (there?.isDirectory()) refuse(`${file} is a folder: name the files in it, as ${file.replace(/\/$/, "")}/*`);
-  if (!there) refuse(`${file}: there is no such file`);
-  const name = name_of(file), bytes = Buffer.byteLength(name);
-  if (bytes === 0) refuse(`${file} has no name before its .s: give it one`);
-  if (bytes > MOST_NAME_BYTES) refuse(`the name ${name} has ${bytes} bytes, and ${MOST_NAME_BYTES} fit: give the file a shorter one`);
-  if (name === "console") refuse(`${file}: no program may be named console, which is the terminal's name`);
-  if (before.has(name)) refuse(`two FILES give a program named ${name}, ${before.get(name)} and ${file}: leave one out, or rename it`);
+  if (there?.isDirectory()) refuse("folder", file, file.replace(/\/$/, ""));
+  if (!there) refuse("missing", file);
+  const name = name_of(file), bytes = Buffer.byteLength(name), most = Number(MOST.get("name-bytes"));
+  if (bytes === 0) refuse("nameless", file);
+  if (bytes > most) refuse("long-name", name, bytes, most);
+  if (name === "console") refuse("console", file);
+  if (before.has(name)) refuse("same-name", name, before.get(name), file);
   before.set(name, file);
-  if (before.size > MOST_FILES) refuse(`there are more FILES than fit, which are ${MOST_FILES}`);
+  if (before.size > Number(MOST.get("files"))) refuse("many-files", MOST.get("files"));
   if (file.endsWith(".s") && there.isFile()) look_at_source(file);
 }
 
 /** A copy of a FILE that is named init, with what is for debuggers. It goes when this process ends. */
 function copy_as_init(file) {
+  const bytes = bytes_of(file), most = Number(MOST.get("file-bytes"));
+  if (bytes.length > most) refuse("too-long", file, most);
   const folder = mkdtempSync(join(tmpdir(), "xv-"));
   process.on("exit", () => rmSync(folder, { recursive: true, force: true }));
   const copy = join(folder, file.endsWith(".s") ? "init.s" : "init");
-  copyFileSync(file, copy);
+  writeFileSync(copy, bytes);
   if (existsSync(`${file}.debug`)) copyFileSync(`${file}.debug`, `${copy}.debug`);
   return path_of(copy);
 }
 
-/** The words with an init among their FILEs: a single FILE is taken as init. */
-function with_init(words, kinds, names, say) {
-  if (names.size === 0 || names.has("init")) return words;
-  if (names.size > 1) refuse("no FILE is named init, which runs first: name a program so, or begin with programs/bin/init programs/bin/sh");
-  const place = kinds.indexOf("file"), file = words[place];
-  if (!about(file).isFile()) return words;
-  if (file.endsWith(".c")) refuse(`${file} is a source in C: programs/c/build.sh makes a program of it`);
-  const by_shell = names.has("sh") ? "" : `. By the shell it runs so: ./xv programs/bin/init programs/bin/sh ${file}`;
-  say(`no FILE is named init: ${file} is taken as init${by_shell}`);
+/** The parts with an init among their FILEs: a single FILE is taken as init. */
+function with_init(parts, names, say) {
+  if (names.size === 0 || names.has("init")) return parts;
+  if (names.size > 1) refuse("no-init");
+  const [[name, file]] = names, there = about(file);
+  if (!there.isFile() && !there.isFIFO()) refuse("not-plain", file);
+  if (file.endsWith(".c")) refuse("in-c", file);
+  say(said(name === "sh" ? "shell-as-init" : "as-init", file, file).text);
   const copy = copy_as_init(file);
-  return words.map((word, at) => (at === place ? copy : word));
+  return parts.map((part) => (part.kind === "file" ? { ...part, word: copy } : part));
 }
 
 /**
- * Looks at words for a kind: run, terminal, --why, --explain, --picture, --debug or --gdb. Gives the words that a program is to get, or
- * the status with which they are refused. `say` gets each text. What it knows nothing of, as the numbers of options, it leaves
- * to the programs.
+ * Looks at the parts of words for a kind: run, terminal, or a mode. Gives the parts that a program is to get, or the status with
+ * which they are refused. `say` gets each text. What it knows nothing of, as the numbers of options, it leaves to the programs.
  */
-export function looked_at(kind, words, say) {
-  const kinds = kinds_of(words), names = new Map();
-  if (words.some((word, place) => kinds[place] === "option" && ["-h", "--help"].includes(String(word)))) return { words };
-  if (words.some((word) => typeof word !== "string")) return { words };
+export function looked_at(kind, parts, say) {
+  const names = new Map();
+  if (options_of(parts).some(({ name }) => ["-h", "--help"].includes(name))) return { parts };
+  if (parts.some(({ word, value }) => typeof word !== "string" || typeof (value ?? "") !== "string")) return { parts };
   try {
-    words.forEach((word, place) => {
-      if (kinds[place] === "option") look_at_option(kind, word.split("=")[0]);
-      if (kinds[place] === "file") look_at_file(word, names);
-    });
-    return { words: with_init(words, kinds, names, say) };
+    for (const part of parts) {
+      if (part.kind === "option") look_at_option(kind, part);
+      if (part.kind === "file") look_at_file(part.word, names);
+    }
+    return { parts: with_init(parts, names, say) };
   } catch (error) {
     if (!(error instanceof Refused)) throw error;
     error.texts.forEach(say);

@@ -10,7 +10,7 @@ import { Keys } from "./keys.mjs";
 import { lines_of } from "./lines.mjs";
 import { module_of, run } from "./program.mjs";
 import { read_some, write_all } from "./streams.mjs";
-import { before_end } from "./words.mjs";
+import { value_of } from "./words.mjs";
 
 const NAME = "xv_terminal";
 const ITSELF = fileURLToPath(new URL("../../xv.mjs", import.meta.url));
@@ -107,15 +107,9 @@ function attend(module, words, files) {
   });
 }
 
-/** The path behind --record, if it stands among the words. */
-function record_among(words) {
-  const options = before_end(words), place = options.indexOf("--record");
-  return place >= 0 ? options[place + 1] : options.find((word) => word.startsWith("--record="))?.slice("--record=".length);
-}
-
 /** Whether the record may be written: one that is there is written over only if the person at the terminal says so. */
 function may_record(words) {
-  const record = record_among(words);
+  const record = value_of(words, "--record");
   if (!record || !existsSync(record) || statSync(record).size === 0) return true;
   write_all(2, `${record} is there. Write over it? (y or n) `);
   return ["y", "yes"].includes(read_some(0).toString().trim());

@@ -1,9 +1,43 @@
-// The words of a command line: their bytes, which of them are modes, options and FILEs, and what Windows leaves to programs.
+// The words of a command line, as the table programs/host/words.txt tells them (programs/host/words.sh reads it too): their bytes, which
+// of them are modes, options and FILEs, and what Windows leaves to programs.
 import { readFileSync, readdirSync } from "node:fs";
 
-const NUMBERS = ["--frames", "--rounds", "--quantum", "--trace", "--budget", "--tick", "--most", "--pid"];
-const PATHS = ["--record", "--replay", "--lines", "--keys", "--file", "--commands"];
-const VALUED = [...NUMBERS, ...PATHS, "--type", "--call"];
+const LINES = readFileSync(new URL("../../programs/host/words.txt", import.meta.url), "utf8").split(/\r?\n/);
+const ROWS = LINES.map((line) => /^([a-z]+) (\S+) ?(.*)$/.exec(line)).filter(Boolean).map(([, type, name, rest]) => ({ type, name, rest }));
+
+/** The rows of a type, by their names: what stands after the name. */
+export const rows_of = (type) => new Map(ROWS.filter((row) => row.type === type).map(({ name, rest }) => [name, rest]));
+
+/** The options: what their value is (null for none), and the kinds that take them. */
+export const OPTIONS = new Map([...rows_of("option")].map(([name, rest]) => {
+  const [value, ...takers] = rest.split(" ");
+  return [name, { value: value === "-" ? null : value, takers }];
+}));
+
+const KINDS = [...rows_of("kind").keys()];
+/** The kinds that are words of xv. */
+export const MODES = KINDS.filter((kind) => kind.startsWith("--"));
+
+/** Whether a kind takes an option. */
+export const takes = (kind, option) => OPTIONS.get(option)?.takers.includes(kind) ?? false;
+
+const SAID = rows_of("say");
+
+/** The text of a name in the table, with these words in it, and its status. */
+export function said(name, ...words) {
+  const [, status, text] = /^(\d+) (.*)$/.exec(SAID.get(name));
+  return { status: Number(status), text: text.replace(/%s/g, () => words.shift()) };
+}
+
+/** The help: `{KIND}` stands for the options that a kind takes, `{only KIND}` for those that no other kind takes. */
+export function help() {
+  const shown = ([name, { value }]) => (value ? `${name} ${value}` : name);
+  const of_kind = (kind) => [...OPTIONS].filter(([, { takers }]) => takers.includes(kind));
+  const only = (kind) => of_kind(kind).filter(([, { takers }]) => takers.length === 1).map(shown).join(", ");
+  const all = (kind) => of_kind(kind).map((it) => `[${shown(it)}]`).join(" ");
+  const lines = LINES.filter((line) => line.startsWith("help")).map((line) => `${line.slice(5)}\n`);
+  return lines.join("").replace(/\{(only )?(\S+)\}/g, (_, is_only, kind) => (is_only ? only(kind) : all(kind)));
+}
 
 /**
  * The words of this process. Node reads bytes that aren't UTF-8 as U+FFFD: where one stands, the word is taken as it came, as a
@@ -21,37 +55,46 @@ export function own_words() {
   }
 }
 
-/** What each word is: "option", "value" of the option before it, "end" of the options, or "file". */
-export function kinds_of(words) {
-  let has_ended = false, before = "";
-  return words.map(String).map((word) => {
-    const is_value = VALUED.includes(before);
-    before = is_value || has_ended ? "" : word;
-    if (is_value) return "value";
-    if (has_ended) return "file";
-    has_ended = word === "--";
-    return has_ended ? "end" : word.startsWith("-") && word !== "-" ? "option" : "file";
+/**
+ * What the words are, each a part {kind, word}: "option", which has its `value`, if it takes one and a word follows; "end" of the
+ * options; or "file".
+ */
+export function parts_of(words) {
+  const parts = [];
+  let before = null, has_ended = false;
+  for (const word of words) {
+    const text = String(word);
+    if (before) before.value = word;
+    else if (has_ended || !/^-./s.test(text)) parts.push({ kind: "file", word });
+    else parts.push({ kind: text === "--" ? "end" : "option", word });
+    has_ended ||= parts.at(-1).kind === "end";
+    before = !before && parts.at(-1).kind === "option" && OPTIONS.get(text)?.value ? parts.at(-1) : null;
+  }
+  return parts;
+}
+
+/** The words of parts. A value with a dash, as a negative number, stands in one word with its option: so it is no option itself. */
+export function words_of(parts) {
+  return parts.flatMap(({ word, value }) => {
+    if (value === undefined) return [word];
+    return /^-[^-]/.test(value) ? [`${word}=${value}`] : [word, value];
   });
 }
 
-/** The words before the end of the options. */
-export function before_end(words) {
-  const end = words.map(String).indexOf("--");
-  return words.slice(0, end < 0 ? words.length : end).map(String);
+/** The name of an option's part, and its value, whichever way it stands. */
+export function option_of({ word, value }) {
+  const [name] = String(word).split("=", 1);
+  return { name, value: value ?? (String(word).includes("=") ? word.slice(name.length + 1) : undefined) };
 }
+
+/** The options among parts, [{name, value}]. */
+export const options_of = (parts) => parts.filter(({ kind }) => kind === "option").map(option_of);
+
+/** The value of an option among words: that of the last, if it stands there more than once. */
+export const value_of = (words, option) => options_of(parts_of(words)).findLast(({ name }) => name === option)?.value;
 
 /** The FILEs among the words. */
-export function files_of(words) {
-  const kinds = kinds_of(words);
-  return words.filter((_, place) => kinds[place] === "file");
-}
-
-/** The words without those that are one of these modes, and the modes that were there. */
-export function without_modes(words, modes) {
-  const options = before_end(words).length;
-  const is_mode = (word, place) => place < options && modes.includes(String(word));
-  return { modes: words.filter(is_mode).map(String), rest: words.filter((word, place) => !is_mode(word, place)) };
-}
+export const files_of = (words) => parts_of(words).filter(({ kind }) => kind === "file").map(({ word }) => word);
 
 /** The names that a part of a path with * and ? fits, in a folder: sorted, without those that begin with a dot. */
 function fitting(folder, part) {
@@ -77,11 +120,10 @@ export function expanded(path) {
 /** The words as a program takes them: on Windows paths have slashes, and * and ? stand for the files that fit. */
 export function as_taken(words, is_windows = process.platform === "win32") {
   if (!is_windows) return words;
-  const kinds = kinds_of(words);
-  return words.map(String).flatMap((word, place) => {
-    const with_slashes = word.replaceAll("\\", "/");
-    if (kinds[place] === "file") return expanded(with_slashes);
-    const option = kinds[place] === "value" ? String(words[place - 1]) : word.split("=")[0];
-    return PATHS.includes(option) ? with_slashes : word;
-  });
+  const with_slashes = (word) => String(word).replaceAll("\\", "/");
+  return words_of(parts_of(words).flatMap((part) => {
+    if (part.kind === "file") return expanded(with_slashes(part.word)).map((word) => ({ kind: "file", word }));
+    if (part.kind === "end" || OPTIONS.get(option_of(part).name)?.value !== "PATH") return [part];
+    return [part.value === undefined ? { ...part, word: with_slashes(part.word) } : { ...part, value: with_slashes(part.value) }];
+  }));
 }

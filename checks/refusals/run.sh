@@ -30,8 +30,9 @@ looked_at() {
     if [ "${XV_NODE-}" = yes ]; then
         cat >"$room/look.mjs" <<END
 import { looked_at } from "$root/anywhere/src/refusals.mjs";
+import { parts_of } from "$root/anywhere/src/words.mjs";
 const [kind, ...words] = process.argv.slice(2);
-const looked = looked_at(kind, words, (text) => console.error("xv: " + text));
+const looked = looked_at(kind, parts_of(words), (text) => console.error("xv: " + text));
 process.exit(looked.status ?? 0);
 END
         node "$room/look.mjs" "$kind" "$@"

@@ -9,6 +9,9 @@
 # readelf (Debian: binutils). A FILE that has none gets no row, and so does assembler source: the programs themselves know
 # its lines.
 set -u
+self=$(readlink -f -- "$0")
+here=${self%/*}
+. "$here/words.sh"
 
 # The first of the host's tools that knows the lines of a program.
 tool=:
@@ -43,23 +46,16 @@ $2 ~ /^([0-9]+|-)$/ && $3 ~ /^(0x[0-9a-f]+|0)$/ {
 }'
 }
 
-# The words that are no option, and no value of one, are the FILEs.
-place=0
-before=
-behind=
-for file; do
-    case $behind$before in
-        --frames | --rounds | --quantum | --trace | --budget | --tick | --record | --replay) before= && continue ;;
-    esac
-    before=$file
-    case $behind$file in
-        --) behind=yes && continue ;;
-        -*) continue ;;
+# Tells the lines of a FILE among the words.
+of_part() {
+    [ "$1" = file ] || return 0
+    case $2 in
         *.s) ;;
-        *)
-            [ ! -e "$file.debug" ] || file=$file.debug
-            of_program "$place" "$file"
-            ;;
+        *) if [ -e "$2.debug" ]; then of_program "$place" "$2.debug"; else of_program "$place" "$2"; fi ;;
     esac
     place=$((place + 1))
-done
+}
+
+place=0
+read_table "$here"
+each_part of_part "$@"

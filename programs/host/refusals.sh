@@ -1,45 +1,17 @@
-# Sourced by xv: what speaks against words before a program gets them, said with what to do. (anywhere/src/refusals.mjs says the
-# same by Node, and checks/refusals compares both with one text.)
+# Sourced by xv, after words.sh: what speaks against words before a program gets them, said with what to do. The texts are those of
+# words.txt. (anywhere/src/refusals.mjs says them by Node, and checks/refusals compares both with one text.)
 #
-#   look_at KIND RUN WORD..   looks at the words for KIND: run, terminal, --why, --explain, --picture, --debug or --gdb. RUN is the
-#                             program xv_run, which assembles. It ends with 1 if an option is refused, and with 2 if a FILE is. Else
-#                             $alone is the single FILE that is to be taken as init, or nothing
+#   look_at KIND RUN WORD..   looks at the words for KIND: run, terminal, or a mode. RUN is the program xv_run, which assembles. It
+#                             ends with 1 if an option is refused, and with 2 if a FILE is. Else $alone is the single FILE that is
+#                             to be taken as init, or nothing
 #
 # What it knows nothing of, as the numbers of options, it leaves to the programs.
 # shellcheck shell=sh
 
-MOST_FILES=64
-MOST_NAME_BYTES=14
-MOST_MISTAKES=20
-
-refuse() {
-    status=$1
-    shift
-    printf 'xv: %s\n' "$*" >&2
-    exit "$status"
-}
-
-# The kinds that take an option; `none` for one that no kind takes.
-takers() {
-    case $1 in
-        --frames) echo 'run terminal --why --explain --picture --debug --gdb' ;;
-        --rounds) echo 'run --why --explain --picture' ;;
-        --quantum) echo 'run --why --explain --picture --gdb' ;;
-        --trace) echo 'run terminal --why --explain --debug' ;;
-        --budget) echo '--why --explain --picture' ;;
-        --pid | --call | --failed | --count) echo --explain ;;
-        --explain) echo --why ;;
-        --tick | --record | --replay) echo terminal ;;
-        --most | --keys | --type | --file | --commands) echo --gdb ;;
-        --notes) echo --why ;;
-        *) echo none ;;
-    esac
-}
-
-has_value() {
-    case $1 in
-        --explain | --failed | --count | --notes) return 1 ;;
-    esac
+# A limit of the table.
+most() {
+    row most "$1"
+    echo "$row"
 }
 
 # Kinds in words: `a run in rounds, --why and --gdb`.
@@ -47,80 +19,56 @@ in_words() {
     said=
     for it; do
         shift
-        case $it in
-            run) it='a run in rounds' ;;
-            terminal) it='a session at a terminal' ;;
-        esac
+        row kind "$it"
         case $said$# in
-            ?*0) said="$said and $it" ;;
-            ?*) said="$said${said:+, }$it" ;;
+            ?*0) said="$said and ${row#* }" ;;
+            ?*) said="$said${said:+, }${row#* }" ;;
         esac
     done
     echo "$said"
 }
 
-# Looks at the option $2, which stands among words for $1.
+# Looks at the option $1, which may have the value $2.
 look_at_option() {
-    taken=$(takers "$2")
-    case " $taken " in
-        *" $1 "*) return ;;
-        ' none ') refuse 1 "there is no option $2: ./xv --help tells those that there are" ;;
-    esac
-    case $1 in
-        run) kind=' (which --rounds and --quantum ask for)' ;;
-        *) kind= ;;
-    esac
+    option=${1%%=*}
+    if [ "$option" != "$1" ] && { row kind "$option" || { row option "$option" && ! has_value "$option"; }; }; then
+        refuse no-value "$option"
+    fi
+    row option "$option" || refuse no-option "$option"
+    takers=${row#* }
+    [ "$takers" != "$row" ] || refuse no-option "$option"
+    case " $takers " in *" $for_kind "*) return ;; esac
     # shellcheck disable=SC2086
-    refuse 1 "$2 isn't for $(in_words "$1")$kind: it is for $(in_words $taken)"
+    takers=$(in_words $takers)
+    [ "$for_kind" != run ] || refuse not-in-rounds "$option" "$takers"
+    refuse other-kind "$option" "$(in_words "$for_kind")" "$takers"
 }
 
-# The name of the program that a FILE gives.
-name_of() {
-    name=${1##*/}
-    echo "${name%.s}"
-}
-
-# The first FILE among the words from $2 on that gives a program of the name $1.
+# The first FILE that gives a program of the name $1.
 first_of_name() {
-    wanted=$1
-    shift
-    for it; do
-        [ "$(name_of "$it")" != "$wanted" ] || break
-    done
-    echo "$it"
+    given=${given#*"
+$1/"}
+    echo "${given%%"
+"*}"
 }
 
-# Looks at the FILE $1; the words of the command line follow.
+# Looks at the FILE $1.
 look_at_file() {
     file=$1
-    shift
-    [ ! -d "$file" ] || refuse 2 "$file is a folder: name the files in it, as ${file%/}/*"
-    [ -e "$file" ] || refuse 2 "$file: there is no such file"
+    [ -n "$file" ] || refuse empty
+    [ ! -d "$file" ] || refuse folder "$file" "${file%/}"
+    [ -e "$file" ] || refuse missing "$file"
     name=$(name_of "$file")
     bytes=$(LC_ALL=C; echo "${#name}")
-    [ "$bytes" != 0 ] || refuse 2 "$file has no name before its .s: give it one"
-    [ "$bytes" -le "$MOST_NAME_BYTES" ] ||
-        refuse 2 "the name $name has $bytes bytes, and $MOST_NAME_BYTES fit: give the file a shorter one"
-    [ "$name" != console ] || refuse 2 "$file: no program may be named console, which is the terminal's name"
-    case $names in
-        */"$name"/*) refuse 2 "two FILES give a program named $name, $(first_of_name "$name" "$@") and $file: leave one out, or rename it" ;;
-    esac
-    names=$names$name/
-    files=$((files + 1))
-    [ "$files" -le "$MOST_FILES" ] || refuse 2 "there are more FILES than fit, which are $MOST_FILES"
+    [ "$bytes" != 0 ] || refuse nameless "$file"
+    [ "$bytes" -le "$most_name_bytes" ] || refuse long-name "$name" "$bytes" "$most_name_bytes"
+    [ "$name" != console ] || refuse console "$file"
+    case $names in */"$name"/*) refuse same-name "$name" "$(first_of_name "$name")" "$file" ;; esac
+    names=$names$name/ given="$given
+$name/$file" files=$((files + 1))
+    [ "$files" -le "$most_files" ] || refuse many-files "$most_files"
     case $file in
         *.s) [ ! -f "$file" ] || look_at_source "$file" ;;
-    esac
-}
-
-# What a refusal of the assembler means.
-meaning() {
-    case $1 in
-        UnknownWord) echo 'no word of the assembler, or none of this section' ;;
-        BadOperand) echo "an operand is missing, is one too many, or hasn't the form that the word asks for" ;;
-        OutOfRange) echo 'a number or a distance is outside its range' ;;
-        DuplicateLabel) echo 'an earlier line has this label too' ;;
-        UnknownLabel) echo 'no line has the label that is named' ;;
     esac
 }
 
@@ -129,76 +77,67 @@ meaning() {
 look_at_source() {
     # A source that is right costs no file.
     first_mistake "$1" || return 0
+    case $mistake in [!0-9]*) refuse unread "$1" "$mistake" ;; esac
     copies=$(mktemp -d) || return 0
     cp -- "$1" "$copies/it.s" || return 0
     count=0
     while first_mistake "$copies/it.s"; do
         count=$((count + 1))
-        [ "$count" -le "$MOST_MISTAKES" ] || { say 'and there are more'; break; }
-        text=$(sed -n "${mistake%% *}"'{s/^[ 	]*//; s/[ 	]*#.*$//; s/[ 	]*$//; p; q;}' "$copies/it.s")
-        say "$1:${mistake%% *}: $text: $(meaning "${mistake#* }") (${mistake#* })"
+        [ "$count" -le "$(most mistakes)" ] || { tell more-mistakes; break; }
+        line=${mistake%% *}
+        text=$(sed -n "$line"'{s/^[ 	]*//; s/[ 	]*#.*$//; s/[ 	]*$//; p; q;}' "$copies/it.s")
+        row mistake "${mistake#* }"
+        tell mistake "$1" "$line" "$text" "$row" "${mistake#* }"
         label='[ 	]*[A-Za-z_][A-Za-z0-9_]*:'
         case $mistake in
-            *DuplicateLabel) sed "${mistake%% *}s/^$label//" "$copies/it.s" ;;
-            *) sed "${mistake%% *}{/^$label/!s/.*//; s/^\\($label\\).*/\\1/;}" "$copies/it.s" ;;
+            *DuplicateLabel) sed "${line}s/^$label//" "$copies/it.s" ;;
+            *) sed "$line{/^$label/!s/.*//; s/^\\($label\\).*/\\1/;}" "$copies/it.s" ;;
         esac >"$copies/next"
         mv "$copies/next" "$copies/it.s"
     done
     rm -rf "$copies"
-    exit 2
+    exit "$told"
 }
 
-# The first mistake in the source $1, as `LINE KIND` in $mistake. Fails if there is none.
+# What the assembler says of the source $1 first: `LINE KIND`, or why it can't be read, in $mistake. Fails if it says nothing.
 first_mistake() {
-    mistake=$("$run" --rounds 0 -- "$1" 2>&1 >/dev/null </dev/null | sed -n 's/^xv_run: .*: line \([0-9]*\): \([A-Za-z]*\)$/\1 \2/p')
+    mistake=$("$run" --rounds 0 -- "$1" 2>&1 >/dev/null </dev/null |
+        sed -nE 's/^xv_run: .*: line ([0-9]*): ([A-Za-z]*)$/\1 \2/p; s/^xv_run: .*: (too long|not text|cannot be read)$/\1/p')
     [ -n "$mistake" ]
 }
 
-# Looks whether there is an init among the FILES, of which $1 is one.
+# Looks whether there is an init among the FILES, of which $file is the last.
 look_for_init() {
     alone=
+    case $names in */init/* | /) return ;; esac
+    [ "$files" = 1 ] || refuse no-init
+    [ -f "$file" ] || [ -p "$file" ] || refuse not-plain "$file"
+    case $file in *.c) refuse in-c "$file" ;; esac
+    alone=$file
     case $names in
-        */init/* | /) return ;;
+        /sh/) tell shell-as-init "$file" ;;
+        *) tell as-init "$file" "$file" ;;
     esac
-    [ "$files" = 1 ] ||
-        refuse 2 "no FILE is named init, which runs first: name a program so, or begin with programs/bin/init programs/bin/sh"
-    [ -f "$1" ] || return 0
-    case $1 in
-        *.c) refuse 2 "$1 is a source in C: programs/c/build.sh makes a program of it" ;;
-    esac
-    # shellcheck disable=SC2034
-    alone=$1
-    case $names in
-        /sh/) by_shell= ;;
-        *) by_shell=". By the shell it runs so: ./xv programs/bin/init programs/bin/sh $1" ;;
-    esac
-    say "no FILE is named init: $1 is taken as init$by_shell"
 }
 
+find_help() {
+    case $1$2 in option-h | option--help) helps=yes ;; esac
+}
+
+look_at_part() {
+    case $1 in
+        option) look_at_option "$2" ;;
+        file) look_at_file "$2" ;;
+    esac
+}
+
+# shellcheck disable=SC2034
 look_at() {
-    for_kind=$1 run=$2 names=/ files=0 before='' behind='' file=''
+    for_kind=$1 run=$2 names=/ given='' files=0 file='' helps='' alone=''
+    most_files=$(most files) most_name_bytes=$(most name-bytes)
     shift 2
-    for word; do
-        case $word in
-            --) break ;;
-            -h | --help) return ;;
-        esac
-    done
-    for word; do
-        if [ -n "$before" ]; then
-            before=
-            continue
-        fi
-        case $behind$word in
-            --) behind=yes ;;
-            -?*)
-                look_at_option "$for_kind" "${word%%=*}"
-                before=$word
-                case $word in *=*) before= ;; esac
-                has_value "$word" || before=
-                ;;
-            *) look_at_file "$word" "$@" ;;
-        esac
-    done
-    look_for_init "$file"
+    each_part find_help "$@"
+    [ -z "$helps" ] || return 0
+    each_part look_at_part "$@"
+    look_for_init
 }

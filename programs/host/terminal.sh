@@ -13,7 +13,10 @@ give_up() {
     exit 125
 }
 
-top=$(dirname "$(readlink -f -- "$0")")/../..
+self=$(readlink -f -- "$0")
+here=${self%/*}
+top=${here%/programs/host}
+. "$here/words.sh"
 program=${XV_TERMINAL-$top/bin/xv_terminal}
 "$program" --help >/dev/null 2>&1 || give_up "$program doesn't start: ./xv --build builds it"
 
@@ -28,21 +31,17 @@ fi
 
 [ -t 0 ] || exec "$program" "$@"
 
-# The path behind --record, if it stands among the words.
-record_among() {
-    before=
-    for word; do
-        case $before$word in
-            --record?*) [ "$before" = --record ] && echo "$word" || echo "${word#--record=}" ;;
-            --) return ;;
-        esac
-        before=
-        [ "$word" != --record ] || before=--record
-    done
+command -v stty >/dev/null || give_up "there is no stty on the PATH (Debian: coreutils), by which each key is handed over"
+
+# Notes the path of --record.
+note_record() {
+    case $1${2%%=*} in option--record) value_of "$2" ${3+"$3"} && record=$value ;; esac
 }
 
 # A record that is there is written over only if the person at the terminal says so.
-record=$(record_among "$@")
+record=
+read_table "$here"
+each_part note_record "$@"
 if [ -s "$record" ]; then
     printf '%s is there. Write over it? (y or n) ' "$record" >&2
     read -r answer || answer=
@@ -52,8 +51,7 @@ if [ -s "$record" ]; then
     esac
 fi
 
-command -v stty >/dev/null || give_up "there is no stty on the PATH (Debian: coreutils), by which each key is handed over"
-table=$("$top/programs/host/lines.sh" "$@" 2>/dev/null)
+table=$("$here/lines.sh" "$@" 2>/dev/null)
 before=$(stty -g) || give_up "the terminal doesn't tell how it is set"
 machine=
 restore() {
