@@ -48,12 +48,16 @@ function answered(first) {
   }
 }
 
-/** The one mode that these make: of two one has to be an option of the other. Null if they don't go together. */
+/** The one mode that these make, and those that are options of it; or the two that don't go together. */
 function one_of(modes) {
-  const kinds = [...new Set(modes)];
-  if (kinds.length < 2) return kinds[0];
-  const one = kinds.find((mode) => kinds.every((it) => it === mode || takes(mode, it)));
-  return kinds.length === 2 && one ? one : null;
+  let mode, option;
+  for (const it of modes) {
+    if (mode === undefined || it === mode) mode = it;
+    else if (takes(mode, it)) option = it;
+    else if (takes(it, mode)) [mode, option] = [it, mode];
+    else return { clash: [it, mode] };
+  }
+  return { mode, option };
 }
 
 /** The kind of words without a mode: options that one of both alone takes tell it, and else whether standard input is a terminal. */
@@ -71,16 +75,15 @@ export function main() {
   const all = parts_of(words), is_mode = ({ kind, word }) => kind === "option" && MODES.includes(String(word));
   const foreign = options_of(all).find(({ name }) => OF_THE_KIT.includes(name));
   if (foreign) return tell(said("of-the-kit", foreign.name));
-  const modes = all.filter(is_mode).map(({ word }) => String(word)), mode = one_of(modes);
-  if (mode === null) return tell(said("two-modes", modes.find((it) => it !== modes[0]), modes[0]));
+  const { mode, option, clash } = one_of(all.filter(is_mode).map(({ word }) => String(word)));
+  if (clash) return tell(said("two-modes", ...clash));
   const known = status();
   if (!known.runs) {
     say(known.text);
     return NOTHING_RUNS;
   }
   if (known.warning) say(known.warning);
-  const options = [...new Set(modes)].filter((it) => it !== mode).map((word) => ({ kind: "option", word }));
-  const given = [...options, ...all.filter((part) => !is_mode(part))];
+  const given = [...(option ? [{ kind: "option", word: option }] : []), ...all.filter((part) => !is_mode(part))];
   const kind = mode ?? kind_of(given);
   const { parts, status: refused } = looked_at(kind, given, say);
   if (!parts) return refused;

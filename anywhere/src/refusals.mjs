@@ -107,8 +107,7 @@ function look_at_file(file, before) {
 
 /** A copy of a FILE that is named init, with what is for debuggers. It goes when this process ends. */
 function copy_as_init(file) {
-  const bytes = bytes_of(file), most = Number(MOST.get("file-bytes"));
-  if (bytes.length > most) refuse("too-long", file, most);
+  const bytes = bytes_of(file);
   const folder = mkdtempSync(join(tmpdir(), "xv-"));
   process.on("exit", () => rmSync(folder, { recursive: true, force: true }));
   const copy = join(folder, file.endsWith(".s") ? "init.s" : "init");
@@ -123,9 +122,10 @@ function with_init(parts, names, say) {
   if (names.size > 1) refuse("no-init");
   const [[name, file]] = names, there = about(file);
   if (!there.isFile() && !there.isFIFO()) refuse("not-plain", file);
+  if (there.size > Number(MOST.get("file-bytes"))) refuse("too-long", file, MOST.get("file-bytes"));
   if (file.endsWith(".c")) refuse("in-c", file);
-  say(said(name === "sh" ? "shell-as-init" : "as-init", file, file).text);
   const copy = copy_as_init(file);
+  say(said(name === "sh" ? "shell-as-init" : "as-init", file, file).text);
   return parts.map((part) => (part.kind === "file" ? { ...part, word: copy } : part));
 }
 

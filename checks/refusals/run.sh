@@ -19,10 +19,6 @@ room=$(mktemp -d) || exit 2
 trap 'rm -rf "$room"' EXIT
 mkdir "$room/files" && cd "$room/files" || exit 2
 
-say() {
-    printf 'xv: %s\n' "$*" >&2
-}
-
 # Looks at words for the kind $1.
 looked_at() {
     kind=$1
@@ -38,6 +34,9 @@ END
         node "$room/look.mjs" "$kind" "$@"
     else
         (
+            # shellcheck source=programs/host/words.sh
+            . "$root/programs/host/words.sh"
+            read_table "$root/programs/host"
             # shellcheck source=programs/host/refusals.sh
             . "$root/programs/host/refusals.sh"
             look_at "$kind" "$program" "$@"
@@ -62,6 +61,8 @@ here: nop
 END
 for n in $(seq 25); do echo "wrong$n a0"; done >worse.s
 printf 'nop\n\377' >odd.s
+head -c 1048577 /dev/zero >big
+head -c 1048577 /dev/zero | tr '\0' '#' >big.s
 
 sed -n 's/^\$ //p' "$here/told.txt" | while IFS= read -r line; do
     echo "$ $line"

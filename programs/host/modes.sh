@@ -69,7 +69,7 @@ END
 
 # Whether a FILE is a program: a source, or an ELF file by its first bytes.
 is_program() {
-    case $1 in *.s) return ;; esac
+    case $1 in *.s) return 0 ;; esac
     [ -f "$1" ] && [ "$(head -c 4 -- "$1" 2>/dev/null | tr -d '\0')" = "$(printf '\177ELF')" ]
 }
 

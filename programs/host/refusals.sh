@@ -112,6 +112,8 @@ look_for_init() {
     case $names in */init/* | /) return ;; esac
     [ "$files" = 1 ] || refuse no-init
     [ -f "$file" ] || [ -p "$file" ] || refuse not-plain "$file"
+    [ -r "$file" ] || refuse unread "$file" 'cannot be read'
+    [ ! -f "$file" ] || [ "$(wc -c <"$file")" -le "$(most file-bytes)" ] || refuse too-long "$file" "$(most file-bytes)"
     case $file in *.c) refuse in-c "$file" ;; esac
     alone=$file
     case $names in
