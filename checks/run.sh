@@ -2,9 +2,9 @@
 # The checks beside the proofs: checks/run.sh gives the programs the words that are stored, plays the sessions, also those
 # at a terminal and of the debugger, the stored runs, random programs and random words in rows and by single events, the
 # reports and the conversations with GDB by the programs that are built, reads the lines of all sources a second time,
-# grades submissions, runs the commands that the pages show, looks at their links, at the cases by name and at the numbers of calls, counts what the
-# proofs can do without and what has to be believed, and tells of which state the modules and page/nektavoly.html are, in some 40
-# seconds. The gate does the same after `rt ci`.
+# grades submissions, runs the commands that the pages show, looks at their links, at the cases by name and at the numbers of
+# calls, counts what the proofs can do without, what stands twice and what has to be believed, and tells of which state the
+# modules and page/nektavoly.html are, in some 40 seconds. The gate does the same after `rt ci`.
 # `checks/run.sh --others` tells which other checks there are, how each is called, and how long it takes.
 #
 # `checks/run.sh --node` plays all of that which needs a program by the modules of anywhere/, with Node in place of the native
@@ -86,7 +86,9 @@ longer='checks/stored-runs/run.sh checks/rows/run.sh checks/why/run.sh checks/c-
 # shellcheck disable=SC2086
 case "$*" in
 '')
-    do_all $quick $longer 'python3 -B checks/commands.py' 'python3 -B checks/links.py' 'python3 -B checks/lemmas.py' 'python3 -B checks/closure.py' 'python3 -B checks/cases.py' 'python3 -B checks/calls.py' 'anywhere/is_current.sh --tell' 'page/is_current.sh --tell' checks/shell.sh
+    do_all $quick $longer 'python3 -B checks/commands.py' 'python3 -B checks/links.py' 'python3 -B checks/lemmas.py' \
+        'python3 -B checks/closure.py' 'python3 -B checks/once.py' 'python3 -B checks/cases.py' 'python3 -B checks/calls.py' \
+        'anywhere/is_current.sh --tell' 'page/is_current.sh --tell' checks/shell.sh
     tell_others
     ;;
 --node)

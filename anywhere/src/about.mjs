@@ -5,6 +5,9 @@ import { file_of } from "./program.mjs";
 import { ROOT, made_of, state } from "./sources.mjs";
 import { write_all } from "./streams.mjs";
 
+/** The status that says that nothing could run. */
+export const NOTHING_RUNS = 125;
+
 const WAYS = "./xv --build proves and builds, ./xv --unproved builds without proofs";
 
 const text_of = (name) => readFileSync(ROOT + name, "utf8");

@@ -6,6 +6,7 @@ import { constants } from "node:os";
 import { createInterface } from "node:readline";
 import { PassThrough, Writable } from "node:stream";
 import { StringDecoder } from "node:string_decoder";
+import { NOTHING_RUNS } from "./about.mjs";
 import { read_symbols } from "./lines.mjs";
 import { write_all } from "./streams.mjs";
 import { files_of, own_words } from "./words.mjs";
@@ -14,7 +15,6 @@ const PROMPT = "(xv) ";
 const LABEL = /^\s*([A-Za-z_]\w*):/gm;
 /** A name of printable characters without a blank. A file may hold others, which no prompt shows. */
 const CAN_BE_TYPED = /^[!-~]+$/;
-const NOTHING_RUNS = 125;
 
 /** The words of the program, from what it says to `help`, and the goals of its word `until`. */
 function words_of(command, args) {
