@@ -15,12 +15,26 @@ def checked(home):
     return subprocess.run(["rt", "check", "--allow-holes"], cwd=home, **how)
 
 
-def show(head, lines):
+def part(head, lines):
     """A part of the answer, with its first lines, if there are any."""
-    if lines:
-        print(f"{head}:", *lines[:SHOWN], sep="\n    ")
-    if len(lines) > SHOWN:
-        print(f"    and {len(lines) - SHOWN} more")
+    more = [f"    and {len(lines) - SHOWN} more"] if len(lines) > SHOWN else []
+    return [f"{head}:", *(f"    {it}" for it in lines[:SHOWN]), *more] if lines else []
+
+
+def lines_of(text, home):
+    """Why a crate isn't proved, of what a check says of it, in lines. home is the crate's folder."""
+    refused, functions, places = list(said.refusals(text)), list(said.open_functions(text, home)), said.places(text)
+    ended = [] if refused or functions or said.errors_in_code(text) else text.strip().split("\n")[-SHOWN:]
+    return [
+        *part("Definitions that can't be read", [str(it) for it in refused if it.file.startswith("specs/")]),
+        *part("Code that can't be read", said.errors_in_code(text)),
+        *part("Worked cases", [f"{it.name}: {it.why}  ({it.file}:{it.line})" for it in refused if it.is_worked]),
+        *part("What functions promise", [f"{it.name}: {', '.join(it.clauses)}{places.get(it.goals[0], '')}" for it in functions if it.clauses]),
+        *part("Other goals of functions", [f"{it.name}: {', '.join(it.goals)}{places.get(it.goals[0], '')}" for it in functions if it.goals and not it.clauses]),
+        *part("Lemmas", [str(it) for it in refused if it.file.startswith("proofs/") and not it.is_worked]),
+        *part("Functions that stand on what is open", [it.name for it in functions if not it.goals]),
+        *part("The check ended with", ended),
+    ]
 
 
 def main(words):
@@ -37,16 +51,7 @@ def main(words):
     if is_proved:
         print(f"{home.name} is proved")
         return 0
-    refused, functions, places = list(said.refusals(text)), list(said.open_functions(text, home)), said.places(text)
-    show("Definitions that can't be read", [str(it) for it in refused if it.file.startswith("specs/")])
-    show("Code that can't be read", said.errors_in_code(text))
-    show("Worked cases", [f"{it.name}: {it.why}  ({it.file}:{it.line})" for it in refused if it.is_worked])
-    show("What functions promise", [f"{it.name}: {', '.join(it.clauses)}{places.get(it.goals[0], '')}" for it in functions if it.clauses])
-    show("Other goals of functions", [f"{it.name}: {', '.join(it.goals)}{places.get(it.goals[0], '')}" for it in functions if it.goals and not it.clauses])
-    show("Lemmas", [str(it) for it in refused if it.file.startswith("proofs/") and not it.is_worked])
-    show("Functions that stand on what is open", [it.name for it in functions if not it.goals])
-    if not refused and not functions and not said.errors_in_code(text):
-        show("The check ended with", text.strip().split("\n")[-SHOWN:])
+    print(*lines_of(text, home), sep="\n")
     return 1
 
 

@@ -1,0 +1,617 @@
+"""Proves what differs from a revision, over libraries that a gate left; see since.sh."""
+import fcntl
+import json
+import os
+import pathlib
+import re
+import shutil
+import signal
+import subprocess
+import sys
+import threading
+import time
+from concurrent.futures import ThreadPoolExecutor
+
+import base
+import edits
+import why
+
+TOP = base.TOP
+BEGUN = time.monotonic()
+PRINTING = threading.Lock()
+
+
+def say(*lines):
+    with PRINTING:
+        print(*lines, sep="\n", flush=True)
+
+
+def lasted(seconds):
+    return f"{seconds:.0f} s" if seconds < 90 else f"{seconds / 60:.1f} min"
+
+
+def refuse(why_not):
+    print(f"since.sh: {why_not}", file=sys.stderr)
+    sys.exit(2)
+
+
+# ---- what stands
+
+class Kept:
+    """What is there of a crate: the base's library, the one that this script made, and the record of its last proof."""
+    def __init__(self, name):
+        out = TOP / "crates" / name / "out"
+        self.of_base, self.own, self.at = out / "rlib" / f"{name}.rlib", out / "since" / f"{name}.rlib", out / "since"
+        self.incremental = out / "incremental"
+
+    def read(self, file):
+        try:
+            return json.loads((self.at / file).read_text(encoding="utf-8"))
+        except (OSError, ValueError):
+            return {}
+
+    def write(self, file, value):
+        self.at.mkdir(parents=True, exist_ok=True)
+        new = self.at / f"{file}.{os.getpid()}.new"
+        new.write_text(json.dumps(value), encoding="utf-8")
+        new.replace(self.at / file)
+
+    def has_work(self):
+        return self.incremental.is_dir() and any(self.incremental.iterdir())
+
+
+class Slots:
+    """So many checks go side by side. One from nothing takes the places that nobody waits for."""
+    def __init__(self, count):
+        self.count, self.free, self.waiting, self.changed = count, count, 0, threading.Condition()
+
+    def take(self, wanted):
+        with self.changed:
+            self.waiting += 1
+            while not self.free:
+                self.changed.wait(1)
+            self.waiting -= 1
+            got = max(1, min(wanted, self.free - self.waiting))
+            self.free -= got
+            return got
+
+    def give(self, got):
+        with self.changed:
+            self.free += got
+            self.changed.notify_all()
+
+
+def kit_sum():
+    return base.sum_of((base.KIT / "KIT-ID").read_bytes(), (base.KIT / "rlibs/std.rlib/format").read_bytes())
+
+
+class Run:
+    """One call: the crates as they are and as the revision has them, and what becomes of each."""
+    def __init__(self, here, there, options):
+        self.here, self.there, self.options = here, there, options
+        self.kept = {it: Kept(it) for it in here.crates}
+        self.slots = Slots(int(subprocess.run([TOP / "programs/host/jobs.sh"], capture_output=True, text=True, check=True).stdout))
+        self.sums = {it: here.sum(it) for it in here.crates}
+        self.differs = [it for it in here.ordered() if self.sums[it] != there.sum(it)]
+        self.kit, self.bases = kit_sum(), {}
+        self.stands, self.idents, self.turned = {}, {}, {}  # of each library: where it is, its name, whether its face is another one
+        self.proved, self.failed, self.left, self.taken, self.unknown = [], [], [], [], []
+        self.code, self.seconds = [], 0.0
+
+    # ---- the base
+
+    def read_bases(self):
+        """Which libraries of the base are of the revision's sources, made over one another."""
+        stamps = None
+        for name in self.here.ordered():
+            rlib = self.kept[name].of_base
+            if name not in self.there.crates or not self.here.makes_library(name) or not base.ident(rlib) or not base.is_of_kit(rlib):
+                continue
+            over = base.made_over(rlib)
+            if over:
+                low = [it for it in self.there.below(name)]
+                is_good = base.has_texts(rlib, self.there.files[name]) and all(it in self.bases and over.get(it) == self.bases[it] for it in low)
+            else:
+                stamps = stamps if stamps is not None else base.stamps_of(self.there)
+                stamp = rlib.parent / "stamp"
+                is_good = stamp.exists() and stamp.read_text(encoding="utf-8") == stamps.get(name)
+            if is_good:
+                self.bases[name] = base.ident(rlib)
+
+    def is_whole(self, name):
+        """Whether the base's library has all its modules."""
+        return name in self.bases and not base.made_over(self.kept[name].of_base)
+
+    def take_as_it_is(self, name):
+        """Whether nothing has to be proved of a crate, and if so, which of its libraries stands."""
+        kept, low = self.kept[name], self.here.below(name)
+        if name not in self.differs and all(self.idents[it] == self.bases.get(it) for it in low):
+            if name in self.bases or not self.here.makes_library(name):
+                return self.stand(name, kept.of_base if name in self.bases else None, False)
+        record = kept.read("record.json")
+        if record.get("sources") == self.sums[name] and record.get("kit") == self.kit and record.get("below") == {it: self.idents[it] for it in low}:
+            rlib = {"base": kept.of_base, "own": kept.own}.get(record["stands"])
+            if rlib is None or base.ident(rlib) == record["ident"]:
+                return self.stand(name, rlib, record["stands"] == "own")
+        return False
+
+    def stand(self, name, rlib, is_turned):
+        self.stands[name], self.turned[name] = rlib, is_turned
+        self.idents[name] = base.ident(rlib) if rlib else None
+        return True
+
+    # ---- proofs
+
+    def check(self, name, tree, libraries, kept, folder, to=None, flags=()):
+        """Checks a crate, and builds its library if a place for it is given."""
+        wanted = 1 if kept.is_dir() and any(kept.iterdir()) else self.slots.count
+        jobs = self.slots.take(wanted)
+        try:
+            words = [base.KIT / "bin/rattle", "build" if to else "check", *base.words_for(tree, name, libraries, jobs, kept)]
+            status, said, seconds = base.call([*words, *flags, *(["-o", to] if to else [])], folder)
+            if status == -signal.SIGKILL and jobs > 1:
+                words = [base.KIT / "bin/rattle", "build" if to else "check", *base.words_for(tree, name, libraries, 1, kept)]
+                status, said, more = base.call([*words, *flags, *(["-o", to] if to else [])], folder)
+                seconds += more
+        finally:
+            self.slots.give(jobs)
+        self.seconds += seconds
+        return status, said
+
+    def face_of_base(self, name):
+        """What crates above are checked against, of the base's library. One of statements alone doesn't tell: the crate is
+        checked as the revision has it, which fills its folder out/incremental too."""
+        kept = self.kept[name]
+        known = kept.read("base.json")
+        if known.get("ident") == self.bases[name]:
+            return known["face"]
+        if self.is_whole(name):
+            found = base.face(kept.of_base)
+        else:
+            found = self.build_as_there(name)
+        if found:
+            kept.write("base.json", {"ident": self.bases[name], "face": found})
+        return found
+
+    def build_as_there(self, name):
+        kept = self.kept[name]
+        if not kept.has_work():
+            say(f"{name}: nothing is kept of its checks, so the first is from nothing: about {lasted(self.there.work(name))} of one processor, once")
+        with base.room(name) as place:
+            base.write_files(self.there.files[name], place)
+            libraries = {it: self.kept[it].of_base for it in self.there.below(name)}
+            status, said = self.check(name, self.there, libraries, kept.incremental, place, place / f"{name}.rlib")
+            if not base.is_proved(status, said):
+                return None
+            found = base.face(place / f"{name}.rlib")
+        code = base.sum_of((kept.of_base / "toolchain/mir.json").read_bytes())
+        return found if found["code"] == code and found["interface"] == base.files_sum(kept.of_base / "interface") else None
+
+    def prove(self, name):
+        """Proves a crate as it is, and finds out whether what crates above are checked against is as before."""
+        kept, begun = self.kept[name], time.monotonic()
+        low = {it: self.stands[it] for it in self.here.below(name)}
+        is_reached = any(self.idents[it] != self.bases.get(it) for it in low)
+        before = self.face_of_base(name) if name in self.bases and not is_reached else None
+        kept.incremental.mkdir(parents=True, exist_ok=True)
+        with base.room(name) as place:
+            base.write_files(self.here.files[name], place)
+            to = place / f"{name}.rlib" if self.here.makes_library(name) else None
+            status, said = self.check(name, self.here, low, kept.incremental, place, to)
+            if not base.is_proved(status, said):
+                return self.tell_failure(name, place, low, status, said)
+            told = self.settle(name, to, before) if to else self.settle_program(name)
+        counts = re.search(rf"^crate {name}: modules loaded=(\d+) checked=(\d+)", said, re.M)
+        parts = f"{counts[2]} of its {int(counts[1]) + int(counts[2])} modules" if counts else "all"
+        say(f"{name}: proved in {lasted(time.monotonic() - begun)} ({parts} anew){told}")
+        self.proved.append(name)
+        return True
+
+    def settle_program(self, name):
+        self.stand(name, None, False)
+        self.note(name, "none")
+        return ""
+
+    def settle(self, name, rlib, before):
+        """Decides which library stands for crates above: the one of before if they can't tell the new one from it."""
+        kept, new, record = self.kept[name], base.face(rlib), self.kept[name].read("record.json")
+        if before and before["code"] != new["code"] or not before and name in self.differs:
+            self.code.append(name)
+        if before and base.same_face(before, new):
+            self.stand(name, kept.of_base, False)
+            self.note(name, "base")
+            return ": for the crates above nothing has changed"
+        own = record.get("face")
+        if not (own and base.same_face(own, new) and base.ident(kept.own) == record.get("own")):
+            shutil.rmtree(kept.own, ignore_errors=True)
+            rlib.rename(kept.own)
+        self.stand(name, kept.own, True)
+        self.note(name, "own", face=new, own=base.ident(kept.own))
+        if not before:
+            return ""
+        names = [it.partition(".")[2] or it for it in base.turned(before, new)]
+        return f": for the crates above {len(names)} modules differ ({', '.join(names[:3])}{', ..' if len(names) > 3 else ''})" if names else ": its Rust interface differs"
+
+    def note(self, name, stands, **more):
+        low = {it: self.idents[it] for it in self.here.below(name)}
+        old = self.kept[name].read("record.json")
+        more = {**{it: old[it] for it in ("face", "own") if it in old}, **more}
+        told = {"sources": self.sums[name], "kit": self.kit, "below": low, "stands": stands, "ident": self.idents[name]}
+        self.kept[name].write("record.json", {**more, **told})
+
+    def tell_failure(self, name, place, low, status, said):
+        if status == 1 and re.search(r"^logic=not-proved", said, re.M):
+            status, said = self.check(name, self.here, low, self.kept[name].incremental, place, flags=["--allow-holes"])
+        lines = why.lines_of(said, TOP / "crates" / name)
+        say(f"{name}: NOT PROVED", *(f"  {it}" for it in lines[:24]), f"  (checks/why.sh {name} tells all)")
+        self.failed.append(name)
+        return False
+
+    # ---- all crates
+
+    def do(self, name):
+        """What becomes of a crate, once those below it are done; whether crates above can be tried."""
+        lacking = [it for it in self.here.below(name) if it not in self.stands]
+        if lacking:
+            if name in self.differs:
+                say(f"{name}: not tried, since {lacking[0]} has no library that stands")
+                (self.failed if set(lacking) & set(self.failed) else self.left).append(name)
+            else:
+                self.unknown.append(name)
+            return
+        if self.take_as_it_is(name):
+            self.taken.append(name)
+        elif name not in self.differs and name not in self.lacking and (self.options["alone"] or not self.is_reached(name)):
+            (self.left if self.is_reached(name) else self.unknown).append(name)
+        else:
+            self.prove(name)
+
+    def is_reached(self, name):
+        return any(self.turned.get(it) for it in self.here.below(name))
+
+    def do_all(self):
+        order, done = self.here.ordered(), {}
+        def work(name):
+            for it in self.here.below(name):
+                done[it].result()
+            self.do(name)
+        with ThreadPoolExecutor(len(order)) as pool:
+            try:
+                for it in order:
+                    done[it] = pool.submit(work, it)
+                for it in order:
+                    done[it].result()
+            except BaseException:
+                base.stop_all()
+                raise
+
+
+# ---- edits
+
+def texts_of(files):
+    """The code of a crate, as edits read it."""
+    return {path: text.decode() for path, text in files.items() if path.endswith(".rt")}
+
+
+def edit_paths(name):
+    """The files of a crate's edits of bodies, in must-fail and in checks/wrong-bodies."""
+    return [*sorted((TOP / "crates" / name / "must-fail").glob("*.edit")), *sorted((TOP / "checks/wrong-bodies" / name).glob("*.edit"))]
+
+
+def changed_functions(run, name):
+    """The functions of a crate whose text, contract or own proof files differ from the revision's."""
+    now = run.here.files[name]
+    old = run.there.files.get(name, {})
+    ours, theirs = edits.functions_of(name, texts_of(now)), edits.functions_of(name, texts_of(old))
+    found = {it for it, text in ours.items() if theirs.get(it) != text}
+    folders = {path.rpartition("/")[0].removeprefix("proofs/").replace("/+", "/") for path in {*now, *old}
+               if path.startswith("proofs/") and now.get(path) != old.get(path)}
+    for it in ours:
+        own = it.partition("::")[2].replace("::", "/")
+        if any(folder == own or folder.endswith("/" + own) for folder in folders):
+            found.add(it)
+    return found
+
+
+def edits_to_try(run, name):
+    """The edits of a crate whose function differs from the revision's, or that differ themselves; and those that don't apply."""
+    found, bad, changed = [], [], changed_functions(run, name) if name in run.differs else set()
+    words = ["git", "-C", str(TOP), "diff", "--name-only", run.options["revision"], "--", "crates/*/must-fail", "checks/wrong-bodies"]
+    written = set(subprocess.run(words, capture_output=True, text=True, check=False).stdout.split())
+    words = ["git", "-C", str(TOP), "ls-files", "--others", "--exclude-standard", "crates/*/must-fail", "checks/wrong-bodies"]
+    written |= set(subprocess.run(words, capture_output=True, text=True, check=False).stdout.split())
+    for path in edit_paths(name):
+        is_new = str(path.relative_to(TOP)) in written
+        try:
+            edit = edits.Edit(name, path, texts_of(run.here.files[name]))
+        except ValueError as error:
+            if is_new or name in run.differs:
+                bad.append((f"{name}/{path.name}", f"DOES NOT APPLY: {error}"))
+            continue
+        if is_new or edit.functions & changed:
+            found.append(edit)
+    return found, bad
+
+
+def try_edits(run, name, found):
+    """Tries edits over what is kept of the crate's checks; what was refused of the same sources isn't tried again."""
+    kept, low = run.kept[name], {it: run.stands[it] for it in run.here.below(name)}
+    state = base.sum_of(run.sums[name], run.kit, sorted((it, run.idents[it]) for it in low))
+    tried = kept.read("tried.json")
+    tried = tried.get("refused", {}) if tried.get("state") == state else {}
+    key = {it.name: base.sum_of(it.path.read_bytes()) for it in found}
+    new = [it for it in found if tried.get(it.name) != key[it.name]]
+    told = [0, []]
+
+    def tell(edit, is_refused, text):
+        if is_refused:
+            tried[edit.name] = key[edit.name]
+            kept.write("tried.json", {"state": state, "refused": tried})
+        else:
+            told[1].append(edit.name)
+        say(f"{edit.name}: {text}")
+
+    with base.room(name) as place:
+        base.linked(kept.incremental, place / "kept")
+
+        def check(texts):
+            base.write_files({**run.here.files[name], **{it: text.encode() for it, text in texts.items()}}, place)
+            return run.check(name, run.here, low, place / "kept", place, flags=["--allow-holes"])[1]
+
+        if new:
+            edits.try_all(name, new, texts_of(run.here.files[name]), check, tell)
+    told[0] = len(found) - len(told[1])
+    return told[0], told[1], len(found) - len(new)
+
+
+# ---- tests
+
+TEST = re.compile(rb"#\s*\[[^]]*\btest\b")
+
+
+def has_tests(run, name):
+    return any(TEST.search(text) for path, text in run.here.files[name].items() if path.endswith(".rt"))
+
+
+def run_tests(run, name):
+    """Proves, builds and runs the tests of a crate, over the libraries that stand."""
+    kept, low = run.kept[name], {it: run.stands[it] for it in run.here.below(name)}
+    kit = base.KIT
+    with base.room(name) as place:
+        base.write_files(run.here.files[name], place)
+        tools = ["--test", "--toolchain", kit / "toolchain", "--backend", "llvm"]
+        jobs = run.slots.take(run.slots.count)
+        try:
+            words = [kit / "bin/rattle", "build", *base.words_for(run.here, name, low, jobs, kept.incremental), *tools, "-o", place / "tests.o"]
+            status, said, seconds = base.call(words, place)
+            run.seconds += seconds
+            if not status:
+                words = [kit / "bin/rattle-link", "--target", "x86_64-unknown-linux-gnu", "--toolchain", kit / "toolchain", "-o", place / "tests"]
+                status, said, _ = base.call([*words, place / "tests.o", kit / "c/libos_c.a", kit / "c/liblibc_c.a"], place)
+            if not status:
+                status, said, seconds = base.call([kit / "bin/rattle-test", "--seconds", "60", place / "tests"], place)
+        finally:
+            run.slots.give(jobs)
+    passed = re.findall(r"^.*\bok\b.*$", said, re.M)
+    say(f"{name}: its tests {'pass' if not status else 'FAIL'}" + (f" ({len(passed)})" if not status and passed else ""),
+        *(f"  {it}" for it in said.strip().split("\n")[-12:] if status))
+    return status == 0
+
+
+# ---- the quick checks
+
+def quick_checks(run):
+    """What looks at the whole repository in seconds: its name, and the words that do it."""
+    found = [(it, ["python3", "-B", f"checks/{it}"]) for it in ("links.py", "lemmas.py", "closure.py", "cases.py")]
+    words = ["git", "-C", str(TOP), "diff", "--name-only", run.options["revision"]]
+    written = subprocess.run(words, capture_output=True, text=True, check=False).stdout
+    if re.search(r"\.sh$|^(bin|xv|\.ci)\b", written, re.M):
+        found.append(("shell.sh", ["checks/shell.sh"]))
+    for name in run.differs:
+        old = run.there.files.get(name, {})
+        files = [f"crates/{name}/{it}" for it, text in run.here.files[name].items() if old.get(it) != text and it.endswith((".rt", ".antt"))]
+        if files:
+            found.append((f"rt fmt in {name}", [base.KIT / "bin/rattle", "fmt", "--check", *files]))
+    return found
+
+
+def do_quick(run, failed):
+    for name, words in quick_checks(run):
+        status, said, _ = base.call(words, TOP)
+        last = (said.strip().split("\n") or [""])[-1]
+        if status:
+            failed.append(name)
+            say(f"{name}: FAILS", *(f"  {it}" for it in said.strip().split("\n")[-12:]))
+        else:
+            say(f"{name}: {last}" if last else f"{name}: as it should be")
+
+
+# ---- the call
+
+FLAGS = ("--alone", "--no-edits", "--no-tests", "--proofs", "--definitions", "--prepare", "--help")
+
+
+def read_words(words):
+    options, names = {"base": None}, []
+    while words:
+        word = words.pop(0)
+        if word == "--base":
+            if not words:
+                refuse("--base takes a folder")
+            options["base"] = pathlib.Path(words.pop(0)).resolve()
+        elif word in FLAGS:
+            options[word[2:]] = True
+        elif word.startswith("-"):
+            refuse(f"there is no {word}: checks/since.sh --help tells what there is")
+        else:
+            names.append(word)
+    for it in FLAGS:
+        options.setdefault(it[2:], False)
+    return options, names
+
+
+def revision_of(names):
+    """The revision that is meant, by its checksum: the one that is named, or where this branch left origin's."""
+    git = lambda *words: subprocess.run(["git", "-C", str(TOP), *words], capture_output=True, text=True, check=False).stdout.strip()
+    if names:
+        return git("rev-parse", "-q", "--verify", f"{names[0]}^{{commit}}") or refuse(f"{names[0]} is no revision of this repository")
+    for it in ("origin/HEAD", "origin/main", "@{upstream}"):
+        if git("rev-parse", "-q", "--verify", it):
+            return git("merge-base", "HEAD", it)
+    return git("rev-parse", "HEAD") or refuse("this is no clone by git: it has no revision to begin from")
+
+
+def take_from(folder, here):
+    """Gives the libraries of another clone a second name here, if there are none of that crate."""
+    if not (folder / "crates.txt").exists():
+        refuse(f"{folder} is no clone of this repository")
+    count = 0
+    for name in here.crates:
+        theirs, ours = folder / "crates" / name / "out/rlib", TOP / "crates" / name / "out/rlib"
+        if base.ident(theirs / f"{name}.rlib") and not base.ident(ours / f"{name}.rlib"):
+            shutil.rmtree(ours, ignore_errors=True)
+            new = ours.with_name(f"rlib.{os.getpid()}.new")
+            shutil.copytree(theirs, new, copy_function=link_or_copy)
+            new.rename(ours)
+            count += 1
+    say(f"libraries taken from {folder}: {count}")
+
+
+def link_or_copy(one, other):
+    try:
+        os.link(one, other)
+    except OSError:
+        shutil.copyfile(one, other)
+
+
+HOW_TO_BEGIN = "run `./xv --build` or .ci/run once, before you change something (up to an hour), or name a clone in which the gate has passed by --base"
+
+
+def make_what_lacks(run):
+    """The crates below those that differ whose libraries lack: few are made, and for many there is advice."""
+    needed = {low for it in run.differs for low in run.here.below(it)}
+    lacking = [it for it in run.here.ordered() if it in needed and it not in run.differs and it not in run.bases and not run.kept[it].read("record.json")]
+    work = sum(run.here.work(it) for it in lacking)
+    if lacking and work > 900:
+        some = " ".join(lacking[:6]) + (" .." if len(lacking) > 6 else "")
+        refuse(f"there are no libraries of {run.options['shown']}'s sources of {len(lacking)} crates below what differs ({some}), some {work // 60} minutes of one processor: {HOW_TO_BEGIN}")
+    if lacking:
+        say(f"libraries that lack are made first: {' '.join(lacking)}, about {lasted(work)} of one processor")
+    return set(lacking)
+
+
+def try_all_edits(run):
+    refused, missed, before, left = 0, [], 0, 0
+    for name in run.here.ordered():
+        found, bad = edits_to_try(run, name)
+        left += len(edit_paths(name)) - len(found) - len(bad)
+        for edit, text in bad:
+            say(f"{edit}: {text}")
+            missed.append(edit)
+        if not found:
+            continue
+        if name in run.failed or any(it not in run.stands for it in run.here.below(name)):
+            say(f"{name}: {len(found)} edits aren't tried, since it is not proved")
+            continue
+        if not run.kept[name].has_work():
+            say(f"{name}: nothing is kept of its checks, so its edits begin with one from nothing: about {lasted(run.here.work(name))} of one processor")
+        say(f"{name}: trying {len(found)} edits of what changed")
+        count, bad, known = try_edits(run, name, found)
+        refused, before, missed = refused + count, before + known, missed + bad
+    return refused, missed, before, left
+
+
+def tell_left(run, left_edits):
+    """What this call took, and what it leaves to the gate."""
+    kept = [it for it in run.taken if run.here.makes_library(it)]
+    say(f"taken from before (incremental=trusted): the proofs of {len(run.taken)} crates, of {len(kept)} of them as libraries; of the crates proved here, what earlier checks kept")
+    left = ["every proof from nothing"]
+    if run.left:
+        left.append(f"crates above, whose libraries below read otherwise now: {' '.join(run.left)}")
+    if run.unknown:
+        left.append(f"crates of which there is no library, or none that fits: {' '.join(run.unknown)}")
+    if left_edits:
+        left.append(f"{left_edits} edits of functions that didn't change")
+    definitions = sorted(it for it in run.differs if any(path.startswith("specs/") and run.here.files[it].get(path) != run.there.files.get(it, {}).get(path)
+                                                         for path in {*run.here.files[it], *run.there.files.get(it, {})}))
+    turned = [it for it in definitions if (TOP / "checks/wrong-bodies/definitions" / it).is_dir()]
+    if turned and not run.options["definitions"]:
+        left.append(f"turned definitions (by hand: checks/wrong-bodies/run.sh --definitions {' '.join(turned)})")
+    if run.code:
+        above = [it for it in run.here.crates if not run.here.makes_library(it) and set(run.here.below(it)) & set(run.code)]
+        tests = [it for it in run.here.crates if has_tests(run, it) and set(run.here.below(it)) & set(run.code)]
+        if above:
+            left.append(f"programs that link the new code: {' '.join(above)}; what they print")
+        if tests:
+            left.append(f"tests over the new code: {' '.join(tests)} (without proofs: `rt try --test` there)")
+    say("left to the gate: " + "; ".join(left))
+    if subprocess.run([TOP / "programs/host/build.sh", "--is-current"], capture_output=True, check=False).returncode == 0:
+        say("the programs are built of this state: checks/run.sh tries them, in a minute")
+
+
+def main(words):
+    options, names = read_words(words)
+    if options["help"]:
+        print("".join(it[1:].lstrip() or "\n" for it in (TOP / "checks/since.sh").read_text().splitlines(True) if it.startswith("#") and not it.startswith("#!")), end="")
+        return 0
+    if not base.KIT:
+        refuse("there is no rt on the PATH: it is the command of the Rattle kit")
+    if len(names) > 1 and not options["prepare"]:
+        refuse(f"one revision is enough: {' '.join(names)}")
+    signal.signal(signal.SIGTERM, lambda *_: sys.exit(143))
+    held = os.open(TOP / "crates", os.O_RDONLY)
+    try:
+        fcntl.flock(held, fcntl.LOCK_EX | fcntl.LOCK_NB)
+    except BlockingIOError:
+        say("another since.sh works in this clone: waiting for its end")
+        fcntl.flock(held, fcntl.LOCK_EX)
+    base.sweep()
+    options["revision"] = revision_of([] if options["prepare"] else names)
+    options["shown"] = names[0] if names and not options["prepare"] else options["revision"][:10]
+    here, there = base.tree_here(), base.tree_of(options["revision"])
+    if not there:
+        refuse(f"{options['shown']} has no crates.txt")
+    if options["base"]:
+        take_from(options["base"], here)
+    return go(Run(here, there, options), names)
+
+
+def go(run, names):
+    gone = [it for it in run.there.crates if it not in run.here.crates]
+    say(f"since {run.options['shown']}: {len(run.differs)} of {len(run.here.crates)} crates differ{': ' if run.differs else ''}{' '.join(run.differs)}"
+        + (f"; gone: {' '.join(gone)}" if gone else ""))
+    run.read_bases()
+    run.lacking = make_what_lacks(run)
+    lost = []
+    quick = threading.Thread(target=do_quick, args=(run, lost))
+    if not run.options["proofs"]:
+        quick.start()
+    run.do_all()
+    refused, missed, before, left = 0, [], 0, 0
+    if not (run.options["no-edits"] or run.options["proofs"]):
+        refused, missed, before, left = try_all_edits(run)
+    tests = [it for it in run.proved if has_tests(run, it)] if not (run.options["no-tests"] or run.options["proofs"]) else []
+    for name in tests:
+        if not run_tests(run, name):
+            lost.append(f"tests of {name}")
+    if not run.options["proofs"]:
+        quick.join()
+    tell_left(run, left)
+    lost = [*run.failed, *missed, *lost]
+    if lost:
+        say(f"failed: {' '.join(lost)}")
+    done = [f"{len(run.proved)} crates proved", f"{refused} edits refused" + (f" ({before} of them before)" if before else "")]
+    done += [f"{len(tests)} crates of tests run"] if tests else []
+    seconds = time.monotonic() - BEGUN
+    say(f"{', '.join(done)}, in {lasted(seconds)} ({lasted(run.seconds)} of one processor for the checks); {len(lost)} failed")
+    return 1 if lost else 0
+
+
+if __name__ == "__main__":
+    try:
+        STATUS = main(sys.argv[1:])
+    except KeyboardInterrupt:
+        base.stop_all()
+        print("stopped: what was proved stays so, and the next call goes on", flush=True)
+        STATUS = 130
+    os._exit(STATUS)
