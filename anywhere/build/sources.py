@@ -2,7 +2,7 @@
 """What the modules and the page are built of, told by sums:
 
     sources.py ROOT --page       the sum of all that the page is built of: the code of xv_page and of the crates below it, the scripts and
-                                 modules of page/, the programs and the manual
+                                 modules of page/ and anywhere/machine/, the programs and the manual
     sources.py ROOT --module     the sum of what the page's module is built of: the crates' code, and how it is translated
     sources.py ROOT --code       the sum of what the programs' modules are built of; anywhere/STATE has that of its modules
 
@@ -36,12 +36,13 @@ def crates_below(root, names):
 
 
 def files_below(root, folders):
-    """The files in these folders, by their paths from the root; tests are left out."""
+    """The files in these folders, by their paths from the root; tests and READMEs are left out."""
     found = []
     for folder in folders:
         for at, below, names in os.walk(f"{root}/{folder}"):
             below.sort()
-            found += [os.path.relpath(os.path.join(at, name), root) for name in names if not name.endswith(".pyc") and "/tests/" not in f"{at}/"]
+            code = [name for name in names if not name.endswith(".pyc") and name != "README.md"]
+            found += [os.path.relpath(os.path.join(at, name), root) for name in code if "/tests/" not in f"{at}/"]
     return found
 
 
@@ -53,7 +54,8 @@ def code_of(root, names):
 def files_of(root, what):
     """The files that the page, its module, or the programs' modules are built of."""
     if what == "--page":
-        folders = ["anywhere/build", "page/build", "page/src", "programs/bin", "programs/c/src", "programs/c/lib", "programs/c/tables", "programs/examples", "programs/course"]
+        folders = ["anywhere/build", "anywhere/machine", "page/build", "page/src", "programs/bin", "programs/c/src"]
+        folders += ["programs/c/lib", "programs/c/tables", "programs/examples", "programs/course"]
         manual = [path for path in files_below(root, ["docs/manual"]) if path.endswith(".md")]
         drawings = [path for path in files_below(root, ["docs/manual"]) if path.endswith(".svg")]
         return sorted(manual + drawings + [KIT] + code_of(root, ["xv_page"]) + files_below(root, folders))

@@ -2,8 +2,8 @@
 """build_page.py MODULE.wasm SUM REPOSITORY OUT.html [NOTE]: the page, one file with all that it needs inside. SUM is that of the module
 before it was lowered, with a memory of 64 bits, which stands at the page's foot.
 
-The modules of page/src are joined, those that a module imports first, without their import and export words: each name stands
-once, which `node --check` and the browser tell. The programs, the examples and the manual (docs/manual/*.md, by manual.py) are read
+The modules of page/src and of anywhere/machine are joined, those that a module imports first, without their import and export
+words: each name stands once, which `node --check` and the browser tell. The programs, the examples and the manual (docs/manual/*.md, by manual.py) are read
 from the repository. The same inputs give the same bytes."""
 import base64, json, os, re, sys
 
@@ -25,27 +25,31 @@ def text(path):
     return read(path).decode()
 
 
+IMPORT = re.compile(r'^import (?:\* as (?P<all>\w+)|\{(?P<names>[^}]*)\}) from "(?P<path>\.\.?/[\w./]+\.mjs)";\n', re.M)
+EXPORT = re.compile(r"^export (?=(?:async )?(?:function|const|class|let) ([\w$]+))", re.M)
+
+
 def joined(first):
-    """The module of this name behind those that it imports."""
-    done, made = set(), []
+    """The module of page/src of this name, after those that it imports, of that folder or of anywhere/machine."""
+    done, made = {}, []
 
-    def add(name):
-        if name in done:
-            return
-        done.add(name)
-        code = text(os.path.join(here, name))
-        for found in re.findall(r'^import .*? from "\./([\w]+\.mjs)";$', code, re.M):
-            add(found)
-        spaces = dict(re.findall(r'^import \* as (\w+) from "\./(\w+)\.mjs";$', code, re.M))
-        body = re.sub(r'^import .*? from "\./[\w]+\.mjs";\n', "", code, flags=re.M)
-        exports = re.findall(r"^export (?:async )?(?:function|const|class|let) ([\w$]+)", body, re.M)
-        body = re.sub(r"^export (?=(?:async )?(?:function|const|class|let) )", "", body, flags=re.M)
-        imports = re.findall(r'^import \{(.*?)\} from "\./(\w+)\.mjs";$', code, re.M)
-        names = "".join(f"const {{ {n.strip()} }} = {m}_module;\n" for n, m in imports)
-        names += "".join(f"const {local} = {m}_module;\n" for local, m in spaces.items())
-        made.append(f"const {name[:-4]}_module = (() => {{\n{names}{body}\nreturn {{ {', '.join(exports)} }};\n}})();\n")
+    def add(path):
+        """Adds a module, unless it is there already, and tells the name that it has here."""
+        name = f"{os.path.basename(path)[:-4]}_module"
+        assert done.setdefault(name, path) == path, f"two modules are called {os.path.basename(path)}: {done[name]}, {path}"
+        if any(it.startswith(f"const {name} = ") for it in made):
+            return name
+        code, names = text(path), ""
+        for found in IMPORT.finditer(code):
+            other = add(os.path.normpath(os.path.join(os.path.dirname(path), found["path"])))
+            wanted = [it.strip().replace(" as ", ": ") for it in (found["names"] or "").split(",") if it.strip()]
+            names += f"const {found['all']} = {other};\n" if found["all"] else f"const {{ {', '.join(wanted)} }} = {other};\n"
+        body = EXPORT.sub("", IMPORT.sub("", code))
+        assert not re.search(r"^(import|export)\b", body, re.M), f"{path}: a form of import or export that isn't known here"
+        made.append(f"const {name} = (() => {{\n{names}{body}\nreturn {{ {', '.join(EXPORT.findall(code))} }};\n}})();\n")
+        return name
 
-    add(first)
+    add(os.path.join(here, first))
     return '"use strict";\n' + "".join(made)
 
 

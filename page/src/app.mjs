@@ -1,14 +1,14 @@
 // What the panels share: the worker, the last view of the machine, the files, and who wants to hear of changes.
-import { Listed } from "./listed.mjs";
-import { LastNames } from "./names.mjs";
-import { EventsText } from "./spans.mjs";
+import { ThinnedRecord } from "./thinned_record.mjs";
+import { LastNames } from "../../anywhere/machine/program_names.mjs";
+import { EventsText } from "../../anywhere/machine/events.mjs";
 
 export const $ = (id) => document.getElementById(id);
 
 export const app = {
   worker: null,
   view: null,
-  line: new Listed(), // what came of the events so far, as far as the page has it
+  line: new ThinnedRecord(), // what came of the events so far, as far as the page has it
   events: new EventsText(), // the events so far, as a text
   names: new LastNames(), // the program that each process of the run ran last, by its place among the files
   text: new Uint8Array(0), // the bytes that the console has shown
@@ -134,9 +134,6 @@ export function in_time(draw, apart = () => 0) {
   };
 }
 
-const in_groups = new Intl.NumberFormat("en");
-export const grouped = (number) => in_groups.format(Math.round(number));
-export const bytes_words = (count) => (count >= 1 << 20 ? `${+(count / (1 << 20)).toFixed(1)} MiB` : count >= 1024 ? `${+(count / 1024).toFixed(1)} KiB` : `${count} B`);
 
 /** Bytes as text, with what can't be shown as \n or \x07. */
 export function shown_bytes(bytes, most = 400) {

@@ -1,11 +1,11 @@
 // Break points: those at lines stand with their files, and the others, at labels, addresses, calls and stores, with the work. Each belongs
 // to a program, and counts while the machine has it.
 import { $, app, ask, element, on, say, tell } from "./app.mjs";
-import { is_source } from "./kinds.mjs";
-import { nearest } from "./stops.mjs";
-import { start_of_line } from "./symbols.mjs";
-import { all_calls, call_name, call_number } from "./calls.mjs";
-import { hex } from "./words.mjs";
+import { is_source } from "../../anywhere/machine/file_kinds.mjs";
+import { nearest } from "../../anywhere/machine/line_stops.mjs";
+import { start_of_line } from "../../anywhere/machine/source_places.mjs";
+import { all_calls, call_name, call_number } from "../../anywhere/machine/calls.mjs";
+import { hex } from "../../anywhere/machine/number_words.mjs";
 import { touch } from "./works.mjs";
 
 const ADDRESS = /^(0x[0-9a-f]+|\d+)$/i;

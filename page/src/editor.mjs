@@ -1,10 +1,10 @@
 // The editor of a source: lines with numbers, words coloured, the refused line marked, the line of the pc, and break points
 // beside the lines. Only the lines that are seen are coloured and numbered, so a key costs the same in a long source.
 import { $, app, ask, on, say, tell } from "./app.mjs";
-import { line_at, places_of } from "./symbols.mjs";
-import { is_elf, is_source } from "./kinds.mjs";
-import { mistake_words } from "./refused.mjs";
-import { moved } from "./stops.mjs";
+import { line_at, places_of } from "../../anywhere/machine/source_places.mjs";
+import { is_elf, is_source } from "../../anywhere/machine/file_kinds.mjs";
+import { mistake_words } from "../../anywhere/machine/assembler_mistakes.mjs";
+import { moved } from "../../anywhere/machine/line_stops.mjs";
 
 const LINE = 18, ABOVE = 8; // pixels: the height of a line, and what is free above the first (style.css has both)
 const UNSEEN = 30; // lines that are drawn above and below those that are seen

@@ -1,10 +1,11 @@
 // What happened: the events of the run, round the place, with what was asked and answered, who slept and who woke. The worker finds them in
 // its record, with their kinds, processes and answers; the rest is asked of it for the events that are shown, once the machine stands.
-import { $, app, ask, color_of, element, grouped, in_time, on, once, program_name, say, write } from "./app.mjs";
-import { KIND } from "./machine.mjs";
-import { all_calls, call_name } from "./calls.mjs";
+import { $, app, ask, color_of, element, in_time, on, once, program_name, say, write } from "./app.mjs";
+import { grouped } from "../../anywhere/machine/number_words.mjs";
+import { KIND } from "../../anywhere/machine/machine.mjs";
+import { all_calls, call_name } from "../../anywhere/machine/calls.mjs";
 import { address_meant } from "./instruction.mjs";
-import { CALL, WHAT } from "./rounds.mjs";
+import { CALL, WHAT } from "../../anywhere/machine/event_search.mjs";
 import { words_of_event } from "./time.mjs";
 
 const MOST_ASKED = 48; // events of one question to the worker

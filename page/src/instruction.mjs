@@ -1,8 +1,9 @@
 // The instruction that is next, with those round it, the registers, and memory.
-import { $, app, ask, element, grouped, on, program_name, say, tell, write } from "./app.mjs";
-import { line_at, name_at } from "./symbols.mjs";
-import { known_call } from "./calls.mjs";
-import { REGISTERS, hex, number } from "./words.mjs";
+import { $, app, ask, element, on, program_name, say, tell, write } from "./app.mjs";
+import { grouped, hex, number } from "../../anywhere/machine/number_words.mjs";
+import { line_at, name_at } from "../../anywhere/machine/source_places.mjs";
+import { known_call } from "../../anywhere/machine/calls.mjs";
+import { REGISTERS } from "../../anywhere/machine/registers.mjs";
 
 let before = null, changed = new Set(), as = "bytes";
 

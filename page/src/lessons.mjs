@@ -1,6 +1,6 @@
 // Lessons: a text, a program, and questions. What is right is not written here: the machine runs the program, and tells.
 import { $, app, ask, element, on, once, tell } from "./app.mjs";
-import { KIND } from "./machine.mjs";
+import { KIND } from "../../anywhere/machine/machine.mjs";
 import { help_of } from "./manual.mjs";
 import { is_changed, machine_of, shipped_files } from "./works.mjs";
 import * as programs from "./programs.mjs";

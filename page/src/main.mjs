@@ -1,9 +1,9 @@
 // The page: begins the worker and the panels, and hands what the worker tells to them.
-import { $, app, ask, hush, on, set_theme, tell } from "./app.mjs";
-import { learn_calls } from "./calls.mjs";
-import { Listed } from "./listed.mjs";
-import { LastNames } from "./names.mjs";
-import { EventsText, with_room } from "./spans.mjs";
+import { $, app, ask, hush, on, set_theme, tell, base64 } from "./app.mjs";
+import { learn_calls } from "../../anywhere/machine/calls.mjs";
+import { ThinnedRecord } from "./thinned_record.mjs";
+import { LastNames } from "../../anywhere/machine/program_names.mjs";
+import { EventsText, with_room } from "../../anywhere/machine/events.mjs";
 import * as terminal from "./terminal.mjs";
 import * as editor from "./editor.mjs";
 import * as works from "./works.mjs";
@@ -15,19 +15,18 @@ import * as processes from "./processes.mjs";
 import * as instruction from "./instruction.mjs";
 import * as c_source from "./c_source.mjs";
 import * as pages from "./pages.mjs";
-import * as opened from "./opened.mjs";
+import * as opened from "./descriptors.mjs";
 import * as why from "./why.mjs";
 import * as lessons from "./lessons.mjs";
 import * as session from "./session.mjs";
 import * as happened from "./happened.mjs";
-import * as parts from "./parts.mjs";
+import * as parts from "./missing_stretches.mjs";
 import * as translate from "./translate.mjs";
 import * as manual from "./manual.mjs";
 import * as slides from "./slides.mjs";
-import * as first from "./first.mjs";
-import { is_embedded, short_place } from "./places.mjs";
-import { calls_in_words } from "./happenings.mjs";
-import { base64 } from "./app.mjs";
+import * as first from "./first_minute.mjs";
+import { is_embedded, short_place } from "./place_links.mjs";
+import { calls_in_words } from "../../anywhere/machine/event_words.mjs";
 
 const DATA = globalThis.PAGE_DATA;
 let text_room = new Uint8Array(65536), drawn = 0, waits = false, is_whole = false;
@@ -80,7 +79,7 @@ function take_view(view) {
 /** Another machine: nothing of the one before is drawn any more. */
 function take_boot({ id, took }) {
   app.booted = { ...programs.booting(id), id, took };
-  Object.assign(app, { view: null, line: new Listed(), events: new EventsText(), names: new LastNames(), text: text_room.subarray(0, 0), faults: [], kills: [], chosen: 0 });
+  Object.assign(app, { view: null, line: new ThinnedRecord(), events: new EventsText(), names: new LastNames(), text: text_room.subarray(0, 0), faults: [], kills: [], chosen: 0 });
   tell("booted");
   look();
 }

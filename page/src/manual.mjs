@@ -1,6 +1,6 @@
 // The manual inside the page: its pages as HTML (build/manual.py makes them), the help of a panel, and links that lead to both.
 import { $, app, element, on } from "./app.mjs";
-import { unpacked } from "./unpacked.mjs";
+import { unpacked } from "./packed_texts.mjs";
 
 const DATA = globalThis.PAGE_DATA;
 const seen = []; // the pages that were shown before this one, with how far they were scrolled

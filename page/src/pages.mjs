@@ -1,6 +1,6 @@
 // The page table of a process, three levels as a tree (RISC-V Privileged ISA, "Sv39"), and the map of all frames of RAM.
 import { $, app, ask, color_of, element, fresh, on, style_of, tell, write } from "./app.mjs";
-import { USES, hex } from "./words.mjs";
+import { hex } from "../../anywhere/machine/number_words.mjs";
 
 const RAM = 0x80000000n, PAGE = 4096;
 const BITS = [[2, "R", "read"], [4, "W", "write"], [8, "X", "execute"], [16, "U", "user code may use it"]];
@@ -66,6 +66,9 @@ function draw_table() {
 }
 
 // ---- the map of frames
+
+/** What frames are used for, by the numbers of their uses. */
+const USES = ["", "free", "trapframe", "root table", "middle table", "last table", "page", "pipe"];
 
 const SHADES = { 2: 22, 3: -14, 4: -7, 5: 0, 6: 12 };
 

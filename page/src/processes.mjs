@@ -1,6 +1,7 @@
 // The processes: a tree by parents, with what each does, and beside it the picture of turns.
-import { $, app, ask, bytes_words, color_of, element, fresh, grouped, in_time, on, program_name, style_of } from "./app.mjs";
-import { KIND } from "./machine.mjs";
+import { $, app, ask, color_of, element, fresh, in_time, on, program_name, style_of } from "./app.mjs";
+import { bytes_words, grouped } from "../../anywhere/machine/number_words.mjs";
+import { KIND } from "../../anywhere/machine/machine.mjs";
 import { range } from "./time.mjs";
 
 /** In which call a process sleeps, and on what: the report's words, without who could wake it. */

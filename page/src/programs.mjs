@@ -1,9 +1,10 @@
 // The files of the machine: the list of a work's files, examples by name, files that are opened or dropped, the machine's settings; boot.
 import { $, app, ask, element, on, say, tell } from "./app.mjs";
-import { PlacesInC, places_of } from "./symbols.mjs";
-import { is_table, shipped_source, shipped_table } from "./tables.mjs";
-import { is_elf, is_source } from "./kinds.mjs";
-import { MOST_BYTES, boot_words, files_refused, mistake_words, too_large } from "./refused.mjs";
+import { file_of_bytes, file_of_source, name_first } from "../../anywhere/machine/program_files.mjs";
+import { is_table } from "../../anywhere/machine/line_tables.mjs";
+import { shipped_source, shipped_table } from "./shipped_sources.mjs";
+import { is_elf, is_source } from "../../anywhere/machine/file_kinds.mjs";
+import { MOST_BYTES, boot_words, files_refused, too_large } from "../../anywhere/machine/file_refusals.mjs";
 import { add, bring_back, bytes_of_file, forget_work, is_changed, own_names, put, put_away, ship_anew, title_of, touch, work_of } from "./works.mjs";
 import { counting } from "./breaks.mjs";
 import * as editor from "./editor.mjs";
@@ -172,7 +173,10 @@ function assembled(text) {
 /** A text of the list by its name; nothing if there is none. */
 const text_named = (name) => app.files.find((it) => it.name === name)?.text ?? "";
 const table_of = (file) => (file.built_in ? shipped_table(file.name) : text_named(`${file.name}.lines`));
-const of_bytes = (name, bytes, from) => ({ name, bytes, from, text: from.text, symbols: new PlacesInC(bytes, () => table_of(from), (file) => text_named(file) || shipped_source(file)) });
+const of_bytes = (name, bytes, from) => {
+  const made = file_of_bytes(name, bytes, () => table_of(from), (file) => text_named(file) || shipped_source(file));
+  return { ...made, from, text: from.text };
+};
 /** What belongs to a program and is no file of the machine: the table of its lines. */
 const stands_beside = (file) => file.name.endsWith(".lines") && is_table(file.text);
 
@@ -181,17 +185,7 @@ export async function made_of(file) {
   if (file.text === undefined) return of_bytes(file.name, bytes_of_file(file), file);
   if (!is_source(file)) return of_bytes(file.name, new TextEncoder().encode(file.text), file);
   const { text } = file, made = await assembled(text);
-  return made.file ? { name: file.name.slice(0, -2), bytes: made.file, from: file, text, symbols: places_of(text, made) } : { from: file, mistake: mistake_words(made, text) };
-}
-
-/** If no file is called init, the only program is. It tells the words for that, or nothing. */
-function name_init(files) {
-  if (files.some((it) => it.name === "init")) return "";
-  const programs = files.filter((it) => is_elf(it.bytes));
-  if (programs.length !== 1) return "";
-  const [only] = programs, { name } = only;
-  only.name = "init";
-  return `No file is called init: ${only.from.name} runs as init, the only program that there is${name.length > 14 ? ". In a list with others its name would be too long" : ""}`;
+  return { ...file_of_source(file.name, text, made), from: file, text };
 }
 
 let boots = 0;
@@ -238,7 +232,7 @@ export async function made_of_all(list) {
     refuse(`${wrong.from.name}, ${wrong.mistake}`);
     return null;
   }
-  const told = name_init(files), words = files_refused(files);
+  const told = name_first(files), words = files_refused(files);
   if (words) { refuse(`boot: ${words}`); return null; }
   if (told) say(told);
   return files;

@@ -1,14 +1,15 @@
 // What the page shows is kept, so that a reload, or another day, finds it: the work, the run with its keys and its place, tabs, speed. The
 // works themselves are kept by works.mjs, whenever they are changed.
-import { $, app, ask, grouped, on, say } from "./app.mjs";
-import { keep, keep_here, kept, kept_here } from "./kept.mjs";
+import { $, app, ask, on, say } from "./app.mjs";
+import { grouped } from "../../anywhere/machine/number_words.mjs";
+import { keep, keep_here, kept, kept_here } from "./browser_storage.mjs";
 import { flush } from "./works.mjs";
-import { keys_in } from "./spans.mjs";
+import { keys_in } from "../../anywhere/machine/events.mjs";
 import { play_again, run_now } from "./sharing.mjs";
 import * as editor from "./editor.mjs";
 import * as lessons from "./lessons.mjs";
 import * as programs from "./programs.mjs";
-import { is_slide } from "./places.mjs";
+import { is_slide } from "./place_links.mjs";
 
 const SETTLE = 1000; // ms after a change, until it is kept
 const TABS = ["tab-programs", "tab-lessons", "tab-instruction", "tab-pages", "tab-translate", "tab-opened", "tab-happened", "tab-why"];

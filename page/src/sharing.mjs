@@ -1,9 +1,10 @@
 // Sharing: a run as a link, as a file that the page opens, and as a record that the terminal plays too.
-import { $, app, ask, base64, element, grouped, once, say, tell } from "./app.mjs";
-import { EVENT } from "./machine.mjs";
-import { spans_of } from "./spans.mjs";
+import { $, app, ask, base64, element, once, say, tell } from "./app.mjs";
+import { grouped } from "../../anywhere/machine/number_words.mjs";
+import { RECORD_BEGINNING, read_record, record_text } from "../../anywhere/machine/record_text.mjs";
+import { spans_of } from "../../anywhere/machine/events.mjs";
 import { bytes_of_file, packed_file, touch, unpacked_file, work_of } from "./works.mjs";
-import { arrive, follow_place, is_slide, seen_now, short_place, words_of } from "./places.mjs";
+import { arrive, follow_place, is_slide, seen_now, short_place, words_of } from "./place_links.mjs";
 import { manual_place, open_manual } from "./manual.mjs";
 import { listed_slides, note_slide } from "./slides.mjs";
 import * as programs from "./programs.mjs";
@@ -153,7 +154,7 @@ async function share() {
   text.value = links[0][1];
   const copy = element("button", { class: "main", onclick: () => { text.select(); navigator.clipboard?.writeText(text.value); } }, "Copy");
   const file = element("button", { id: "save-shared", onclick: () => programs.save("nektavoly-run.txt", BEGINNING + of_it + "\n") }, "Save the same as a file");
-  const record = element("button", { onclick: async () => programs.save("run.txt", await record_text()) }, "Save the run as a record");
+  const record = element("button", { onclick: async () => programs.save("run.txt", await run_as_record()) }, "Save the run as a record");
   body.replaceChildren(element("h2", {}, "Share"), ...share_words(text.value.length, it.run).map((words) => element("p", {}, words)), element("p", {}, element("label", {}, "a link to ", choice)), text, element("p", {}, copy, " ", file, " ", record),
     element("p", {}, "The record has each event of the run, and the sums of its programs, and no program: the terminal plays it too. Drop it on the page, or choose it by Open file.., to have the run again."),
     element("details", {}, element("summary", {}, "Twelve slides for a course"), listed_slides()));
@@ -161,24 +162,23 @@ async function share() {
   text.select();
 }
 
-// ---- records: the text of a run, as the terminal's --record writes it and its --replay reads it (docs/manual/terminal.md)
+// ---- records: the text of a run that the terminal plays too
 
 async function sum_of(bytes) {
   return [...new Uint8Array(await crypto.subtle.digest("SHA-256", bytes))].map((it) => it.toString(16).padStart(2, "0")).join("");
 }
 
-const EVENTS = ["run", "tick", "key", "send"];
-
+/** The text of a record of what the worker has told. */
 async function recorded({ config, files, spans }) {
-  const lines = ["xv record 1", `frames ${config.frames}`];
-  for (const { name, bytes } of files) lines.push(`program ${await sum_of(bytes)} ${bytes.length} ${name}`);
-  lines.push("events");
-  for (const [event, byte, count] of spans) for (let k = event === EVENT.KEY ? count : 1; k > 0; k--) lines.push(`${EVENTS[event]} ${event === EVENT.KEY ? byte : count}`);
-  return lines.join("\n") + "\nend\n";
+  const told = async ({ name, bytes }) => ({ name, size: bytes.length, sum: await sum_of(bytes) });
+  return record_text({ frames: config.frames, programs: await Promise.all(files.map(told)), spans });
 }
 
 /** The run as a record's text. */
-export const record_text = () => new Promise((done) => { app.on_record = async (record) => done(await recorded(record)); ask("record"); });
+export const run_as_record = () => new Promise((done) => {
+  app.on_record = async (record) => done(await recorded(record));
+  ask("record");
+});
 
 /** The files that a record may mean, by their sums: those of the list, and the programs of the page. */
 async function files_by_sum() {
@@ -191,30 +191,9 @@ async function files_by_sum() {
   return found;
 }
 
-const MOST_OF_LINE = 1e12; // events of one line of a record: hours of play
-
-/** What a record says: {frames, programs: [{sum, name}], spans}. It throws what is wrong with which line. */
-export function record_of(text) {
-  const lines = text.split("\n"), said = { frames: 0, programs: [], spans: [] };
-  const number = (word, most, line) => {
-    if (!/^\d{1,13}$/.test(word || "") || Number(word) > most) throw new Error(`the record's line ${line} has no number from 0 to ${most}`);
-    return Number(word);
-  };
-  for (let k = 1; k < lines.length; k++) {
-    const [word, ...rest] = lines[k].split(" "), event = EVENTS.indexOf(word);
-    if (word === "end") return said;
-    if (word === "frames") said.frames = number(rest[0], 32768, k + 1);
-    else if (word === "program") said.programs.push({ sum: rest[0], name: rest.slice(2).join(" ") });
-    else if (word === "key") said.spans.push([event, number(rest[0], 255, k + 1), 1]);
-    else if (event >= 0) said.spans.push([event, 0, number(rest[0], MOST_OF_LINE, k + 1)]);
-    else if (word !== "events") throw new Error(`the record's line ${k + 1} begins with no word of a record`);
-  }
-  throw new Error("the record is cut off: its last line, end, is missing");
-}
-
 async function play_record(text) {
   let said;
-  try { said = record_of(text); } catch (error) { programs.refuse(error.message); return; }
+  try { said = read_record(text); } catch (error) { programs.refuse(error.message); return; }
   const known = await files_by_sum(), missing = said.programs.find(({ sum }) => !known.has(sum));
   if (missing) { programs.refuse(`the record wants another file ${missing.name}: add it first`); return; }
   const files = said.programs.map(({ sum, name }) => ({ ...known.get(sum), name }));
@@ -223,6 +202,6 @@ async function play_record(text) {
 
 export function start() {
   $("share").addEventListener("click", share);
-  programs.take_texts("xv record 1\n", play_record);
+  programs.take_texts(RECORD_BEGINNING, play_record);
   programs.take_texts(BEGINNING, take_shared);
 }

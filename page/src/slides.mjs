@@ -2,7 +2,7 @@
 // large letters, arrow keys, and nothing else.
 import { $, app, ask, element, on, write } from "./app.mjs";
 import { event_words, step, toggle } from "./time.mjs";
-import { is_lecture, set_view } from "./places.mjs";
+import { is_lecture, set_view } from "./place_links.mjs";
 
 /** What each slide shows, and the link that leads there. (\x10 is Ctrl-P, which the console passes over: while it comes, the shell prompts.) */
 export const SLIDES = [

@@ -1,27 +1,20 @@
-// A deadlock: whether nobody can go on, and in which calls all of them sleep.
+// Whether nobody can go on, in what is shown now, and in words.
 import { app, program_name } from "./app.mjs";
-import { call_name } from "./calls.mjs";
+import { call_name } from "../../anywhere/machine/calls.mjs";
+import { deadlocked } from "../../anywhere/machine/deadlock.mjs";
 
-const ENDS = { read: 3, write: 4 }; // the kind of a descriptor that a call waits for, if that is a pipe's end
+const MOST_TOLD = 4; // processes
 
-/** Whether a process can be woken by other processes alone: it waits for a child, or for an end of a pipe. */
-function needs_others({ pid, asleep, marked, call }, { descriptors }) {
-  if (!asleep || marked || !call) return false;
-  const name = call_name(call.number), end = ENDS[name];
-  if (name === "wait") return true;
-  const fd = Number(call.words[0] & 0xffffffffn);
-  return end !== undefined && descriptors.some((it) => it.pid === pid && it.fd === fd && it.kind === end);
-}
-
-/** The processes that live, if each of them sleeps until another one does something: nobody can go on. Else null. */
+/** The processes that live, if nobody can go on; else null. */
 export function stuck() {
-  const { view } = app, live = view?.processes?.filter((it) => it.lives) ?? [];
-  if (!view?.files || !live.length || view.facts.halted) return null;
-  return live.every((it) => needs_others(it, view.files)) ? live : null;
+  const { view } = app;
+  return !view?.files || !view.processes || view.facts.halted ? null : deadlocked(view.processes, view.files.descriptors);
 }
+
+const sleep_words = ({ pid, program, call }) => `${pid} (${program_name(program)}) sleeps in ${call_name(call.number)}`;
 
 /** `process 2 (sh) sleeps in read` of each, in words. */
-export const stuck_words = (list) => `nobody can go on: ${list.slice(0, 4).map((it) => `${it.pid} (${program_name(it.program)}) sleeps in ${call_name(it.call.number)}`).join(", ")}${list.length > 4 ? `, and ${list.length - 4} more` : ""}`;
-
-/** The process whose sleep tells most: one that waits for a pipe, before those that wait for children. */
-export const first_of = (list) => list.find((it) => call_name(it.call.number) !== "wait") ?? list[0];
+export function stuck_words(list) {
+  const told = list.slice(0, MOST_TOLD).map(sleep_words).join(", ");
+  return `nobody can go on: ${told}${list.length > MOST_TOLD ? `, and ${list.length - MOST_TOLD} more` : ""}`;
+}

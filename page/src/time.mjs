@@ -1,7 +1,8 @@
 // Time: play and pause, steps forward and back, the slider over the whole run, zoom.
-import { $, app, ask, color_of, element, fresh, grouped, in_time, on, program_name, say, style_of, tell, write } from "./app.mjs";
-import { KIND } from "./machine.mjs";
-import { call_name } from "./calls.mjs";
+import { $, app, ask, color_of, element, fresh, in_time, on, program_name, say, style_of, tell, write } from "./app.mjs";
+import { grouped } from "../../anywhere/machine/number_words.mjs";
+import { KIND } from "../../anywhere/machine/machine.mjs";
+import { call_name } from "../../anywhere/machine/calls.mjs";
 import { stuck, stuck_words } from "./stuck.mjs";
 import { type } from "./terminal.mjs";
 import { step_line } from "./c_source.mjs";

@@ -1,12 +1,13 @@
 // Translate: the bits of an address, the three entries of the page table that it leads to, and the physical address or what refuses it
 // (RISC-V Privileged ISA, "Sv39: Page-Based 39-bit Virtual-Memory System", "Virtual Address Translation Process"); and the last trap.
-import { $, app, ask, element, grouped, on, write } from "./app.mjs";
-import { KIND } from "./machine.mjs";
-import { call_name } from "./calls.mjs";
-import { name_at } from "./symbols.mjs";
+import { $, app, ask, element, on, write } from "./app.mjs";
+import { grouped, hex } from "../../anywhere/machine/number_words.mjs";
+import { KIND } from "../../anywhere/machine/machine.mjs";
+import { call_name } from "../../anywhere/machine/calls.mjs";
+import { name_at } from "../../anywhere/machine/source_places.mjs";
 import { address_meant, symbols_of } from "./instruction.mjs";
 import { last_store } from "./happened.mjs";
-import { REGISTERS, hex } from "./words.mjs";
+import { REGISTERS } from "../../anywhere/machine/registers.mjs";
 
 const PAGE = 4096n, FIRST = 0x80000n; // the physical page of frame 0: RAM begins at 0x80000000
 const V = 1, R = 2, W = 4, X = 8, U = 16, A = 64, D = 128;

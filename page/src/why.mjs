@@ -1,10 +1,11 @@
 // Why: each fault and each kill of the run, who sleeps on what and who could wake it, and who has ended without being waited for, in the
 // words of the proved report (crates/xv_report).
-import { $, app, ask, element, grouped, on, tell, write } from "./app.mjs";
+import { $, app, ask, element, on, tell, write } from "./app.mjs";
+import { grouped, hex } from "../../anywhere/machine/number_words.mjs";
 import { last_event } from "./happened.mjs";
-import { first_of, stuck, stuck_words } from "./stuck.mjs";
+import { first_of } from "../../anywhere/machine/deadlock.mjs";
+import { stuck, stuck_words } from "./stuck.mjs";
 import * as editor from "./editor.mjs";
-import { hex } from "./words.mjs";
 
 let drawn = "";
 

@@ -1,7 +1,7 @@
 // The works: each has the files of an example, of a lesson or of a link, with what was changed of them, the machine's settings and break
 // points. Once something of a work is changed, the browser keeps it under its name.
 import { app, base64, on, say, tell } from "./app.mjs";
-import { forget, keep, kept, names_kept, on_other_tab } from "./kept.mjs";
+import { forget, keep, kept, names_kept, on_other_tab } from "./browser_storage.mjs";
 
 const DATA = globalThis.PAGE_DATA;
 const MOST_GONE = 12; // files that were taken away, and may be brought back

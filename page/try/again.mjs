@@ -2,18 +2,18 @@
 // record; the sums of instructions; the events' text; how many bytes are shown at a place; and of the page's own record the parts that it
 // asks for, with the lives of the processes. It keeps a whole record beside, as plain lists. The status is 1 if something differs.
 import { readFileSync } from "node:fs";
-import { KIND, Machine } from "../src/machine.mjs";
-import { learn_calls, call_name } from "../src/calls.mjs";
-import { Listed } from "../src/listed.mjs";
-import { Made } from "../src/made.mjs";
-import { is_made } from "../src/record.mjs";
-import { MOST_LOOKED, last_of, round, WHAT } from "../src/rounds.mjs";
-import { Plan, Run } from "../src/run.mjs";
-import { EventsText, spans_of } from "../src/spans.mjs";
-import { COLUMNS } from "../src/timeline.mjs";
+import { KIND, Machine } from "../../anywhere/machine/machine.mjs";
+import { call_name } from "../../anywhere/machine/calls.mjs";
+import { ThinnedRecord } from "../src/thinned_record.mjs";
+import { InstructionCounts } from "../../anywhere/machine/instruction_counts.mjs";
+import { is_made } from "../../anywhere/machine/record.mjs";
+import { MOST_LOOKED, last_of, round, WHAT } from "../../anywhere/machine/event_search.mjs";
+import { Plan } from "../../anywhere/machine/plan.mjs";
+import { Run } from "../../anywhere/machine/run.mjs";
+import { EventsText, spans_of } from "../../anywhere/machine/events.mjs";
+import { COLUMNS } from "../../anywhere/machine/timeline.mjs";
 
-const [module, folder] = process.argv.slice(2), machine = new Machine(new WebAssembly.Module(readFileSync(module))), listed = new Listed();
-learn_calls([...machine.kernel_calls]);
+const [module, folder] = process.argv.slice(2), machine = new Machine(new WebAssembly.Module(readFileSync(module))), listed = new ThinnedRecord();
 let seed = 777, bad = 0, tried = 0;
 const random = (below) => Math.floor(((seed = (Math.imul(seed, 1103515245) + 12345) >>> 0) / 4294967296) * below);
 const holds = (is, what) => { tried++; if (!is) { console.log(`NOT ${what}`); bad++; } };
@@ -65,7 +65,7 @@ function blocks_are_made_again() {
 }
 
 function sums_are_right() {
-  const made = new Made();
+  const made = new InstructionCounts();
   for (let k = 0; k < 8; k++) {
     const place = random(run.end + 1), by = new Map();
     if (k % 3 === 0) forget();

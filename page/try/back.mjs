@@ -1,8 +1,9 @@
 // back.mjs MODULE.wasm PROGRAMS-FOLDER: goes to and fro in a run, as the page does by copies of the module's memory, and compares
 // each place with what the proved `back_to` gives there, and with how the machine stood there on the way.
 import { readFileSync } from "node:fs";
-import { EVENT, Machine } from "../src/machine.mjs";
-import { Plan, Run } from "../src/run.mjs";
+import { EVENT, Machine } from "../../anywhere/machine/machine.mjs";
+import { Plan } from "../../anywhere/machine/plan.mjs";
+import { Run } from "../../anywhere/machine/run.mjs";
 
 const [module, folder] = process.argv.slice(2), compiled = new WebAssembly.Module(readFileSync(module));
 const files = ["init", "sh", "echo", "cat", "wc", "primes", "storm"].map((name) => ({ name, bytes: readFileSync(`${folder}/${name}`) }));

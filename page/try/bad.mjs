@@ -1,6 +1,6 @@
 // bad.mjs MODULE.wasm PROGRAMS-FOLDER: what the host page may do wrong is told by name, and changes nothing.
 import { readFileSync } from "node:fs";
-import { EVENT, Machine, UNTIL } from "../src/machine.mjs";
+import { EVENT, Machine, UNTIL } from "../../anywhere/machine/machine.mjs";
 
 const [module, folder] = process.argv.slice(2), compiled = new WebAssembly.Module(readFileSync(module));
 const file = (name) => ({ name, bytes: readFileSync(`${folder}/${name}`) });

@@ -142,7 +142,7 @@ async function share(page) {
   await other.click("#boot");
   await other.until("page.app.view?.facts.halted && page.app.view?.facts.status === 7").catch(() => {});
   holds(await other.eval("page.app.view?.facts.status === 7"), "a dropped source runs");
-  const record = await other.eval("page.sharing.record_text()"), end = await other.eval("page.app.line.end");
+  const record = await other.eval("page.sharing.run_as_record()"), end = await other.eval("page.app.line.end");
   await other.eval("page.ask('go', { place: 0 })");
   await other.eval(`page.programs.take([new File([${JSON.stringify(record)}], 'run.txt')])`);
   await other.sleep(600);

@@ -1,17 +1,16 @@
 // seek.mjs MODULE.wasm PROGRAMS: whether the searches back in a run find what going through it event by event finds: the last store to an
 // address, and the last stop of a break point; and whether a link's place is reached at the same event each time. The status is 1 if not.
 import { readFileSync } from "node:fs";
-import { Machine, EVENT, KIND } from "../src/machine.mjs";
-import { learn_calls } from "../src/calls.mjs";
-import { call_of, stored_by, told_event } from "../src/happenings.mjs";
-import { Reach, way_of } from "../src/reach.mjs";
-import { Plan, Run } from "../src/run.mjs";
-import { seek } from "../src/seeking.mjs";
-import { call_name } from "../src/calls.mjs";
-import { store_width } from "../src/words.mjs";
+import { Machine, EVENT, KIND } from "../../anywhere/machine/machine.mjs";
+import { call_name } from "../../anywhere/machine/calls.mjs";
+import { call_of, stored_by, told_event } from "../../anywhere/machine/event_words.mjs";
+import { Reach, way_of } from "../../anywhere/machine/named_place.mjs";
+import { Plan } from "../../anywhere/machine/plan.mjs";
+import { Run } from "../../anywhere/machine/run.mjs";
+import { seek } from "../../anywhere/machine/backward_search.mjs";
+import { store_width } from "../../anywhere/machine/registers.mjs";
 
 const [module, folder] = process.argv.slice(2), machine = new Machine(new WebAssembly.Module(readFileSync(module))), run = new Run(machine);
-learn_calls([...machine.kernel_calls]);
 let bad = 0;
 const holds = (is, what) => { if (!is) { console.log(`NOT ${what}`); bad++; } };
 

@@ -4,15 +4,14 @@
 import { spawnSync } from "node:child_process";
 import { copyFileSync, mkdtempSync, readFileSync, readdirSync, rmSync } from "node:fs";
 import { tmpdir } from "node:os";
-import { Machine, KIND } from "../src/machine.mjs";
-import { learn_calls } from "../src/calls.mjs";
-import { fault_in_words, kill_in_words } from "../src/ends.mjs";
-import { Plan, Run } from "../src/run.mjs";
-import { elf_of, read_table, rows_of } from "../src/tables.mjs";
+import { Machine, KIND } from "../../anywhere/machine/machine.mjs";
+import { fault_in_words, kill_in_words } from "../../anywhere/machine/end_reports.mjs";
+import { Plan } from "../../anywhere/machine/plan.mjs";
+import { Run } from "../../anywhere/machine/run.mjs";
+import { elf_of, read_table, rows_of } from "../../anywhere/machine/line_tables.mjs";
 
 const [module, folder, reports] = process.argv.slice(2), machine = new Machine(new WebAssembly.Module(readFileSync(module))), run = new Run(machine);
 const QUANTUM = 1000, ROUNDS = 2000;
-learn_calls([...machine.kernel_calls]);
 let bad = 0, count = 0;
 
 /** Plays a program from the shell, and compares what is told of it. `known`: what the module is told of its source. */

@@ -3,7 +3,7 @@
 // environment's XV_MODULE names, so that the stored runs and the sessions can be played by it.
 import { readFileSync, writeSync } from "node:fs";
 import { basename } from "node:path";
-import { EVENT, KIND, Machine } from "../src/machine.mjs";
+import { EVENT, KIND, Machine } from "../../anywhere/machine/machine.mjs";
 
 // Whoever asks for help wants to know whether this starts.
 if (process.argv[2] === "--help") process.exit(0);

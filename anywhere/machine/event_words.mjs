@@ -1,8 +1,10 @@
-// What happened at an event of the record, asked of the machine as it was before and after it: the arguments of a call in words, what it
-// answered, and who woke. Its answers are made in the worker, for the events that are looked at alone.
+// What happened at an event of the record, asked of the machine as it was before and after it: the arguments of a call
+// in words, what it answered, and who woke. Its answers are made in the worker, for the events that are looked at
+// alone.
 import { KIND } from "./machine.mjs";
 import { call_name } from "./calls.mjs";
-import { hex } from "./words.mjs";
+import { number_at } from "./memory.mjs";
+import { hex } from "./number_words.mjs";
 
 const MOST_TEXT = 40; // bytes of a text that are told
 const MOST_TEXTS = 8; // texts of an exec that are told
@@ -10,12 +12,19 @@ const DESCRIPTORS = 32; // of a process
 
 const SIGNS = { 9: "\\t", 10: "\\n", 34: '\\"', 92: "\\\\" }; // bytes that a text in quotes shows by two letters
 
+function sign_of(byte) {
+  if (SIGNS[byte]) return SIGNS[byte];
+  return byte < 32 || byte > 126 ? `\\x${byte.toString(16).padStart(2, "0")}` : String.fromCharCode(byte);
+}
+
 /** Bytes as a text in quotes. */
 function quoted(bytes, is_cut) {
-  let text = "";
-  for (const byte of bytes) text += SIGNS[byte] ?? (byte < 32 || byte > 126 ? `\\x${byte.toString(16).padStart(2, "0")}` : String.fromCharCode(byte));
+  const text = [...bytes].map(sign_of).join("");
   return `"${text}"${is_cut ? ".." : ""}`;
 }
+
+/** What a descriptor names, by its kind; of a file the name is told too. */
+const NAMED = { 1: "the console", 3: "the read end of a pipe", 4: "the write end of a pipe" };
 
 /** What a process has in memory, in words. */
 class Reading {
@@ -27,6 +36,9 @@ class Reading {
     return this.machine.peek(this.pid, BigInt.asUintN(64, address), Math.min(count, MOST_TEXT));
   }
 
+  /** The first of so many bytes at an address, in quotes. */
+  first(address, count) { return quoted(this.bytes(address, Math.max(0, count)), count > MOST_TEXT); }
+
   /** The text at an address, up to its zero byte. */
   text(address) {
     const bytes = this.bytes(address, MOST_TEXT), end = bytes.indexOf(0);
@@ -34,10 +46,10 @@ class Reading {
   }
 
   /** A number of so many bytes; null where memory ends. */
-  number(address, size) {
-    const bytes = this.bytes(address, size);
-    return bytes.length < size ? null : bytes.reduceRight((sum, byte) => sum * 256n + BigInt(byte), 0n);
-  }
+  number(address, size) { return number_at(this.machine, this.pid, address, size); }
+
+  /** The two descriptors that a pipe has left at an address. */
+  ends(address) { return [0n, 4n].map((it) => this.number(address + it, 4)); }
 
   /** The texts whose addresses stand in a row, up to a zero. */
   texts(address) {
@@ -52,9 +64,10 @@ class Reading {
 
   /** What a descriptor names. */
   descriptor(word) {
-    const fd = Number(BigInt.asIntN(32, word)), it = fd >= 0 && fd < DESCRIPTORS ? this.machine.descriptor(this.pid, fd) : null;
+    const fd = Number(BigInt.asIntN(32, word)), is_one = fd >= 0 && fd < DESCRIPTORS;
+    const it = is_one ? this.machine.descriptor(this.pid, fd) : null;
     if (!it) return `${fd}, which isn't open`;
-    return `${fd}, ${["", "the console", `the file ${this.files[it.program]?.name}`, "the read end of a pipe", "the write end of a pipe"][it.kind]}`;
+    return `${fd}, ${NAMED[it.kind] ?? `the file ${this.files[it.program]?.name}`}`;
   }
 }
 
@@ -69,7 +82,10 @@ const ARGUMENTS = {
   wait: ([address]) => (address ? `status to ${hex(address)}` : "no status"),
   pipe: ([address]) => `ends to ${hex(address)}`,
   read: ([fd, address, count], it) => `${it.descriptor(fd)}; to ${hex(address)}, ${bytes_told(int(count))}`,
-  write: ([fd, address, count], it) => `${it.descriptor(fd)}; ${quoted(it.bytes(address, Math.max(0, Number(int(count)))), Number(int(count)) > MOST_TEXT)}, ${bytes_told(int(count))}`,
+  write: ([fd, address, count], it) => {
+    const bytes = int(count);
+    return `${it.descriptor(fd)}; ${it.first(address, Number(bytes))}, ${bytes_told(bytes)}`;
+  },
   kill: ([pid]) => `process ${int(pid)}`,
   exec: ([path, texts], it) => `${it.text(path)}; ${it.texts(texts)}`,
   dup: ([fd], it) => it.descriptor(fd),
@@ -84,9 +100,9 @@ const ARGUMENTS = {
 
 /** What a call left in the process's memory, beside its answer. */
 const LEFT = {
-  read: ([, address], value, it) => (value > 0 ? quoted(it.bytes(address, value), value > MOST_TEXT) : value === 0 ? "the end" : ""),
+  read: ([, address], value, it) => (value > 0 ? it.first(address, value) : value === 0 ? "the end" : ""),
   wait: ([address], value, it) => (value > 0 && address ? `status ${int(it.number(address, 4) ?? 0n)}` : ""),
-  pipe: ([address], value, it) => (value === 0 ? `ends ${it.number(address, 4)} and ${it.number(address + 4n, 4)}` : ""),
+  pipe: ([address], value, it) => (value === 0 ? `ends ${it.ends(address).join(" and ")}` : ""),
   fork: (_, value) => (value > 0 ? "the child's pid" : ""),
 };
 
@@ -95,7 +111,7 @@ export function call_of(machine, pid) {
   const { call } = machine.process(pid) ?? {};
   if (call) return { number: call.number, words: call.words };
   const registers = machine.registers(pid);
-  return registers && { number: Number(BigInt.asIntN(32, registers[17])), words: [registers[10], registers[11], registers[12]] };
+  return registers && { number: Number(BigInt.asIntN(32, registers[17])), words: [...registers.subarray(10, 13)] };
 }
 
 /** Bytes of a process's memory into which a call stored: {from, count}; null if it stored none. */
@@ -107,10 +123,14 @@ export function stored_by(name, [a0, a1], value) {
 }
 
 const asleep = (machine) => machine.pids().filter((pid) => machine.process(pid).asleep);
-const key_words = (byte) => (byte > 32 && byte < 127 ? `'${String.fromCharCode(byte)}'` : { 10: "Enter", 32: "the blank", 127: "Backspace", 4: "Ctrl-D" }[byte] ?? String(byte));
+const KEYS = { 10: "Enter", 32: "the blank", 127: "Backspace", 4: "Ctrl-D" };
+const key_words = (byte) => KEYS[byte] ?? (byte > 32 && byte < 127 ? `'${String.fromCharCode(byte)}'` : String(byte));
 
 /** A fault in the words of the report, without who it is of. */
-const fault_words = (machine, cause) => (machine.fault_text(cause) ?? "").split("\n")[0].replace(/^process \d+( \(.*?\))?: /, "");
+function fault_words(machine, cause) {
+  const [first] = (machine.fault_text(cause) ?? "").split("\n");
+  return first.replace(/^process \d+( \(.*?\))?: /, "");
+}
 
 /** What came of an event that is none of a call, in words. */
 function plain_words({ kind, number }, machine) {
@@ -127,28 +147,40 @@ function plain_words({ kind, number }, machine) {
   }
 }
 
-/** The event at a place of the record: {at, words, answer, woke, ends}; the run stands after it then. `ends`: the descriptors of a pipe. */
+/** The event at a place, as the machine is asked before it: {words, call, name, reading}. */
+function asked(run, { kind, pid, number, value }) {
+  const { machine } = run, is_call = kind === KIND.CALL || kind === KIND.WAIT || kind === KIND.EXIT;
+  const call = is_call ? call_of(machine, pid) : null, reading = new Reading(run, pid);
+  const told = (words, name = "") => ({ words, call, name, reading });
+  if (kind === KIND.EXIT && machine.process(pid)?.marked) return told("ends, since it was killed");
+  if (!call) return told(plain_words({ kind, number, value }, machine));
+  const name = call_name(kind === KIND.EXIT ? call.number : number);
+  return told(`${name}(${ARGUMENTS[name]?.(call.words, reading) ?? call.words.map(hex).join(", ")})`, name);
+}
+
+/** What came of it, as the machine is asked after it. */
+function answer_of({ kind, number, value }, { call, name, reading }) {
+  if (kind === KIND.WAIT) return "sleeps";
+  if (kind === KIND.EXIT) return `ends with ${number}`;
+  if (kind !== KIND.CALL) return "";
+  const left = LEFT[name]?.(call.words, value, reading) ?? "";
+  return `${value}${value === -1 ? ", refused" : left ? `, ${left}` : ""}`;
+}
+
+/**
+ * The event at a place of the record: {at, words, answer, woke, ends}; the run stands after it then. `ends`: the
+ * descriptors of a pipe.
+ */
 export function told_event(run, place) {
-  const { machine, line } = run, k = line.find(place), event = { kind: line.kind(k), pid: line.pid(k), number: line.number(k), value: line.value(k) };
+  const { machine, line } = run, event = line.outcome(line.find(place));
   run.go(place);
-  const slept = asleep(machine), is_call = event.kind === KIND.CALL || event.kind === KIND.WAIT || event.kind === KIND.EXIT;
-  const call = is_call ? call_of(machine, event.pid) : null, reading = new Reading(run, event.pid);
-  const is_killed = event.kind === KIND.EXIT && machine.process(event.pid)?.marked;
-  const name = call ? call_name(event.kind === KIND.EXIT ? call.number : event.number) : "", told = { at: place, words: "", answer: "", woke: [], ends: [] };
-  if (is_killed) told.words = "ends, since it was killed";
-  else if (call) told.words = `${name}(${ARGUMENTS[name]?.(call.words, reading) ?? call.words.map(hex).join(", ")})`;
-  else told.words = plain_words(event, machine);
+  const slept = asleep(machine), before = asked(run, event), { words, call, name, reading } = before;
   run.go(place + 1);
-  const now = new Set(asleep(machine));
-  told.woke = slept.filter((pid) => pid !== event.pid && !now.has(pid) && machine.process(pid)?.lives);
-  if (event.kind === KIND.WAIT) told.answer = "sleeps";
-  else if (event.kind === KIND.EXIT) told.answer = `ends with ${event.number}`;
-  else if (event.kind === KIND.CALL) {
-    const left = LEFT[name]?.(call.words, event.value, reading) ?? "";
-    told.answer = `${event.value}${event.value === -1 ? ", refused" : left ? `, ${left}` : ""}`;
-    if (name === "pipe" && event.value === 0) told.ends = [0n, 4n].map((it) => Number(reading.number(call.words[0] + it, 4) ?? -1n));
-  }
-  return told;
+  const now = new Set(asleep(machine)), answer = answer_of(event, before);
+  const woke = slept.filter((pid) => pid !== event.pid && !now.has(pid) && machine.process(pid)?.lives);
+  const is_pipe = event.kind === KIND.CALL && name === "pipe" && event.value === 0;
+  const ends = is_pipe ? reading.ends(call.words[0]).map((it) => Number(it ?? -1n)) : [];
+  return { at: place, words, answer, woke, ends };
 }
 
 /** The calls whose arguments are told in words. */

@@ -1,7 +1,7 @@
 // How many instructions each process has made, up to a place of a run.
 import { is_made } from "./record.mjs";
 
-export class Made {
+export class InstructionCounts {
   /** At the beginning of a record; `edits` tells which one it is. */
   constructor(edits = 0) {
     this.edits = edits;
@@ -9,11 +9,15 @@ export class Made {
     this.by = new Map();
   }
 
-  /** Goes to a place of the record, forth or back: what lies between is added up, or taken away; whole blocks by their sums. */
+  /**
+   * Goes to a place of the record, forth or back: what lies between is added up, or taken away; whole blocks by their
+   * sums.
+   */
   go(line, to) {
     const sign = to > this.at ? 1 : -1;
     while (this.at !== to) {
-      const number = line.number_of(sign > 0 ? this.at : this.at - 1), ends = [line.start(number), line.end_of_block(number)], [begin, end] = sign > 0 ? ends : ends.reverse();
+      const number = line.number_of(sign > 0 ? this.at : this.at - 1);
+      const ends = [line.start(number), line.end_of_block(number)], [begin, end] = sign > 0 ? ends : ends.reverse();
       if (line.over[number] && this.at === begin && sign * (to - end) >= 0) {
         const { pids, made } = line.over[number];
         pids.forEach((pid, k) => this.add(pid, sign * made[k]));

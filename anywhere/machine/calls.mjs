@@ -1,7 +1,7 @@
 // The kernel's calls, by the names and numbers that the machine's module tells.
 const names = new Map();
 
-/** Takes the calls from the module: pairs of a number and a name. */
+/** Takes the calls as the module tells them: pairs of a number and a name. A machine that is made does so itself. */
 export function learn_calls(pairs) {
   for (const [number, name] of pairs) names.set(number, name);
 }

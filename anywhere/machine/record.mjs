@@ -1,6 +1,7 @@
-// The record of a run, in the worker: what came of its events, in blocks of so many stretches. The last blocks and those that were looked at
-// last are at hand. Of the others a summary is left; the run makes them again, when they are looked at: it goes there, and sends their
-// events once more. So the record takes the same memory however long the run is, but for a fraction of a byte of a stretch.
+// The record of a run, in the worker: what came of its events, in blocks of so many stretches. The last blocks and
+// those that were looked at last are at hand. Of the others a summary is left; the run makes them again, when they are
+// looked at: it goes there, and sends their events once more. So the record takes the same memory however long the run
+// is, but for a fraction of a byte of a stretch.
 import { KIND } from "./machine.mjs";
 import { Timeline } from "./timeline.mjs";
 
@@ -11,7 +12,10 @@ const ALL = -1; // the bits of all kinds, and of all calls
 /** The bits of kinds. */
 export const bits_of = (is) => Object.values(KIND).reduce((bits, kind) => bits | (is(kind) ? 1 << kind : 0), 0);
 
-/** What is known of a block without its stretches: where it begins, the bits of its kinds and calls, its processes, and how many instructions each has made. */
+/**
+ * What is known of a block without its stretches: where it begins, the bits of its kinds and calls, its processes, and
+ * how many instructions each has made.
+ */
 function summary(block) {
   const made = new Map();
   let kinds = 0, calls = 0;
@@ -99,8 +103,9 @@ export class Record {
   }
 
   /**
-   * Makes a block again; the run stands at its end then. A copy of the machine is kept at a place of the block, if one is given; else some of
-   * the blocks before it are made too, on the way from the last copy: they may be looked at next.
+   * Makes a block again; the run stands at its end then. A copy of the machine is kept at a place of the block, if one
+   * is given; else some of the blocks before it are made too, on the way from the last copy: they may be looked at
+   * next.
    */
   make(number, near = null) {
     const from = this.run.copies.before(this.start(number)).at;
@@ -108,7 +113,9 @@ export class Record {
     while (near === null && n > 0 && number - n < MADE_AT_ONCE - 1 && this.start(n - 1) >= from) n--;
     let block = new Timeline(this.start(n));
     const over = () => {
-      if (block.length !== BLOCK || block.end !== this.end_of_block(n)) throw new Error(`the events from ${block.start} on gave another outcome when they were sent again`);
+      if (block.length !== BLOCK || block.end !== this.end_of_block(n)) {
+        throw new Error(`the events from ${block.start} on gave another outcome when they were sent again`);
+      }
       this.hold(n++, block);
     };
     this.run.over_again(block.start, this.end_of_block(number), near, (event, told, count) => {
@@ -128,6 +135,11 @@ export class Record {
   value(k) { return this.block(k >> BITS).value[k & (BLOCK - 1)]; }
   end_of(k) { return this.block(k >> BITS).end_of(k & (BLOCK - 1)); }
 
+  /** What came of a stretch's events. */
+  outcome(k) {
+    return { kind: this.kind(k), pid: this.pid(k), number: this.number(k), value: this.value(k) };
+  }
+
   /** The stretch with the event at this place; -1 where there is none. */
   find(place) {
     if (place >= this.end || place < 0) return -1;
@@ -136,25 +148,30 @@ export class Record {
   }
 
   /**
-   * The stretches from one on, forth (by 1) or back (by -1), but for blocks that have none of these kinds, none of these calls, or nothing of
-   * this process. `at_hand`: up to the first block that isn't; then comes -1.
+   * The stretches from one on, forth (by 1) or back (by -1), but for blocks that have none of these kinds, none of
+   * these calls, or nothing of this process. `at_hand`: up to the first block that isn't; then comes -1.
    */
   *along(from, by, { kinds = ALL, calls = ALL, pid = 0, at_hand = false } = {}) {
     for (let k = from; k >= 0 && k < this.length; ) {
       const number = k >> BITS, known = this.over[number], next = by > 0 ? BLOCK * (number + 1) : BLOCK * number - 1;
-      if (known && !((known.kinds & kinds) && (calls === ALL || known.calls & calls) && (!pid || known.pids.includes(pid)))) { k = next; continue; }
+      const has_call = known && (calls === ALL || known.calls & calls);
+      if (known && !((known.kinds & kinds) && has_call && (!pid || known.pids.includes(pid)))) { k = next; continue; }
       if (at_hand && !this.has(number)) { yield -1; return; }
       for (; k !== next && k < this.length; k += by) yield k;
     }
   }
 
-  /** The stretches of a part, so many at most before and after it: what another timeline can have. Null if the part has more than `most`. */
+  /**
+   * The stretches of a part, so many at most before and after it: what another timeline can have. Null if the part has
+   * more than `most`.
+   */
   part(from, to, round, most) {
     const numbers = [this.number_of(Math.max(0, from)), this.number_of(to)];
     if (numbers[1] - numbers[0] > most / BLOCK) return null;
-    const first = Math.max(0, this.find(Math.max(0, Math.min(from, this.end - 1))) - round), last = Math.min(this.length, this.find(Math.min(to, this.end - 1)) + 1 + round);
+    const first = Math.max(0, this.find(Math.max(0, Math.min(from, this.end - 1))) - round);
+    const last = Math.min(this.length, this.find(Math.min(to, this.end - 1)) + 1 + round);
     const made = new Timeline(first < this.length ? this.at(first) : this.end);
-    for (let k = first; k < last; k++) made.add(this.event(k), { kind: this.kind(k), pid: this.pid(k), number: this.number(k), value: this.value(k) }, this.end_of(k) - this.at(k));
+    for (let k = first; k < last; k++) made.add(this.event(k), this.outcome(k), this.end_of(k) - this.at(k));
     return made.part(0);
   }
 }

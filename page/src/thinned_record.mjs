@@ -1,16 +1,16 @@
 // The record as the page has it: the last stretches, and those of the parts that are looked at; of the rest only so many that a picture of
 // the whole run has all that can be seen. The worker has the others. There are lists of the stretches of each process, and of those that a
 // picture marks, which finds the next one that it has room for by halving such a list: so it takes the same time however many there are.
-import { KIND } from "./machine.mjs";
-import { COLUMNS, Timeline } from "./timeline.mjs";
-import { Lives } from "./lives.mjs";
+import { KIND } from "../../anywhere/machine/machine.mjs";
+import { COLUMNS, Timeline } from "../../anywhere/machine/timeline.mjs";
+import { Lives } from "../../anywhere/machine/process_lives.mjs";
 
 const MOST = 98304; // stretches, before they are thinned out
 const LAST = 8192; // of them are left in any case
 const MOST_THIN = 32768; // are left of those before, but for parts that are looked at
 const GRAINS = 8192; // into which a run is divided at most, of each of which a stretch is left: more than a picture has pixels
 
-export class Listed extends Timeline {
+export class ThinnedRecord extends Timeline {
   constructor() {
     super();
     this.lives = new Lives();

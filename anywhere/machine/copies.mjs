@@ -1,10 +1,12 @@
-// Copies of a machine along its run, by which the run goes back fast. Some stand over the whole run, so far apart that a replay from one
-// to the next takes some tens of milliseconds, and further where they would be too many. One more stands a little before the place to
-// which the run went last. Memory that is used first costs the host four times as much as memory that was used before: so the
-// rooms of copies that are given up are kept, and taken again.
+// Copies of a machine along its run, by which the run goes back fast. Some stand over the whole run, so far apart that
+// a replay from one to the next takes some tens of milliseconds, and further where they would be too many. One more
+// stands a little before the place to which the run went last. Memory that is used first costs the host four times as
+// much as memory that was used before: so the rooms of copies that are given up are kept, and taken again.
 const MOST_BYTES = 256 * 1024 * 1024;
-const FIRST_SPACING = 10000000; // instructions, or what takes as long: some 70 ms by a module that makes 150 million a second
-const READY = 2; // rooms that are ready while the machine waits: one for a copy along the run, and one for that near a place
+// Instructions, or what takes as long: some 70 ms by a module that makes 150 million a second.
+const FIRST_SPACING = 10000000;
+// Rooms that are ready while the machine waits: one for a copy along the run, and one for that near a place.
+const READY = 2;
 
 export class Copies {
   constructor(machine) {
@@ -28,7 +30,10 @@ export class Copies {
     return rooms.reduce((sum, it) => sum + it.length, this.near === null ? 0 : this.near.room.length);
   }
 
-  /** How many copies may stand along the run: beside them there are one near a place, and one where `look` comes back to. */
+  /**
+   * How many copies may stand along the run: beside them there are one near a place, and one where `look` comes back
+   * to.
+   */
   get most() {
     return Math.max(3, Math.min(32, Math.floor(MOST_BYTES / room_for(this.machine.memory().length)) - 2));
   }
@@ -91,7 +96,8 @@ export class Copies {
   /** Makes a room ready for a copy that may be wanted, while there is nothing else to do: its memory is used once. */
   prepare() {
     const { length } = this.machine.memory();
-    if (this.free.length < READY && this.along.length < this.most) this.free.push(new Uint8Array(room_for(length)).fill(0));
+    if (this.free.length >= READY || this.along.length >= this.most) return;
+    this.free.push(new Uint8Array(room_for(length)).fill(0));
   }
 }
 

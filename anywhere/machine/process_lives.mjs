@@ -1,8 +1,11 @@
-// The lives of the processes of a run, in arrays by their pids: whose child each is, where it was born, ended, and was taken away, and by whose wait.
+// The lives of the processes of a run, in arrays by their pids: whose child each is, where it was born, ended, and was
+// taken away, and by whose wait.
 import { KIND } from "./machine.mjs";
 import { call_name } from "./calls.mjs";
 
-const COLUMNS = { parent: Uint32Array, from: Float64Array, to: Float64Array, end: Uint8Array, reaped: Float64Array, by: Uint32Array };
+const COLUMNS = {
+  parent: Uint32Array, from: Float64Array, to: Float64Array, end: Uint8Array, reaped: Float64Array, by: Uint32Array,
+};
 
 export class Lives {
   constructor() {

@@ -1,9 +1,9 @@
 // A link to a place: what it names behind its #, the way there, and the link that leads to what is shown now. A place is an example, a
 // lesson or a run, an event of it, a process and a panel; `?embed` and `view=lecture` say how it is shown.
 import { $, app, ask, once, say } from "./app.mjs";
-import { all_calls } from "./calls.mjs";
-import { way_of } from "./reach.mjs";
-import { keys_in } from "./spans.mjs";
+import { all_calls } from "../../anywhere/machine/calls.mjs";
+import { way_of } from "../../anywhere/machine/named_place.mjs";
+import { keys_in } from "../../anywhere/machine/events.mjs";
 import { machine_of, shipped_files } from "./works.mjs";
 import { events_shown, show_events } from "./happened.mjs";
 import { translate } from "./translate.mjs";

@@ -1,10 +1,10 @@
 // The first minute: three things to type, each a button too, the first program to change, and a tour of five steps that can be skipped.
 import { $, app, element, on, say } from "./app.mjs";
-import { keep, kept } from "./kept.mjs";
+import { keep, kept } from "./browser_storage.mjs";
 import { type } from "./terminal.mjs";
 import * as editor from "./editor.mjs";
 import * as programs from "./programs.mjs";
-import { is_slide } from "./places.mjs";
+import { is_slide } from "./place_links.mjs";
 
 const COMMANDS = ["ls", "echo hello | wc", "primes 50"];
 

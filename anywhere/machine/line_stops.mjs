@@ -1,4 +1,5 @@
-// Break points at lines: each belongs to the text of its line, {line, text}, and goes with it while the source is edited.
+// Break points at lines: each belongs to the text of its line, {line, text}, and goes with it while the source is
+// edited.
 
 /** How many lines two sources have in common at their beginnings, and how many at their ends behind that. */
 function common(before, after) {
@@ -9,16 +10,21 @@ function common(before, after) {
   return { head, tail };
 }
 
-/** The line with this text, from 1 on, that is nearest to a line, among those from one on and before another; 0: there is none. */
+/**
+ * The line with this text, from 1 on, that is nearest to a line, among those from one on and before another; 0: there
+ * is none.
+ */
 export function nearest(lines, text, line, from = 1, to = lines.length + 1) {
   let found = 0;
-  for (let k = from; k < to; k++) if (lines[k - 1].trim() === text && (!found || Math.abs(k - line) < Math.abs(found - line))) found = k;
+  const is_nearer = (k) => !found || Math.abs(k - line) < Math.abs(found - line);
+  for (let k = from; k < to; k++) if (lines[k - 1].trim() === text && is_nearer(k)) found = k;
   return found;
 }
 
 /**
- * The break points of a source after an edit. One in a line that stays moves with it. In the part that was edited it goes to the line
- * that has its text; or it stays in its line, if the part has as many lines as before; or it is gone with its line.
+ * The break points of a source after an edit. One in a line that stays moves with it. In the part that was edited it
+ * goes to the line that has its text; or it stays in its line, if the part has as many lines as before; or it is gone
+ * with its line.
  */
 export function moved(stops, before, after) {
   if (!stops.length) return stops;

@@ -1,7 +1,7 @@
-// Names of places in a program: the labels and lines of a source, as the assembler tells them; of a program in C its functions and lines,
-// by the table that stands beside it; or the functions of an ELF file that has symbols.
-import { last_before } from "./sorted.mjs";
-import { elf_of, read_table, rows_of } from "./tables.mjs";
+// Names of places in a program: the labels and lines of a source, as the assembler tells them; of a program in C its
+// functions and lines, by the table that stands beside it; or the functions of an ELF file that has symbols.
+import { last_before } from "./ordered.mjs";
+import { elf_of, read_table, rows_of } from "./line_tables.mjs";
 
 /** The places of a source: its text, with the lines and labels that the assembler told. */
 export function places_of(text, { lines, names }) {
@@ -42,7 +42,11 @@ function functions_of(bytes) {
   try {
     const d = new DataView(bytes.buffer, bytes.byteOffset, bytes.byteLength);
     const from = Number(d.getBigUint64(40, true)), size = d.getUint16(58, true), count = d.getUint16(60, true);
-    const section = (k) => ({ type: d.getUint32(from + k * size + 4, true), offset: Number(d.getBigUint64(from + k * size + 24, true)), bytes: Number(d.getBigUint64(from + k * size + 32, true)), link: d.getUint32(from + k * size + 40, true) });
+    const section = (k) => {
+      const head = from + k * size, half = (place) => d.getUint32(head + place, true);
+      const number = (place) => Number(d.getBigUint64(head + place, true));
+      return { type: half(4), offset: number(24), bytes: number(32), link: half(40) };
+    };
     for (let k = 0; k < count; k++) {
       const table = section(k);
       if (table.type !== 2) continue;
@@ -52,7 +56,8 @@ function functions_of(bytes) {
         let end = texts.offset + d.getUint32(at, true);
         const start = end;
         while (bytes[end]) end++;
-        names.push({ name: new TextDecoder().decode(bytes.subarray(start, end)), address: d.getBigUint64(at + 8, true) });
+        const name = new TextDecoder().decode(bytes.subarray(start, end));
+        names.push({ name, address: d.getBigUint64(at + 8, true) });
       }
     }
   } catch { /* a file without a whole table has no names */ }
@@ -83,7 +88,9 @@ export function name_at(symbols, address) {
 export function line_at(symbols, address) {
   if (symbols?.table) {
     const found = last_before(symbols.table.lines, address);
-    return found?.line ? { line: found.number, text: (symbols.text_of(found.file)[found.number - 1] ?? "").trim(), file: found.file } : null;
+    if (!found?.line) return null;
+    const { number, file } = found;
+    return { line: number, text: (symbols.text_of(file)[number - 1] ?? "").trim(), file };
   }
   const found = symbols?.lines.find((it) => it.start <= address && address < it.end);
   return found ? { line: found.line, text: symbols.source[found.line - 1].trim() } : null;

@@ -1,15 +1,16 @@
-// The bytes that the console has shown, each with the place of the run behind which it stands: a byte, and one or two for how far that is
-// behind the place of the byte before.
-import { with_room } from "./spans.mjs";
+// The bytes that the console has shown, each with the place of the run behind which it stands: a byte, and one or two
+// for how far that is behind the place of the byte before.
+import { with_room } from "./events.mjs";
 
 const NOTED = 256; // bytes between two whose places are noted: counting begins at one of them
 const LONGEST = 8; // bytes of a distance
 
-export class Shown {
+export class ConsoleOutput {
   constructor() {
     this.bytes = new Uint8Array(4096);
     this.length = 0;
-    this.apart = new Uint8Array(4096); // the distances, seven bits a byte, the lowest first; the last byte of each has no eighth bit
+    // The distances, seven bits a byte, the lowest first; the last byte of each has no eighth bit.
+    this.apart = new Uint8Array(4096);
     this.used = 0;
     this.at = 0; // the place of the last byte
     this.noted = [{ at: 0, from: 0 }];
@@ -26,7 +27,10 @@ export class Shown {
     if (this.length % NOTED === 0) this.noted.push({ at, from: this.used });
   }
 
-  /** The bytes that are shown at a place: {count, from, at}; `from`: how much is used for their distances, `at`: the place of the last one. */
+  /**
+   * The bytes that are shown at a place: {count, from, at}; `from`: how much is used for their distances, `at`: the
+   * place of the last one.
+   */
   up_to(place) {
     let n = this.noted.length - 1;
     for (let low = 0; low < n; ) {

@@ -1,30 +1,36 @@
-// What stands beside a program of C for readers of its source, as programs/c/table.sh writes it: its functions, the lines of its source,
-// and how its calls lie on the stack.
-import { unpacked } from "./unpacked.mjs";
+// What stands beside a program of C for readers of its source, as programs/c/table.sh writes it: its functions, the
+// lines of its source, and how its calls lie on the stack.
 
 const FUNCTION = 2, SYMBOLS = 2, STRINGS = 3; // of an ELF file: STT_FUNC, SHT_SYMTAB, SHT_STRTAB
 const HEAD = 64, SYMBOL = 24; // bytes of an ELF file's header and of a section's; of a symbol
 
-let shipped = null; // what the page has inside: {tables, sources}
-const inside = () => (shipped ??= JSON.parse(unpacked(globalThis.PAGE_DATA.c)));
-
-/** The table of a program that the page has inside; nothing if it has none. */
-export const shipped_table = (name) => inside().tables[name] ?? "";
-/** A source that the page has inside; nothing if it has none. */
-export const shipped_source = (name) => inside().sources[name] ?? "";
-
 export const is_table = (text) => /^(function|label) \d+ \d+ \S+\n/.test(text ?? "");
 
-/** What a table tells: {names, lines, frames}, each in the order of addresses. `line`: as `sh.c:12`, or nothing if none is known. */
+const name_in = (kind, [address, size, name]) => (
+  { name, address: BigInt(address), size: Number(size), is_label: kind === "label" }
+);
+
+function frame_in([address, base, size, ra, s0]) {
+  return { address: BigInt(address), base, size: BigInt(size), ra: BigInt(ra), s0: BigInt(s0) };
+}
+
+const line_in = (address, number, file) => (
+  { address: BigInt(address), file, number: Number(number), line: number === "0" ? "" : `${file}:${number}` }
+);
+
+/**
+ * What a table tells: {names, lines, frames}, each in the order of addresses. `line`: as `sh.c:12`, or nothing if none
+ * is known.
+ */
 export function read_table(text) {
   const names = [], lines = [], frames = [];
   let file = "";
   for (const row of text.split("\n")) {
-    const words = row.split(" ");
-    if (words[0] === "function" || words[0] === "label") names.push({ name: words[3], address: BigInt(words[1]), size: Number(words[2]), is_label: words[0] === "label" });
-    else if (words[0] === "file") file = row.slice(5);
-    else if (words[0] === "frame") frames.push({ address: BigInt(words[1]), base: words[2], size: BigInt(words[3]), ra: BigInt(words[4]), s0: BigInt(words[5]) });
-    else if (words.length === 2) lines.push({ address: BigInt(words[0]), file, number: Number(words[1]), line: words[1] === "0" ? "" : `${file}:${words[1]}` });
+    const [kind, ...words] = row.split(" ");
+    if (kind === "function" || kind === "label") names.push(name_in(kind, words));
+    else if (kind === "file") file = row.slice(5);
+    else if (kind === "frame") frames.push(frame_in(words));
+    else if (words.length === 1) lines.push(line_in(kind, words[0], file));
   }
   return { names, lines, frames };
 }
@@ -35,7 +41,8 @@ export const rows_of = (lines) => lines.map((it) => `${it.address} ${it.line}`).
 /** An ELF-64 file that has the functions of a table as its symbols, and no more (ELF-64 Object File Format). */
 export function elf_of(all) {
   const names = all.filter((it) => !it.is_label);
-  const texts = new TextEncoder(), strings = [0], at = HEAD, symbols = new DataView(new ArrayBuffer(SYMBOL * (names.length + 1)));
+  const texts = new TextEncoder(), strings = [0], at = HEAD;
+  const symbols = new DataView(new ArrayBuffer(SYMBOL * (names.length + 1)));
   names.forEach(({ name, address, size }, k) => {
     const to = SYMBOL * (k + 1);
     symbols.setUint32(to, strings.length, true);
@@ -44,7 +51,8 @@ export function elf_of(all) {
     symbols.setBigUint64(to + 16, BigInt(size), true);
     strings.push(...texts.encode(name), 0);
   });
-  const from = at + symbols.byteLength, heads = from + strings.length, bytes = new Uint8Array(heads + 3 * HEAD), d = new DataView(bytes.buffer);
+  const from = at + symbols.byteLength, heads = from + strings.length;
+  const bytes = new Uint8Array(heads + 3 * HEAD), d = new DataView(bytes.buffer);
   bytes.set([0x7f, 0x45, 0x4c, 0x46, 2, 1, 1]);
   d.setBigUint64(40, BigInt(heads), true);
   d.setUint16(52, HEAD, true);

@@ -1,10 +1,12 @@
-// The way back to the last event that is looked for: a store to an address of a process, or a place at which a break point stops. The
-// record is gone through from its end, part by part, and within a part the module searches. It is done in the worker.
+// The way back to the last event that is looked for: a store to an address of a process, or a place at which a break
+// point stops. The record is gone through from its end, part by part, and within a part the module searches. It is done
+// in the worker.
 import { KIND, UNTIL } from "./machine.mjs";
 import { call_name } from "./calls.mjs";
-import { call_of, stored_by } from "./happenings.mjs";
+import { call_of, stored_by } from "./event_words.mjs";
 
-const FIRST_PART = 100000, MOST_OF_PART = 1000000; // events of a part: the first is short, since what is looked for is mostly near
+// Events of a part: the first is short, since what is looked for is mostly near.
+const FIRST_PART = 100000, MOST_OF_PART = 1000000;
 const MOST_STRETCHES = 20000; // of a part
 
 /** Where the part begins that ends before a place. */
@@ -13,11 +15,16 @@ function start_of_part(line, to, most) {
   return Math.max(0, to - most, first > 0 ? line.at(first) : 0);
 }
 
-/** Goes from a place to another, and calls for each stretch between with how far it goes: that call is to bring the run there. */
+/**
+ * Goes from a place to another, and calls for each stretch between with how far it goes: that call is to bring the run
+ * there.
+ */
 function through(run, from, to, each) {
   const { line } = run;
   run.go(from);
-  for (let k = Math.max(0, line.find(run.at)); run.at < to && k < line.length; k++) each(k, Math.min(to, line.end_of(k)));
+  for (let k = Math.max(0, line.find(run.at)); run.at < to && k < line.length; k++) {
+    each(k, Math.min(to, line.end_of(k)));
+  }
 }
 
 /** Replays a stretch of instructions, and calls with each place at which the search was met. */
@@ -34,19 +41,25 @@ function search(run, to, kind, pid, number, met) {
 /** What a call of the process did to the byte at an address: words, or nothing. */
 function call_stored(name, words, value, address) {
   const it = stored_by(name, words, value), asked = BigInt.asIntN(32, words[0]);
-  if (it && address >= it.from && address < it.from + it.count) return `${name} stored here`;
+  const is_growth = name === "sbrk" || name === "sbrklazy";
+  const is_within = (from, count) => address >= from && address < from + count;
+  if (it && is_within(it.from, it.count)) return `${name} stored here`;
   if (name === "exec" && value >= 0) return "exec made this memory, with what the file has here";
-  if ((name === "sbrk" || name === "sbrklazy") && value >= 0 && asked > 0n && address >= BigInt(value) && address < BigInt(value) + asked) return `${name} made this memory, with zeros`;
-  return "";
+  const is_grown = is_growth && value >= 0 && asked > 0n && is_within(BigInt(value), asked);
+  return is_grown ? `${name} made this memory, with zeros` : "";
 }
 
-/** The last store to an address within a part: {place, words}, or null. A fork that made the process tells {place, parent}. */
+/**
+ * The last store to an address within a part: {place, words}, or null. A fork that made the process tells {place,
+ * parent}.
+ */
 function store_in(run, from, to, pid, address) {
   const { line, machine } = run;
   let found = null;
   through(run, from, to, (k, end) => {
     const kind = line.kind(k), own = line.pid(k) === pid, name = kind === KIND.CALL ? call_name(line.number(k)) : "";
-    if (own && kind === KIND.STEP) search(run, end, UNTIL.STORE, 0, address, (at) => { found = { place: at - 1, words: "a store of the program" }; });
+    const met = (at) => { found = { place: at - 1, words: "a store of the program" }; };
+    if (own && kind === KIND.STEP) search(run, end, UNTIL.STORE, 0, address, met);
     else if (own && kind === KIND.CALL) {
       const { words } = call_of(machine, pid), place = run.at, what = call_stored(name, words, line.value(k), address);
       run.replay(end);
@@ -73,13 +86,14 @@ function stop_in(run, from, to, before, breaks) {
         run.replay(end);
         if ((kind === KIND.CALL || kind === KIND.WAIT) && line.number(k) === it.number) note(end, `after ${it.name}`);
       } else if (kind === KIND.STEP && fits(it, pid)) {
-        const is_store = it.kind === "store";
-        search(run, end, is_store ? UNTIL.STORE : UNTIL.AT, is_store ? 0 : pid, it.address, (at) => note(is_store ? at - 1 : at, is_store ? `before a store to ${it.name}` : `at ${it.name}`));
+        const before_store = (at) => note(at - 1, `before a store to ${it.name}`);
+        if (it.kind === "store") search(run, end, UNTIL.STORE, 0, it.address, before_store);
+        else search(run, end, UNTIL.AT, pid, it.address, (at) => note(at, `at ${it.name}`));
       } else {
         run.replay(end);
         // A call, or a turn, may lead to the address too.
-        const current = run.current;
-        if (it.kind === "address" && current && fits(it, current) && machine.register(current, 0) === it.address) note(run.at, `at ${it.name}`);
+        const { current } = run, may_stop = it.kind === "address" && current && fits(it, current);
+        if (may_stop && machine.register(current, 0) === it.address) note(run.at, `at ${it.name}`);
       }
     });
   }
@@ -89,17 +103,21 @@ function stop_in(run, from, to, before, breaks) {
 // ---- the search
 
 /**
- * A search back from a place: `part()` looks through one more part, and answers {place, words}, or null if it is to be called again. The
- * run stands where it stood. A place of -1: there is none.
+ * A search back from a place: `part()` looks through one more part, and answers {place, words}, or null if it is to be
+ * called again. The run stands where it stood. A place of -1: there is none.
  */
 export function seek(run, { what, pid, address, breaks }, before) {
+  const is_store = what === "store";
+  const since_boot = "It has stood here since the machine was booted.";
+  const nothing = is_store ? since_boot : "No break point stops before this place.";
   let to = before, most = FIRST_PART, who = pid;
   return {
     get left() { return to; },
     part() {
-      if (to <= 0) return { place: -1, words: what === "store" ? "It has stood here since the machine was booted." : "No break point stops before this place." };
+      if (to <= 0) return { place: -1, words: nothing };
       const from = start_of_part(run.line, to, most);
-      const found = run.look(from, () => (what === "store" ? store_in(run, from, to, who, address) : stop_in(run, from, to, before, breaks)));
+      const look = () => (is_store ? store_in(run, from, to, who, address) : stop_in(run, from, to, before, breaks));
+      const found = run.look(from, look);
       to = from;
       most = Math.min(MOST_OF_PART, 2 * most);
       if (found?.parent === undefined) return found;

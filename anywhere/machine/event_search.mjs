@@ -24,11 +24,13 @@ function wanted(line, { what, pid = 0, answer = "" }) {
   const name = what.startsWith(CALL) ? what.slice(CALL.length) : null;
   const is_kind = name === null ? WHAT[what][1] : (kind) => kind === KIND.CALL || kind === KIND.WAIT;
   const answer_of = (k) => ({ [KIND.CALL]: line.value(k), [KIND.EXIT]: line.number(k) })[line.kind(k)];
-  const fits = (k) => is_kind(line.kind(k)) && (name === null || call_name(line.number(k)) === name) && (!pid || line.pid(k) === pid) && (answer === "" || String(answer_of(k)) === answer);
+  const is_call = (k) => name === null || call_name(line.number(k)) === name;
+  const is_answer = (k) => answer === "" || String(answer_of(k)) === answer;
+  const fits = (k) => is_kind(line.kind(k)) && is_call(k) && (!pid || line.pid(k) === pid) && is_answer(k);
   return { kinds: bits_of(is_kind), ...(name === null ? {} : { calls: 1 << call_number(name) }), pid, fits };
 }
 
-const told = (line, k) => ({ at: line.at(k), kind: line.kind(k), pid: line.pid(k), number: line.number(k), value: line.value(k) });
+const told = (line, k) => ({ at: line.at(k), ...line.outcome(k) });
 
 /** So many stretches that fit, from one on, in their order as they are found; `is_cut`: no more were looked at. */
 function some(line, from, by, most, { fits, ...wants }) {
@@ -41,16 +43,34 @@ function some(line, from, by, most, { fits, ...wants }) {
   return { found, is_cut: false };
 }
 
-/** The events that are wanted round a place: the last ones before it, and the next ones. While the machine plays, nothing is made again for them. */
+/**
+ * The events that are wanted round a place: the last ones before it, and the next ones. While the machine plays,
+ * nothing is made again for them.
+ */
 export function round(line, place, wants, at_hand) {
-  const first = line.find(Math.min(place, line.end - 1)), here = first >= 0 && line.at(first) >= place ? first : first + 1, it = { ...wanted(line, wants), at_hand };
+  const first = line.find(Math.min(place, line.end - 1)), it = { ...wanted(line, wants), at_hand };
+  const here = first >= 0 && line.at(first) >= place ? first : first + 1;
   const { found, is_cut } = some(line, here - 1, -1, BEFORE, it);
   return { before: found.reverse(), behind: some(line, here, 1, BEHIND, it).found, is_cut };
+}
+
+const is_end = (kind) => kind === KIND.EXIT || kind === KIND.FAULT;
+
+/** The end of a process before a place, of pid 0 the last of all: {at, pid, is_fault, number}; null if it has none. */
+export function end_before(line, place, pid) {
+  for (const k of line.along(line.find(place - 1), -1, { kinds: bits_of(is_end), pid })) {
+    const it = line.outcome(k);
+    if (!is_end(it.kind) || (pid && it.pid !== pid)) continue;
+    return { at: line.at(k), pid: it.pid, is_fault: it.kind === KIND.FAULT, number: it.number };
+  }
+  return null;
 }
 
 /** The last event before a place that is wanted; null if there is none. */
 export function last_of(line, before, wants) {
   const { fits, ...where } = wanted(line, wants);
-  for (const k of line.along(line.find(before - 1), -1, where)) if (line.at(k) < before && fits(k)) return told(line, k);
+  for (const k of line.along(line.find(before - 1), -1, where)) {
+    if (line.at(k) < before && fits(k)) return told(line, k);
+  }
   return null;
 }

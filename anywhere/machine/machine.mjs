@@ -1,22 +1,30 @@
 // The machine behind the module xv_page.wasm: numbers and bytes in, numbers and bytes out. It knows nothing of a page,
 // and meets what the calls ask for: a place for the session that is 8 zero bytes before the first boot, and rooms that
 // are there. What each call tells is said in crates/xv_page.
+import { learn_calls } from "./calls.mjs";
 
 /** Kinds of outcome, by their number. */
-export const KIND = { STEP: 0, CALL: 1, WAIT: 2, EXIT: 3, FAULT: 4, TURN: 5, IDLE: 6, TICK: 7, KEY: 8, SENT: 9, NONE: 10, HALTED: 11 };
+export const KIND = {
+  STEP: 0, CALL: 1, WAIT: 2, EXIT: 3, FAULT: 4, TURN: 5, IDLE: 6, TICK: 7, KEY: 8, SENT: 9, NONE: 10, HALTED: 11,
+};
 /** Events, by their number. */
 export const EVENT = { RUN: 0, TICK: 1, KEY: 2, SEND: 3 };
 /** What a search may wait for, by its number. */
 export const UNTIL = { STEP_OF: 0, CALL: 1, AT: 2, FAULT: 3, STORE: 4, EXIT: 5 };
 
-const ANSWERS = ["", "no machine is booted", "the page has too little memory", "the run is too long", "nothing is of this number"];
+const ANSWERS = [
+  "", "no machine is booted", "the page has too little memory", "the run is too long", "nothing is of this number",
+];
 const UNKNOWN = 4;
 const REFUSALS = ["", "BadConfig", "BadPrograms", "NoInit", "Memory", "Init"];
 const EXEC = ["", "NotElf", "TooManyArgs", "ArgsTooLong", "NoFrames", "BadSegment"];
-const MISTAKES = ["", "Memory", "UnknownWord", "BadOperand", "OutOfRange", "DuplicateLabel", "UnknownLabel", "NotText", "Memory"];
-const ROOM = 65536;
+const MISTAKES = [
+  "", "Memory", "UnknownWord", "BadOperand", "OutOfRange", "DuplicateLabel", "UnknownLabel", "NotText", "Memory",
+];
+const ROOM = 65536, ROOM_SIZE = BigInt(ROOM);
 const ECHO = 384n;
 const FILE = 1048576 + 65536;
+const SLOTS = 64; // of processes
 const TYPED = 128; // bytes that the console holds of what was typed
 
 /** A refusal to boot, as `xv_page_boot` tells it, in xv_run's words; null where there is a machine. */
@@ -28,7 +36,9 @@ export function boot_refusal({ kind, cause, place }) {
   return words.join(" ");
 }
 
-/** A number as the module takes it, 32 bits without a sign. WebAssembly would take any other one by its lowest 32 bits. */
+/**
+ * A number as the module takes it, 32 bits without a sign. WebAssembly would take any other one by its lowest 32 bits.
+ */
 function whole(number) {
   if (!Number.isInteger(number) || number < 0 || number > 0xffffffff) throw new Error(ANSWERS[UNKNOWN]);
   return number;
@@ -39,6 +49,7 @@ export class Machine {
     this.module = module;
     this.fresh();
     this.kernel_calls = this.calls_by_number();
+    learn_calls(this.kernel_calls);
   }
 
   /** A new instance has new memory: all that an earlier machine held is gone. */
@@ -57,7 +68,9 @@ export class Machine {
     this.told = take(256);
     this.room = take(ROOM);
     this.view();
-    for (const at of [this.session, this.programs, this.table, this.sources]) this.bytes.fill(0, Number(at), Number(at) + 16);
+    for (const at of [this.session, this.programs, this.table, this.sources]) {
+      this.bytes.fill(0, Number(at), Number(at) + 16);
+    }
     this.at = Number(this.told);
     this.room_at = Number(this.room);
   }
@@ -96,7 +109,8 @@ export class Machine {
   /** Boots a machine; files: [{name, bytes}]. Answers null, or why there is none: then the machine before stays. */
   boot(config, files) {
     const { calls, bytes, data, session, programs, table, sources, told, room, at, room_at } = this;
-    const put_back = () => Object.assign(this, { calls, bytes, data, session, programs, table, sources, told, room, at, room_at });
+    const before = { calls, bytes, data, session, programs, table, sources, told, room, at, room_at };
+    const put_back = () => Object.assign(this, before);
     try {
       this.fresh();
       const refusal = this.boot_fresh(config, files);
@@ -118,26 +132,36 @@ export class Machine {
       this.done(answer);
     }
     this.calls.xv_page_boot(this.session, this.programs, frames, trace, this.told);
-    const d = this.view(), at = this.at;
-    return boot_refusal({ kind: d.getUint32(at, true), cause: d.getUint32(at + 4, true), place: Number(d.getBigUint64(at + 8, true)) });
+    this.view();
+    return boot_refusal({ kind: this.u32(0), cause: this.u32(4), place: this.count(8) });
   }
 
-  outcome(at) {
-    const d = this.data;
-    return { kind: d.getUint32(at, true), pid: d.getUint32(at + 4, true), number: d.getInt32(at + 8, true), shown: d.getUint32(at + 16, true), value: signed(d, at + 24) };
+  // ---- what the last call has told, at so many bytes from its beginning
+
+  u32(place) { return this.data.getUint32(this.at + place, true); }
+  i32(place) { return this.data.getInt32(this.at + place, true); }
+  u64(place) { return this.data.getBigUint64(this.at + place, true); }
+  count(place) { return Number(this.u64(place)); }
+  is(place) { return this.u32(place) === 1; }
+
+  /** What came of an event. */
+  outcome(place) {
+    return {
+      kind: this.u32(place), pid: this.u32(place + 4), number: this.i32(place + 8), shown: this.u32(place + 16),
+      value: signed(this.data, this.at + place + 24),
+    };
   }
 
   /** Sends an event, and tells what came of it, with the bytes that it shows. */
   event(kind, byte = 0) {
     this.done(this.calls.xv_page_event(this.session, whole(kind), whole(byte), this.told, this.room, ECHO));
-    const told = this.outcome(this.at);
+    const told = this.outcome(0);
     told.bytes = told.shown ? this.bytes.slice(this.room_at, this.room_at + told.shown) : NO_BYTES;
     return told;
   }
 
   runs() {
-    const d = this.data, at = this.at;
-    return { sent: d.getUint32(at, true), met: d.getUint32(at + 4, true) === 1, last: d.getUint32(at + 8, true) ? this.outcome(at + 16) : null };
+    return { sent: this.u32(0), met: this.is(4), last: this.u32(8) ? this.outcome(16) : null };
   }
 
   /** Sends Run, `most` times at most: {sent, last}; `last` is null where each is a done instruction. */
@@ -153,14 +177,18 @@ export class Machine {
   }
 
   /**
-   * Sends Run as long as an instruction is done and leads to no stop, and once more: {sent, met, last}. The process that runs stands before
-   * a stop if its next instruction stands at one of the addresses, or stores to one of the bytes.
+   * Sends Run as long as an instruction is done and leads to no stop, and once more: {sent, met, last}. The process
+   * that runs stands before a stop if its next instruction stands at one of the addresses, or stores to one of the
+   * bytes.
    */
   run_to_stop(most, { addresses, bytes }) {
-    const at = this.room + 8n * BigInt(addresses.length);
+    const counts = [addresses, bytes].map((it) => BigInt(it.length)), at = this.room + 8n * counts[0];
     this.view();
-    [...addresses, ...bytes].slice(0, ROOM / 8).forEach((it, k) => this.data.setBigUint64(this.room_at + 8 * k, BigInt.asUintN(64, it), true));
-    this.done(this.calls.xv_page_run_to_stop(this.session, most, this.room, BigInt(addresses.length), at, BigInt(bytes.length), this.told));
+    [...addresses, ...bytes].slice(0, ROOM / 8).forEach((it, k) => {
+      this.data.setBigUint64(this.room_at + 8 * k, BigInt.asUintN(64, it), true);
+    });
+    const { calls, session, room, told } = this;
+    this.done(calls.xv_page_run_to_stop(session, most, room, counts[0], at, counts[1], told));
     return this.runs();
   }
 
@@ -171,21 +199,22 @@ export class Machine {
 
   facts() {
     this.done(this.calls.xv_page_facts(this.session, this.told));
-    const d = this.data, at = this.at;
-    return { at: Number(d.getBigUint64(at, true)), free: d.getUint32(at + 8, true), current: d.getUint32(at + 12, true), halted: d.getUint32(at + 16, true) === 1,
-      status: d.getInt32(at + 20, true), clock: d.getUint32(at + 24, true), notes: Number(d.getBigUint64(at + 32, true)) };
+    return {
+      at: this.count(0), free: this.u32(8), current: this.u32(12), halted: this.is(16), status: this.i32(20),
+      clock: this.u32(24), notes: this.count(32),
+    };
   }
 
   /** The pid of the current process, or 0. */
   current() {
     this.done(this.calls.xv_page_facts(this.session, this.told));
-    return this.data.getUint32(this.at + 12, true);
+    return this.u32(12);
   }
 
   /** The pids of all processes, live or not, by their slots. */
   pids() {
     const found = [];
-    for (let slot = 0; slot < 64; slot++) {
+    for (let slot = 0; slot < SLOTS; slot++) {
       const pid = this.word(this.calls.xv_page_slot(this.session, slot, this.told));
       if (pid !== null) found.push(Number(pid));
     }
@@ -194,25 +223,44 @@ export class Machine {
 
   process(pid) {
     this.done(this.calls.xv_page_process(this.session, whole(pid), this.told));
-    const d = this.data, at = this.at, kind = d.getUint32(at, true);
+    const kind = this.u32(0);
     if (kind === 0) return null;
-    return { pid, lives: kind === 1, parent: d.getUint32(at + 4, true), marked: d.getUint32(at + 8, true) === 1, asleep: d.getUint32(at + 12, true) === 1,
-      call: d.getUint32(at + 16, true) ? { number: d.getInt32(at + 20, true), words: [24, 32, 40].map((it) => d.getBigUint64(at + it, true)), moved: d.getUint32(at + 48, true), since: d.getUint32(at + 52, true) } : null,
-      status: d.getInt32(at + 56, true) };
+    const call = this.u32(16) ? this.call_in() : null;
+    return {
+      pid, lives: kind === 1, parent: this.u32(4), marked: this.is(8), asleep: this.is(12), call, status: this.i32(56),
+    };
+  }
+
+  /** The call that a process is in. */
+  call_in() {
+    const words = [24, 32, 40].map((it) => this.u64(it));
+    return { number: this.i32(20), words, moved: this.u32(48), since: this.u32(52) };
   }
 
   /** A number, or null where there is none. */
   word(answer) {
     this.done(answer);
-    const d = this.data;
-    return d.getUint32(this.at, true) ? d.getBigUint64(this.at + 8, true) : null;
+    return this.u32(0) ? this.u64(8) : null;
   }
+
+  /** The same, as a count. */
+  small_word(answer) {
+    const word = this.word(answer);
+    return word === null ? null : Number(word);
+  }
+
   size(pid) { return this.word(this.calls.xv_page_size(this.session, whole(pid), this.told)); }
-  register(pid, number) { return this.word(this.calls.xv_page_register(this.session, whole(pid), whole(number), this.told)); }
-  byte(pid, address) { return this.word(this.calls.xv_page_byte(this.session, whole(pid), BigInt.asUintN(64, address), this.told)); }
+  register(pid, number) {
+    return this.word(this.calls.xv_page_register(this.session, whole(pid), whole(number), this.told));
+  }
+  byte(pid, address) {
+    return this.word(this.calls.xv_page_byte(this.session, whole(pid), BigInt.asUintN(64, address), this.told));
+  }
   address(pid) { return this.word(this.calls.xv_page_address(this.session, whole(pid), this.told)); }
-  program(pid) { const place = this.word(this.calls.xv_page_program(this.session, whole(pid), this.told)); return place === null ? null : Number(place); }
-  frame(pid, page) { const frame = this.word(this.calls.xv_page_frame(this.session, whole(pid), whole(page), this.told)); return frame === null ? null : Number(frame); }
+  program(pid) { return this.small_word(this.calls.xv_page_program(this.session, whole(pid), this.told)); }
+  frame(pid, page) {
+    return this.small_word(this.calls.xv_page_frame(this.session, whole(pid), whole(page), this.told));
+  }
 
   /** [pc, x1, .., x31] of a live process, or null. */
   registers(pid) {
@@ -239,28 +287,27 @@ export class Machine {
   /** What a page allows, by the bits of its entry: 1 V, 2 R, 4 W, 8 X, 16 U; 0 where it isn't there. */
   rights(pid, page) {
     this.done(this.calls.xv_page_rights(this.session, whole(pid), whole(page), this.told));
-    return this.data.getUint32(this.at, true);
+    return this.u32(0);
   }
 
   /** What a frame is used for: {kind, pid, place}. */
   use(frame) {
     this.done(this.calls.xv_page_use(this.session, whole(frame), this.told));
-    const d = this.data, at = this.at;
-    return { kind: d.getUint32(at, true), pid: d.getUint32(at + 4, true), place: d.getUint32(at + 8, true) };
+    return { kind: this.u32(0), pid: this.u32(4), place: this.u32(8) };
   }
 
   descriptor(pid, fd) {
     this.done(this.calls.xv_page_descriptor(this.session, whole(pid), whole(fd), this.told));
-    const d = this.data, at = this.at, kind = d.getUint32(at, true);
+    const kind = this.u32(0);
     if (kind === 0) return null;
-    return { pid, fd, kind, read: d.getUint32(at + 4, true) === 1, write: d.getUint32(at + 8, true) === 1, frame: d.getUint32(at + 12, true), program: Number(d.getBigUint64(at + 16, true)), offset: Number(d.getBigUint64(at + 24, true)) };
+    const to = { frame: this.u32(12), program: this.count(16), offset: this.count(24) };
+    return { pid, fd, kind, read: this.is(4), write: this.is(8), ...to };
   }
 
   pipe(frame) {
     this.done(this.calls.xv_page_pipe(this.session, whole(frame), this.told));
-    const d = this.data, at = this.at;
-    if (!d.getUint32(at, true)) return null;
-    return { frame, readers: Number(d.getBigUint64(at + 8, true)), writers: Number(d.getBigUint64(at + 16, true)), bytes: Number(d.getBigUint64(at + 24, true)) };
+    if (!this.u32(0)) return null;
+    return { frame, readers: this.count(8), writers: this.count(16), bytes: this.count(24) };
   }
 
   /** The bytes in a pipe, or in a list of the console, from the oldest on. */
@@ -272,22 +319,38 @@ export class Machine {
       found.push(Number(byte));
     }
   }
-  pipe_bytes(frame) { return this.listed((place) => this.calls.xv_page_pipe_byte(this.session, whole(frame), place, this.told)); }
-  console(list) { return this.listed((place) => this.calls.xv_page_console(this.session, whole(list), place, this.told)); }
+  pipe_bytes(frame) {
+    return this.listed((place) => this.calls.xv_page_pipe_byte(this.session, whole(frame), place, this.told));
+  }
+
+  /** The byte at a place of a list of the console; null where the list ends. */
+  console_byte(list, place) {
+    return this.word(this.calls.xv_page_console(this.session, whole(list), BigInt(place), this.told));
+  }
+  console(list) {
+    return this.listed((place) => this.calls.xv_page_console(this.session, whole(list), place, this.told));
+  }
+
   /** Whether the console has room for one more key: 128 bytes that were typed may be held. */
   has_room_for_key() {
-    const held = (list) => { let count = 0; while (count < TYPED && this.word(this.calls.xv_page_console(this.session, list, BigInt(count), this.told)) !== null) count++; return count; };
-    return held(0) + held(1) < TYPED;
+    let held = 0;
+    for (const list of [0, 1]) {
+      let count = 0;
+      while (count < TYPED && this.console_byte(list, count) !== null) count++;
+      held += count;
+    }
+    return held < TYPED;
   }
+
   /** Whether a byte waits to be sent. */
-  has_output() { return this.word(this.calls.xv_page_console(this.session, 2, 0n, this.told)) !== null; }
+  has_output() { return this.console_byte(2, 0) !== null; }
 
   /** The note at a place of the trace, or null where there is none. */
   note(place) {
     const answer = this.calls.xv_page_note(this.session, BigInt(place), this.told);
     if ((answer & 255) === UNKNOWN) return null;
     this.done(answer);
-    return this.outcome(this.at);
+    return this.outcome(0);
   }
 
   /** The text of an instruction, or null where the word is none. */
@@ -303,27 +366,48 @@ export class Machine {
   told_text(answer) {
     if ((answer & 255) === UNKNOWN) return null;
     this.done(answer);
-    return this.text(this.room, this.data.getBigUint64(this.at, true));
+    return this.text(this.room, this.u64(0));
   }
 
   /** What a process does that has not ended: on what it sleeps, and who could wake it. */
-  wait_text(pid) { return this.told_text(this.calls.xv_page_wait(this.session, this.sources, whole(pid), this.told, this.room, BigInt(ROOM))); }
+  wait_text(pid) {
+    const { calls, session, sources, told, room } = this;
+    return this.told_text(calls.xv_page_wait(session, sources, whole(pid), told, room, ROOM_SIZE));
+  }
 
   /** Why the step that is next can't be made, by the cause of its fault: its first line, then registers, then calls. */
-  fault_text(cause) { return this.told_text(this.calls.xv_page_fault(this.session, this.sources, whole(cause), this.told, this.room, BigInt(ROOM))); }
+  fault_text(cause) {
+    const { calls, session, sources, told, room } = this;
+    return this.told_text(calls.xv_page_fault(session, sources, whole(cause), told, room, ROOM_SIZE));
+  }
 
   /** That a process was killed by another, by its call at an address. It stands right after that call. */
-  kill_text(victim, killer, address) { return this.told_text(this.calls.xv_page_kill(this.session, this.sources, whole(victim), whole(killer), BigInt.asUintN(64, address), this.told, this.room, BigInt(ROOM))); }
+  kill_text(victim, killer, address) {
+    const { calls, session, sources, told, room } = this;
+    const of = [whole(victim), whole(killer), BigInt.asUintN(64, address)];
+    return this.told_text(calls.xv_page_kill(session, sources, ...of, told, room, ROOM_SIZE));
+  }
 
   /** That a process was refused a growth, by its call of this number at an address. It stands right after that call. */
-  refused_text(pid, number, address) { return this.told_text(this.calls.xv_page_refused(this.session, this.sources, whole(pid), whole(number), BigInt.asUintN(64, address), this.told, this.room, BigInt(ROOM))); }
+  refused_text(pid, number, address) {
+    const { calls, session, sources, told, room } = this;
+    const of = [whole(pid), whole(number), BigInt.asUintN(64, address)];
+    return this.told_text(calls.xv_page_refused(session, sources, ...of, told, room, ROOM_SIZE));
+  }
 
-  /** Tells the module what is known of the source of the program at a place: {table, symbols, source}. The host puts the memory back then. */
+  /**
+   * Tells the module what is known of the source of the program at a place: {table, symbols, source}. The host puts the
+   * memory back then.
+   */
   know(place, { table = "", symbols = NO_BYTES, source = "" }) {
-    const texts = new TextEncoder(), rows = table.split("\n").filter((it) => it).map((it) => `${place} ${it}\n`).join("");
+    const encoder = new TextEncoder(), own = encoder.encode(source);
+    const rows = table.split("\n").filter((it) => it).map((it) => `${place} ${it}\n`);
     const give = (bytes) => [this.put(bytes), BigInt(bytes.length)];
-    this.done(this.calls.xv_page_know(this.sources, ...give(texts.encode(rows))));
-    for (let k = 0; k <= place; k++) this.done(this.calls.xv_page_source(this.sources, ...give(k < place ? NO_BYTES : symbols), ...give(k < place ? NO_BYTES : texts.encode(source))));
+    this.done(this.calls.xv_page_know(this.sources, ...give(encoder.encode(rows.join("")))));
+    for (let k = 0; k <= place; k++) {
+      const [names, text] = k < place ? [NO_BYTES, NO_BYTES] : [symbols, own];
+      this.done(this.calls.xv_page_source(this.sources, ...give(names), ...give(text)));
+    }
   }
 
   /** The rows of a table that a call tells by their places, up to the first place at which there is none. */
@@ -333,7 +417,7 @@ export class Machine {
       const answer = tell(place);
       if ((answer & 255) === UNKNOWN) return found;
       this.done(answer);
-      found.push(row(this.data, this.at));
+      found.push(row());
     }
   }
 
@@ -344,13 +428,16 @@ export class Machine {
 
   /** The names of the kernel calls by their numbers. */
   calls_by_number() {
-    return new Map(this.rows((place) => this.calls.xv_page_call(place, this.told, this.room, BigInt(ROOM)), (d, at) => [d.getInt32(at, true), this.text(this.room, d.getBigUint64(at + 8, true))]));
+    const tell = (place) => this.calls.xv_page_call(place, this.told, this.room, ROOM_SIZE);
+    return new Map(this.rows(tell, () => [this.i32(0), this.text(this.room, this.u64(8))]));
   }
 
   /** The lines of the source that was assembled last, and its labels; `room` has room for each label. */
   places(room, size) {
-    const lines = this.rows((place) => this.calls.xv_page_line(this.table, place, this.told), (d, at) => ({ line: Number(d.getBigUint64(at, true)), start: d.getBigUint64(at + 8, true), end: d.getBigUint64(at + 16, true) }));
-    const names = this.rows((place) => this.calls.xv_page_label(this.table, place, this.told, room, BigInt(size)), (d, at) => ({ name: this.text(room, d.getBigUint64(at + 8, true)), address: d.getBigUint64(at, true) }));
+    const line = (place) => this.calls.xv_page_line(this.table, place, this.told);
+    const label = (place) => this.calls.xv_page_label(this.table, place, this.told, room, BigInt(size));
+    const lines = this.rows(line, () => ({ line: this.count(0), start: this.u64(8), end: this.u64(16) }));
+    const names = this.rows(label, () => ({ name: this.text(room, this.u64(8)), address: this.u64(0) }));
     return { lines, names };
   }
 
@@ -360,16 +447,20 @@ export class Machine {
     const from = this.put(source), to = this.calls.page_take(BigInt(FILE));
     if (to === 0n) return { line: 0, kind: "Memory" };
     this.calls.xv_page_assemble(from, BigInt(source.length), to, BigInt(FILE), this.table, this.told);
-    const d = this.view(), kind = d.getUint32(this.at, true), count = Number(d.getBigUint64(this.at + 8, true));
+    this.view();
+    const kind = this.u32(0), count = this.count(8), at = Number(to);
     // A label is shorter than its source, so each fits into the source's own room.
-    const answer = kind === 0 ? { file: this.bytes.slice(Number(to), Number(to) + count), ...this.places(from, source.length) } : { line: count, kind: MISTAKES[kind] };
+    const made = () => ({ file: this.bytes.slice(at, at + count), ...this.places(from, source.length) });
+    const answer = kind === 0 ? made() : { line: count, kind: MISTAKES[kind] };
     this.calls.xv_page_forget(this.table);
     this.calls.page_give(from);
     this.calls.page_give(to);
     return answer;
   }
 
-  /** Puts a copy of the module's whole memory back: the machine as it stood. What the memory has grown since is cleared. */
+  /**
+   * Puts a copy of the module's whole memory back: the machine as it stood. What the memory has grown since is cleared.
+   */
   restore(copy) {
     const memory = this.memory();
     memory.set(copy);

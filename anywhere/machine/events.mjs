@@ -1,11 +1,17 @@
-// The events of a run as a text, as it is held, kept and handed on by a link: of each span of equal events a capital letter, then a key's
-// byte, or how many there are if they are more than one; in digits and small letters, to the base 36.
+// The events of a run as a text, as it is held, kept and handed on by a link: of each span of equal events a capital
+// letter, then a key's byte, or how many there are if they are more than one; in digits and small letters, to the base
+// 36.
 import { EVENT } from "./machine.mjs";
 
 const LETTERS = { [EVENT.RUN]: "R", [EVENT.TICK]: "T", [EVENT.KEY]: "K", [EVENT.SEND]: "S" };
 const EVENTS = Object.fromEntries(Object.entries(LETTERS).map(([event, letter]) => [letter, Number(event)]));
 
-const text_of = ({ event, byte, count }) => (count ? LETTERS[event] + (event === EVENT.KEY ? byte.toString(36) : count > 1 ? count.toString(36) : "") : "");
+/** The text of a span. */
+function text_of({ event, byte, count }) {
+  if (!count) return "";
+  if (event === EVENT.KEY) return LETTERS[event] + byte.toString(36);
+  return LETTERS[event] + (count > 1 ? count.toString(36) : "");
+}
 
 /** The spans that a text tells, as [event, byte, count], or null where it is none. */
 export function spans_of(text) {
@@ -82,13 +88,18 @@ export class Events {
   /** The span whose text begins at a byte, and where the next one begins. */
   read(from) {
     const { bytes } = this, event = EVENTS[String.fromCharCode(bytes[from])];
+    const is_capital = (byte) => byte >= CAPITAL && byte < SMALL;
     let next = from + 1, number = 0;
-    for (; next < this.length && !(bytes[next] >= CAPITAL && bytes[next] < SMALL); next++) number = 36 * number + (bytes[next] < CAPITAL ? bytes[next] - ZERO : bytes[next] - SMALL + 10);
+    for (; next < this.length && !is_capital(bytes[next]); next++) {
+      number = 36 * number + (bytes[next] < CAPITAL ? bytes[next] - ZERO : bytes[next] - SMALL + 10);
+    }
     if (event === EVENT.KEY) return { event, byte: number, count: 1, next };
     return { event, byte: 0, count: next === from + 1 ? 1 : number, next };
   }
 
-  /** The spans from the one with the event at a place on: {event, byte, at, end, from, number}; `from`: its first byte. */
+  /**
+   * The spans from the one with the event at a place on: {event, byte, at, end, from, number}; `from`: its first byte.
+   */
   *from(place = 0) {
     let low = 0, high = this.noted.length - 1;
     while (low < high) {
@@ -118,7 +129,8 @@ export class Events {
   /** Forgets the events from a place on. */
   cut(place) {
     if (place >= this.end) return;
-    const { event, byte, at, from, number } = place > 0 ? this.from(place - 1).next().value : { event: EVENT.RUN, byte: 0, at: 0, from: 0, number: 0 };
+    const none = { event: EVENT.RUN, byte: 0, at: 0, from: 0, number: 0 };
+    const { event, byte, at, from, number } = place > 0 ? this.from(place - 1).next().value : none;
     Object.assign(this, { length: from, count: number, end: place, last: { event, byte, count: place - at } });
     this.noted.length = Math.floor(number / NOTED) + 1;
   }
@@ -131,7 +143,8 @@ export class Events {
     const { value } = this.from(place).next();
     if (!value) return "";
     const { event, byte, from, end } = value, first = text_of({ event, byte, count: end - place });
-    return from === this.length ? first : first + decoder.decode(this.bytes.subarray(this.read(from).next, this.length)) + text_of(this.last);
+    if (from === this.length) return first;
+    return first + decoder.decode(this.bytes.subarray(this.read(from).next, this.length)) + text_of(this.last);
   }
 
   spans() { return [...this.from()].map(({ event, byte, at, end }) => [event, byte, end - at]); }

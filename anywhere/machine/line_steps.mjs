@@ -1,13 +1,12 @@
-// Steps by lines of a program's source, in the worker: over calls, into them, out of a function; forward and back. The page tells where
-// the lines begin, {address, line}, and how calls lie on the stack, {address, base, size, ra, s0}, both in the order of their addresses, and where
-// the function of the next instruction begins and ends.
+// Steps by lines of a program's source, in the worker: over calls, into them, out of a function; forward and back. The
+// page tells where the lines begin, {address, line}, and how calls lie on the stack, {address, base, size, ra, s0},
+// both in the order of their addresses, and where the function of the next instruction begins and ends.
 import { KIND } from "./machine.mjs";
-import { last_before } from "./sorted.mjs";
+import { number_at } from "./memory.mjs";
+import { last_before } from "./ordered.mjs";
 
-const MOST = 30000000; // Runs that a step makes before it gives up
 const AT_ONCE = 1000000; // Runs up to a stop of one call
 const FIRST_PART = 20000, MOST_OF_PART = 2000000; // events that a step back looks through at once
-const MOST_IDLE = 200;
 
 /** Where a process stands: its pc and the registers by which calls are followed; null if it doesn't live. */
 function place_of(machine, pid) {
@@ -21,7 +20,10 @@ function above(frames, at) {
   return !row || row.base === "-" ? at.sp : at[row.base] + row.size;
 }
 
-/** Where a process stands: {pc, line, frame}; `frame`: where its caller's part of the stack begins. Null if it doesn't live. */
+/**
+ * Where a process stands: {pc, line, frame}; `frame`: where its caller's part of the stack begins. Null if it doesn't
+ * live.
+ */
 function standing(machine, pid, { lines, frames }) {
   const at = place_of(machine, pid);
   return at && { pc: at.pc, line: last_before(lines, at.pc)?.line ?? "", frame: above(frames, at) };
@@ -37,19 +39,17 @@ function ends(how, from, now) {
 /** The addresses at which a step may end: of one over calls those of the function, and where it returns to. */
 function addresses_of(how, from, { lines, within }, returns) {
   if (how === "out") return returns;
-  const may_end = ({ address, line }) => line !== "" && line !== from.line && (how === "into" || !within || (address >= within.from && address < within.to));
+  const is_within = (address) => !within || (address >= within.from && address < within.to);
+  const may_end = ({ address, line }) => line !== "" && line !== from.line && (how === "into" || is_within(address));
   return [...new Set([...lines.filter(may_end).map((it) => it.address), ...returns])];
 }
 
-/** The eight bytes at an address, as a number; null where memory ends. */
-function double_at(machine, pid, address) {
-  const bytes = machine.peek(pid, BigInt.asUintN(64, address), 8);
-  return bytes.length < 8 ? null : new DataView(bytes.buffer, bytes.byteOffset).getBigUint64(0, true);
-}
-
-/** The place of the caller of a function at a place, where the pc is that to which it returns; null if it isn't known. */
+/**
+ * The place of the caller of a function at a place, where the pc is that to which it returns; null if it isn't known.
+ */
 function caller_of(machine, pid, at, frames) {
-  const row = last_before(frames, at.pc), sp = above(frames, at), kept = (place, register) => (place > 0n ? double_at(machine, pid, sp - place) : register);
+  const row = last_before(frames, at.pc), sp = above(frames, at);
+  const kept = (place, register) => (place > 0n ? number_at(machine, pid, sp - place, 8) : register);
   // A function without a row, as one in assembler, calls no other: what it returns to stands in ra.
   const pc = kept(row?.ra ?? 0n, at.ra), s0 = kept(row?.s0 ?? 0n, at.s0);
   return pc === null ? null : { pc, ra: null, sp, s0 };
@@ -79,44 +79,39 @@ export function calls_of(machine, pid, frames) {
 }
 
 /** Forward: plays on up to the end of the step. Answers words that say why it ended elsewhere, or nothing. */
-function forward(run, plan, { how, pid, ...known }, halted) {
+function forward(run, plan, { how, pid, ...known }) {
   const { machine } = run, from = standing(machine, pid, known), program = run.program_of(pid);
   if (!from) return "";
-  const addresses = addresses_of(how, from, known, returns_of(machine, pid, known)), own = { addresses, bytes: [] }, none = { addresses: [], bytes: [] };
-  const stops = () => (run.current === pid ? own : none);
-  let idle = 0;
-  plan.find();
-  for (let sent = 0; sent < MOST; ) {
-    const before = run.at;
-    let kind = KIND.STEP;
-    if (run.is_past) run.replay(Math.min(run.end, run.at + AT_ONCE), stops);
-    else {
-      if (halted()) return "process 1 is gone: nobody runs again";
-      const told = plan.next(AT_ONCE, stops());
-      kind = told.kind;
-      idle = kind === KIND.IDLE ? idle + 1 : kind === KIND.TICK || kind === KIND.NONE ? idle : 0;
-    }
-    sent += run.at - before;
+  const addresses = addresses_of(how, from, known, returns_of(machine, pid, known));
+  const own = { addresses, bytes: [] }, none = { addresses: [], bytes: [] };
+  const ended = () => {
     const now = standing(machine, pid, known);
     if (!now) return `process ${pid} has ended`;
     if (run.program_of(pid) !== program) return `process ${pid} runs another program now`;
-    if (run.current === pid && addresses.includes(now.pc) && ends(how, from, now)) return "";
-    if (idle > MOST_IDLE) return "nobody may run: all wait, maybe for keys";
-    if (before === run.at) return "";
-  }
-  return "the line did not end in 30 million Runs";
+    return run.current === pid && addresses.includes(now.pc) && ends(how, from, now) ? "" : null;
+  };
+  const stops = () => (run.current === pid ? own : none);
+  return plan.go_on({ at_once: AT_ONCE, stops, ended }) ?? "the line did not end in 30 million Runs";
 }
 
 /** The places within a part of the run at which a process comes to the beginning of a line: {place, line, frame}. */
 function beginnings(run, from, to, pid, known) {
-  const { machine, line } = run, found = [], own = { addresses: known.lines.filter((it) => it.line !== "").map((it) => it.address), bytes: [] };
-  const note = () => { if (run.at < to && run.current === pid) { const now = standing(machine, pid, known); if (now && last_before(known.lines, now.pc)?.address === now.pc) found.push({ place: run.at, ...now }); } };
+  const { machine, line } = run, found = [];
+  const own = { addresses: known.lines.filter((it) => it.line !== "").map((it) => it.address), bytes: [] };
+  const note = () => {
+    const now = run.at < to && run.current === pid ? standing(machine, pid, known) : null;
+    if (now && last_before(known.lines, now.pc)?.address === now.pc) found.push({ place: run.at, ...now });
+  };
   run.go(from);
   note();
   for (let k = Math.max(0, line.find(run.at)); run.at < to && k < line.length; k++) {
     const end = Math.min(to, line.end_of(k));
     if (line.pid(k) !== pid || line.kind(k) !== KIND.STEP) { run.replay(end); note(); continue; }
-    while (run.at < end) { const told = machine.run_to_stop(end - run.at, own); run.at += told.sent; if (told.met) note(); }
+    while (run.at < end) {
+      const told = machine.run_to_stop(end - run.at, own);
+      run.at += told.sent;
+      if (told.met) note();
+    }
   }
   return found;
 }
@@ -141,6 +136,6 @@ function backward(run, { how, pid, ...known }) {
 }
 
 /** A step by a line; answers words that say why it ended elsewhere, or nothing. */
-export function line_step(run, plan, wants, halted) {
-  return wants.back ? backward(run, wants) : forward(run, plan, wants, halted);
+export function line_step(run, plan, wants) {
+  return wants.back ? backward(run, wants) : forward(run, plan, wants);
 }

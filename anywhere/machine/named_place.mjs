@@ -1,5 +1,6 @@
-// The way to a place that a link names: an event's number, or the so-manyth event of a kind, or where nobody goes on. The machine is played
-// up to there by its plan, so the same programs in the same rounds come to the same place. It is done in the worker.
+// The way to a place that a link names: an event's number, or the so-manyth event of a kind, or where nobody goes on.
+// The machine is played up to there by its plan, so the same programs in the same rounds come to the same place. It is
+// done in the worker.
 import { KIND } from "./machine.mjs";
 import { call_name } from "./calls.mjs";
 import { bits_of } from "./record.mjs";
@@ -7,25 +8,39 @@ import { bits_of } from "./record.mjs";
 const MOST = 400000000; // events that a link may lead through
 const STILL = 4; // ticks at which nobody may run, until that is how the run ends
 
-const NAMED = { turn: [KIND.TURN], tick: [KIND.TICK], key: [KIND.KEY], fault: [KIND.FAULT], exit: [KIND.EXIT], end: [KIND.EXIT, KIND.FAULT], asleep: [KIND.WAIT] };
+const NAMED = new Map(Object.entries({
+  turn: [KIND.TURN], tick: [KIND.TICK], key: [KIND.KEY], fault: [KIND.FAULT], exit: [KIND.EXIT],
+  end: [KIND.EXIT, KIND.FAULT], asleep: [KIND.WAIT],
+}));
 
-/** Whether an outcome of a kind may be one of those that a word names; and whether it is: a kind of event, or a call that answers. */
-const is_of = (word, kind) => (NAMED[word] ?? [KIND.CALL]).includes(kind);
-const is_named = (word, { kind, number }) => is_of(word, kind) && (NAMED[word] !== undefined || call_name(number) === word);
+/**
+ * Whether an outcome of a kind may be one of those that a word names; and whether it is: a kind of event, or a call
+ * that answers.
+ */
+const is_of = (word, kind) => (NAMED.get(word) ?? [KIND.CALL]).includes(kind);
+function is_named(word, { kind, number }) {
+  return is_of(word, kind) && (NAMED.has(word) || call_name(number) === word);
+}
 
-/** What a link's `at` means, `120`, `fork`, `fork.2` or `last`, as {place}, {word, count}, or {is_last}; null if it means nothing. */
+/**
+ * What a link's `at` means, `120`, `fork`, `fork.2` or `last`, as {place}, {word, count}, or {is_last}; null if it
+ * means nothing.
+ */
 export function way_of(text, calls) {
   const [, word, count] = /^([a-z]+|\d{1,12})(?:\.(\d{1,6}))?$/.exec(text) ?? [];
   if (word === undefined || count === "0") return null;
   if (/^\d/.test(word)) return count === undefined ? { place: Number(word) } : null;
   if (word === "last") return { is_last: true };
-  return NAMED[word] || calls.includes(word) ? { word, count: Number(count ?? 1) } : null;
+  return NAMED.has(word) || calls.includes(word) ? { word, count: Number(count ?? 1) } : null;
 }
 
 export class Reach {
   constructor(run, plan, to) {
     Object.assign(this, { run, plan, to, left: to.count ?? 0, still: 0, still_from: null, is_there: false });
-    if (to.place !== undefined && to.place <= run.end) { run.go(to.place); this.is_there = true; } else if (!this.is_in_record()) run.go(run.end);
+    if (to.place !== undefined && to.place <= run.end) {
+      run.go(to.place);
+      this.is_there = true;
+    } else if (!this.is_in_record()) run.go(run.end);
     plan.find();
   }
 
@@ -76,6 +91,7 @@ export class Reach {
   /** Whether a process sleeps until a tick. */
   sleeps_by_the_clock() {
     const { machine } = this.run;
-    return machine.pids().some((pid) => { const it = machine.process(pid); return it.asleep && it.call && call_name(it.call.number) === "sleep"; });
+    const sleeps = ({ asleep, call }) => asleep && call && call_name(call.number) === "sleep";
+    return machine.pids().some((pid) => sleeps(machine.process(pid)));
   }
 }

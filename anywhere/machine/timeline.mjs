@@ -2,7 +2,9 @@
 import { KIND } from "./machine.mjs";
 
 const JOINS = new Set([KIND.STEP, KIND.IDLE, KIND.NONE, KIND.HALTED]);
-export const COLUMNS = { at: Float64Array, kind: Uint8Array, event: Uint8Array, pid: Uint32Array, number: Int32Array, value: Float64Array };
+export const COLUMNS = {
+  at: Float64Array, kind: Uint8Array, event: Uint8Array, pid: Uint32Array, number: Int32Array, value: Float64Array,
+};
 
 export class Timeline {
   /** Of a part that begins at a place. */
@@ -23,7 +25,8 @@ export class Timeline {
   /** Whether an outcome goes on with the last stretch. */
   joins(event, { kind, pid, number }) {
     const last = this.length - 1;
-    return last >= 0 && JOINS.has(kind) && this.kind[last] === kind && this.pid[last] === pid && this.event[last] === event && this.number[last] === number;
+    if (last < 0 || !JOINS.has(kind) || this.kind[last] !== kind || this.pid[last] !== pid) return false;
+    return this.event[last] === event && this.number[last] === number;
   }
 
   /** Adds so many events with this outcome. */
@@ -43,7 +46,8 @@ export class Timeline {
 
   /** The stretches from one up to another, with where they begin and end: what another timeline can have. */
   part(from, to = this.length) {
-    const part = { start: from < this.length ? this.at[from] : this.end, end: to < this.length ? this.at[to] : this.end };
+    const place_of = (k) => (k < this.length ? this.at[k] : this.end);
+    const part = { start: place_of(from), end: place_of(to) };
     for (const name in COLUMNS) part[name] = this[name].slice(from, to);
     return part;
   }

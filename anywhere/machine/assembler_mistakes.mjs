@@ -1,0 +1,148 @@
+// A mistake of a source in words: what is wrong in its line, and what to write in its place.
+
+/** Words of other assemblers, and what to write in place of each. */
+const SWAPS = {
+  beqz: "this language has `beq a0, x0, label`",
+  bnez: "this language has `bne a0, x0, label`",
+  bltz: "write `blt a0, x0, label`",
+  bgez: "write `bge a0, x0, label`",
+  blez: "write `bge x0, a0, label`",
+  bgtz: "write `blt x0, a0, label`",
+  bgt: "turn the registers round: `blt b, a, label`",
+  ble: "turn the registers round: `bge b, a, label`",
+  bgtu: "turn the registers round: `bltu b, a, label`",
+  bleu: "turn the registers round: `bgeu b, a, label`",
+  neg: "write `sub rd, x0, rs`",
+  not: "write `xori rd, rs, -1`",
+  seqz: "write `sltiu rd, rs, 1`",
+  snez: "write `sltu rd, x0, rs`",
+  jr: "write `jalr x0, 0(rs)`",
+  tail: "write `j label`",
+  lla: "write `la rd, label`",
+  "sext.w": "write `addiw rd, rs, 0`",
+  mul: "there is no multiplication: the machine has RV64I alone",
+  mulw: "there is no multiplication",
+  div: "there is no division: the machine has RV64I alone",
+  divu: "there is no division",
+  rem: "there is no remainder: the machine has RV64I alone",
+  ".globl": "leave it out: `_start:` is found by its name",
+  ".global": "leave it out: `_start:` is found by its name",
+  ".section": "write `.text` or `.data`",
+  ".string": "write `.asciz \"text\"`",
+  ".ascii": "write `.asciz \"text\"`, which adds a zero byte",
+  ".zero": "write `.space n`",
+  ".half": "there are `.byte`, `.word` and `.dword`",
+  ".align": "nothing is aligned: put the widest numbers first",
+  ".quad": "write `.dword`",
+  ".long": "write `.word`",
+};
+
+const HAS_AN_OFFSET = /^(lb|lh|lw|ld|lbu|lhu|lwu|sb|sh|sw|sd|jalr)$/;
+const HAS_AN_IMMEDIATE = /^(addi|andi|ori|xori|slti|sltiu|addiw|lb|lh|lw|ld|lbu|lhu|lwu|sb|sh|sw|sd|jalr)$/;
+const IS_A_BRANCH = /^b(eq|ne|lt|ge|ltu|geu)$/;
+
+/** What to write in place of what the assembler refuses. */
+function hint_of(kind, text) {
+  const word = (/^\s*(?:[A-Za-z_]\w*:)?\s*([A-Za-z_.][\w.]*)/.exec(text) || [])[1] || "";
+  switch (kind) {
+    case "UnknownWord":
+      if (Object.hasOwn(SWAPS, word)) return SWAPS[word];
+      if (/^\s*\.(byte|word|dword|asciz|space)\b/.test(text)) return "data stands behind a line `.data`";
+      if (/[A-Z]/.test(word)) return "words are written in lower case";
+      return "no word of this language, or not in this section";
+    case "BadOperand":
+      if (HAS_AN_OFFSET.test(word)) return `the form is \`${word} reg, number(reg)\`: the number may not be left out`;
+      if (IS_A_BRANCH.test(word)) return `the form is \`${word} reg, reg, label\`: load a number by \`li\` first`;
+      if (word === "la") return "the form is `la reg, label`";
+      if (word === "li") return "the form is `li reg, number`";
+      return "an operand is missing, is one too many, or has not the form that the word asks for";
+    case "OutOfRange":
+      if (HAS_AN_IMMEDIATE.test(word)) return "the number goes from -2048 to 2047: load a larger one by `li`";
+      return "a number or a distance is outside its range";
+    case "DuplicateLabel": return "this label stands on an earlier line too";
+    case "UnknownLabel": return "no line has this label";
+    case "NotText": return "the source is not UTF-8";
+    default: return "the page has too little memory";
+  }
+}
+
+/** The word of a line, what stands behind it, and all of the line without its label. */
+function parts(line) {
+  const [, rest] = /^\s*(?:[A-Za-z_]\w*:)?\s*(.*)$/s.exec(line);
+  const [, word, operands] = /^(\.?[\w.]*)\s*(.*)$/s.exec(rest);
+  return { rest, word, operands: operands.replace(/\s*#.*$/, "") };
+}
+
+/**
+ * A hint, as "write `bne a0, x0, label`", with the operands that stand in the line, if these are as many as it has
+ * places for.
+ */
+function fitted(hint, operands) {
+  const given = operands.split(",").map((it) => it.trim()).filter((it) => it), [first] = given, last = given.at(-1);
+  const places = { a0: first, a: first, rd: first, b: given[1], rs: last, label: last };
+  return hint.replace(/`([^`]+)`/, (quoted, code) => {
+    const names = new Set(code.match(/\b(a0|a|b|rd|rs|label)\b/g));
+    if (names.size !== given.length) return quoted;
+    return `\`${code.replace(/\b(a0|a|b|rd|rs|label)\b/g, (name) => places[name])}\``;
+  });
+}
+
+const letter_of = (text) => ({ "\\n": "\n", "\\t": "\t", "\\0": "\0", "\\r": "\r" })[text] ?? text;
+function decimal(digits, base) {
+  const value = parseInt(digits, base);
+  return `numbers are decimal, or begin with 0x: write ${value} or 0x${value.toString(16)}`;
+}
+
+/** Forms of other assemblers, and what to write in place of each. */
+const FOREIGN = [
+  [/'(\\?.)'/, ([form, letter]) => `letters are written as numbers: ${letter_of(letter).codePointAt(0)} for ${form}`],
+  [/\/\/|\/\*|^\*\//, () => "a comment begins with `#`"],
+  [/;/, () => "a comment begins with `#`, and a line has one instruction"],
+  [/^\.(?:equ|set|eqv)\b|^\w+\s*=/, () => "there are no names for numbers: write the number itself in each place"],
+  [/\b0[bB]([01]+)\b/, ([, digits]) => decimal(digits, 2)],
+  [/\b0[oO]([0-7]+)\b/, ([, digits]) => decimal(digits, 8)],
+  [/\b0X[0-9a-fA-F]+\b/, ([form]) => `write the x small: ${form.toLowerCase()}`],
+  [/%(?:hi|lo|pcrel_hi|pcrel_lo)\b/, () => "take a label's address by `la reg, label`"],
+];
+
+/**
+ * The form of another assembler that a line has, and what to write in its place: [form, words]; null where it has none.
+ */
+function foreign(line) {
+  const code = parts(line).rest.replace(/"(?:[^"\\]|\\.)*"?/g, '""').replace(/(?<!')#.*$/, "");
+  for (const [form, words] of FOREIGN) { const found = form.exec(code); if (found) return [found[0], words(found)]; }
+  return null;
+}
+
+const REGISTER = /^(x([0-9]|[12][0-9]|3[01])|zero|ra|sp|gp|tp|fp|t[0-6]|s([0-9]|1[01])|a[0-7])$/;
+const is_no_register = (it) => /^[astx]\d+$/.test(it) && !REGISTER.test(it);
+const NUMBER = /^-?(0x[0-9a-fA-F]+|\d+)$/;
+
+/** What the mistake is about: the label, the number or the register that isn't one, or the word. */
+function about(kind, line) {
+  const { word, operands } = parts(line), given = operands.split(",").map((it) => it.trim());
+  const wrong = {
+    UnknownLabel: () => given.find((it) => !REGISTER.test(it) && !NUMBER.test(it)),
+    OutOfRange: () => given.map((it) => /^-?\w+/.exec(it)?.[0]).find((it) => it && NUMBER.test(it)),
+    BadOperand: () => given.find(is_no_register),
+    DuplicateLabel: () => /^\s*([A-Za-z_]\w*):/.exec(line)?.[1],
+  }[kind]?.();
+  return wrong || word;
+}
+
+/** What to write in place of what is wrong in a line. */
+function hint(kind, line, what) {
+  if (kind === "UnknownWord") return fitted(hint_of(kind, line), parts(line).operands);
+  if (kind === "BadOperand" && is_no_register(what)) {
+    return "there is no such register: a0 to a7, s0 to s11, t0 to t6, or x0 to x31";
+  }
+  return hint_of(kind, line);
+}
+
+/** A mistake of a source in words: the line, what is wrong in it, and what to write. */
+export function mistake_words({ line, kind }, source) {
+  const text = source.split("\n")[line - 1] ?? "", what = about(kind, text);
+  const is_form = kind === "UnknownWord" || kind === "BadOperand";
+  const [named, words] = (is_form ? foreign(text) : null) ?? [what, hint(kind, text, what)];
+  return `line ${line}: ${named ? `\`${named}\`: ` : ""}${words} (${kind})`;
+}

@@ -1,0 +1,68 @@
+// Break points of a machine, {kind, address or number, program, name}: at an address ("address"), before a store to a
+// byte ("store"), after a kernel call ("call"). One of a program, told by its place among the files, stops processes
+// that run it; one whose program is null stops each.
+import { KIND } from "./machine.mjs";
+import { word_at } from "./memory.mjs";
+import { bits_of } from "./record.mjs";
+import { store_width } from "./registers.mjs";
+
+const is_call = (kind) => kind === KIND.CALL || kind === KIND.WAIT;
+
+export class BreakPoints {
+  constructor(run) {
+    this.run = run;
+    this.list = [];
+  }
+
+  /** Whether each instruction is to be looked at. */
+  get looks_at_each() { return this.list.some((it) => it.kind !== "call"); }
+
+  /** Those that a process may meet. */
+  of_process(pid) {
+    const program = this.run.program_of(pid);
+    return this.list.filter((it) => it.program === null || it.program === program);
+  }
+
+  /** The stops of the process that runs, as the module takes them: {addresses, bytes}. */
+  stops() {
+    const addresses = [], bytes = [];
+    for (const it of this.of_process(this.run.current)) {
+      if (it.kind === "address") addresses.push(it.address);
+      else if (it.kind === "store") bytes.push(it.address);
+    }
+    return { addresses, bytes };
+  }
+
+  /** Which break point stops the process that runs, whose next step is looked at, in words; null if none does. */
+  words_here() {
+    const { run } = this, { machine } = run, pid = run.current;
+    if (!pid) return null;
+    const pc = machine.register(pid, 0), is_at = (it) => it.kind === "address" && it.address === pc;
+    const is_before = (it) => it.kind === "store" && this.is_stored_next(pid, pc, it.address);
+    const found = this.of_process(pid).find((it) => is_at(it) || is_before(it));
+    return found ? `${found.kind === "store" ? "before a store to" : "at"} ${found.name}` : null;
+  }
+
+  /** Whether the step that is next stores to a byte. */
+  is_stored_next(pid, pc, address) {
+    const { machine } = this.run, to = machine.address(pid), word = to === null ? null : word_at(machine, pid, pc);
+    const width = word === null ? 0 : store_width(word);
+    return width > 0 && address >= to && address < to + BigInt(width);
+  }
+
+  /** Whether what came of an event is a call after which a break point stops. */
+  is_stop_after({ kind, number }) {
+    return is_call(kind) && this.list.some((it) => it.kind === "call" && it.number === number);
+  }
+
+  /** The place after the record's next call, up to a place, at which a break point stops; null if there is none. */
+  after_call_of_record(to) {
+    const { run } = this, { line } = run;
+    if (!this.list.some((it) => it.kind === "call")) return null;
+    for (const k of line.along(Math.max(0, line.find(run.at)), 1, { kinds: bits_of(is_call) })) {
+      if (line.at(k) >= to) return null;
+      if (this.is_stop_after(line.outcome(k))) return Math.max(run.at, line.at(k)) + 1;
+    }
+    return null;
+  }
+}
