@@ -1,0 +1,12 @@
+//! The laws that a reader meets first, each as a clause of a function with an empty body.
+ghost use Rattle.xv_claims.specs.ApartLaws.{ApartSeesChannels, ApartWorlds};
+
+/// Two processes that have nothing in common.
+pub fn apart_processes()
+    // A step of one changes for the other the channels, and nothing else.
+    ensures apart_sees_channels { ApartSeesChannels }
+
+    // Two worlds that show a process the same, and the same channels as each of its steps begins, can't be told
+    // apart by it, if all others who make steps are apart from it.
+    ensures apart_worlds { ApartWorlds }
+{}
