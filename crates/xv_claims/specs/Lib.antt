@@ -1,2 +1,4 @@
 pub mod Apart
 pub mod ApartLaws
+pub mod Told
+pub mod ToldLaws

@@ -1,5 +1,16 @@
 //! The laws that a reader meets first, each as a clause of a function with an empty body.
+ghost use Rattle.xv_claims.specs.ToldLaws.{OutcomesAreDetermined, TellsOutcomes};
 ghost use Rattle.xv_claims.specs.ApartLaws.{ApartSeesChannels, ApartWorlds};
+
+/// What can be seen of a machine.
+pub fn outcomes_of()
+    // A machine that was booted and was sent any events has told what the definitions give of its configuration, its
+    // programs and these events, and nothing else.
+    ensures tells_outcomes { TellsOutcomes }
+
+    // And they give one answer.
+    ensures outcomes_are_determined { OutcomesAreDetermined }
+{}
 
 /// Two processes that have nothing in common.
 pub fn apart_processes()
