@@ -1,0 +1,152 @@
+-- Worked cases of processes that have nothing in common, and of what is left between them.
+use Rattle.std.proofs.Common.{[], ℕ, ◌∙◌, ◌∷◌, ◌≡◌, ◌≢◌, ◌||◌, ap, Bool, false, inl, inr, List, None, Option, refl, Some, subst, sym, true}
+use Rattle.std.proofs.lemmas.Option.{same_Some}
+use Rattle.std.specs.FinMap.{get}
+use Rattle.std.specs.Prelude.{ℤ, is_some, pos}
+use Rattle.console_core.specs.Lists.{Console}
+use Rattle.pipe_core.specs.Pipe.{Pipe}
+use Rattle.rv64i_core.specs.Registers.{Registers}
+use Rattle.xk_base.specs.Image.{Image}
+use Rattle.file_table.specs.declared.open_file.End.{End}
+use Rattle.kernel_spec.specs.others.Quiet.{file_at, is_same, pipe_at, seen_children, seen_shown}
+use Rattle.kernel_spec.specs.runs.Moments.{IsStepOf, Moment}
+use Rattle.kernel_spec.specs.runs.Run.{Event, Happens, Outcome, Run, Tick, Ticked, World}
+use Rattle.kernel_spec.specs.steps.Own.{Exited, gone_with, Own}
+use Rattle.kernel_spec.specs.steps.Step.{own}
+use Rattle.kernel_spec.specs.views.Processes.{Alive, Child, Live, Running, Status, Zombie}
+use Rattle.kernel_spec.specs.views.State.{State}
+use Rattle.kernel_spec.specs.views.View.{Descriptor, Descriptors, child_of, Shown, Shown_file, Shown_pipe, View, view}
+use Rattle.kernel_spec.specs.views.Words.{is_this}
+use Rattle.kernel_spec.proofs.Common.{none_is_same}
+use Rattle.xv_claims.specs.Apart.{AreApart, Channels, channels, channels_left, IsCutApart, IsOfApart, SameButChannels, Spares, with_channels}
+
+-- ---- the channels
+
+-- a view with other channels has these, and else what it had
+module _ (c : Channels) (v : View) where
+  these : channels (with_channels c v) ≡ c
+  these = refl
+
+  else_as_before : ((with_channels c v).pid ≡ v.pid) × ((with_channels c v).regs ≡ v.regs) × ((with_channels c v).image ≡ v.image) × ((with_channels c v).call ≡ v.call) × ((with_channels c v).killed ≡ v.killed)
+      × ((with_channels c v).descriptors ≡ v.descriptors) × ((with_channels c v).children ≡ v.children) × ((with_channels c v).programs ≡ v.programs)
+  else_as_before = (refl, refl, refl, refl, refl, refl, refl, refl)
+
+-- a step leaves the clock, and the rest as `own` says
+left_so : (v : View) (o : Own) → channels_left (record v { clock = 7 }) (record o { left = record o.left { pids = 1 ∷ 4 ∷ []; next_pid = 5; free = 9 } }) ≡ record { console = o.left.console; clock = 7; pids = 1 ∷ 4 ∷ []; next_pid = 5; free = 9 }
+left_so v o = refl
+
+module _ (v : View) where
+  -- the channels may differ, and nothing else
+  they_differ : (console : Console) → SameButChannels (record v { console = console; clock = 1; pids = []; next_pid = 2; free = 3 }) v
+  they_differ console = refl
+
+  no_other_pid : SameButChannels (record v { pid = 2 }) (record v { pid = 3 }) → ⊥
+  no_other_pid h = let same : ◌≡◌ {A = ℕ} 2 3 = ap (λ (x : View). x.pid) h in let no : ⊥ = cc in no
+
+  no_other_regs : (a b : Registers) → a ≢ b → SameButChannels (record v { regs = a }) (record v { regs = b }) → ⊥
+  no_other_regs a b apart h = apart (ap (λ (x : View). x.regs) h)
+
+  no_other_image : (a b : Image) → a ≢ b → SameButChannels (record v { image = a }) (record v { image = b }) → ⊥
+  no_other_image a b apart h = apart (ap (λ (x : View). x.image) h)
+
+  no_other_mark : SameButChannels (record v { killed = true }) (record v { killed = false }) → ⊥
+  no_other_mark h = let same : true ≡ false = ap (λ (x : View). x.killed) h in let no : ⊥ = cc in no
+
+  no_other_table : (a b : Descriptors) → a ≢ b → SameButChannels (record v { descriptors = a }) (record v { descriptors = b }) → ⊥
+  no_other_table a b apart h = apart (ap (λ (x : View). x.descriptors) h)
+
+  no_other_children : (a b : ℕ → Option Child) → a ≢ b → SameButChannels (record v { children = a }) (record v { children = b }) → ⊥
+  no_other_children a b apart h = apart (ap (λ (x : View). x.children) h)
+
+-- ---- apart
+
+module _ (s : State) where
+  no_common_file : AreApart s 1 2 → file_at s 2 3 ≡ Some 5 → file_at s 1 0 ≡ Some 5 → ⊥
+  no_common_file apart a b = let no : false ≡ true = sym (apart.files 3 0) ∙ (λ i. is_same (a i) (b i)) in let bad : ⊥ = cc in bad
+
+  no_common_pipe : AreApart s 1 2 → pipe_at s 2 3 ≡ Some 5 → pipe_at s 1 0 ≡ Some 5 → ⊥
+  no_common_pipe apart a b = let no : false ≡ true = sym (apart.pipes 3 0) ∙ (λ i. is_same (a i) (b i)) in let bad : ⊥ = cc in bad
+
+  -- 2 isn't the parent of 1, live or a zombie
+  not_its_parent : (l : Live) → AreApart s 1 2 → get s.processes 1 ≡ Some (Alive (record l { parent = Some 2 })) → ⊥
+  not_its_parent l apart is = let no : Some Running ≡ None = sym (ap (child_of 2) is) ∙ apart.no_child in let bad : ⊥ = cc in bad
+
+  not_its_zombie : AreApart s 1 2 → get s.processes 1 ≡ Some (Zombie (Some 2) (pos 0)) → ⊥
+  not_its_zombie apart is = let no : Some (Status (pos 0)) ≡ None = sym (ap (child_of 2) is) ∙ apart.no_child in let bad : ⊥ = cc in bad
+
+  -- two processes of which one names nothing are apart, also if 1 is the parent of 2
+  names_nothing : (l : Live) → ((d : ℕ) → file_at s 1 d ≡ None) → ((d : ℕ) → pipe_at s 1 d ≡ None) → get s.processes 1 ≡ Some (Alive (record l { parent = None })) → AreApart s 1 2
+  names_nothing l files pipes is = record {
+    files = λ d e. ap (is_same (file_at s 2 d)) (files e) ∙ none_is_same (file_at s 2 d);
+    pipes = λ d e. ap (is_same (pipe_at s 2 d)) (pipes e) ∙ none_is_same (pipe_at s 2 d);
+    no_child = ap (child_of 2) is;
+  }
+
+module _ (o : Own) where
+  no_mark : Spares o 3 → o.marked ≡ Some 3 → ⊥
+  no_mark spares is = spares.unmarked is
+
+  no_orphans : Spares o 1 → o.answer ≡ Exited (pos 0) → ⊥
+  no_orphans spares is = let no : Some (pos 0) ≡ None = sym (ap gone_with is) ∙ spares.orphans refl in let bad : ⊥ = cc in bad
+
+  -- another's mark, and an end if q isn't process 1, are no matter
+  spared : o.marked ≡ Some 4 → Spares o 3
+  spared is = record { unmarked = λ e. (let both : ◌≡◌ {A = ℕ} 4 3 = same_Some 4 3 (sym is ∙ e) in let no : ⊥ = cc in no); orphans = λ e. (let no : ⊥ = cc in absurd no) }
+
+-- ---- if a premise is left out, the other sees more than the channels
+
+-- the pipe that both are on, as the step left it, and the offset of an open file that both name
+pipe_told : (d : Descriptor) (e f : End) (x y : Pipe) → seen_shown None (Some (record d { shown = Shown_pipe 4 f y })) (Shown_pipe 0 e x) ≡ Shown_pipe 0 e y
+pipe_told d e f x y = refl
+
+offset_told : (d : Descriptor) → seen_shown (Some (record d { shown = Shown_file 2 90 })) None (Shown_file 2 10) ≡ Shown_file 2 90
+offset_told d = refl
+
+-- its child's end; and if it is process 1, the children of who ended
+end_told : (v w : View) → v.pid ≡ 5 → w.pid ≡ 2 → w.children 5 ≡ Some Running → seen_children (Some (pos 3)) v w 5 ≡ Some (Status (pos 3))
+end_told v w pid own_pid child = rw (pid, own_pid, child) refl
+
+orphans_told : (v w : View) → v.pid ≡ 5 → w.pid ≡ 1 → w.children 6 ≡ None → v.children 6 ≡ Some Running → seen_children (Some (pos 3)) v w 6 ≡ Some Running
+orphans_told v w pid own_pid none child = rw (pid, own_pid, none, child) refl
+
+-- and its mark
+mark_told : (false || is_this 2 (Some 2)) ≡ true
+mark_told = refl
+
+-- ---- events of who is apart from process 2
+
+module _ (w : World) where
+  by_a_tick : IsOfApart 2 w Tick
+  by_a_tick = (λ is. (let no : ⊥ = no_run is.0 in no), λ q v is. absurd (no_run is.0))
+    where
+      no_run : Tick ≡ Run → ⊥
+      no_run e = cc
+
+  not_its_own : IsStepOf 2 w Run → IsOfApart 2 w Run → ⊥
+  not_its_own is apart = apart.0 is
+
+  -- a step of process 3, which is on a pipe of 2's, is none
+  not_on_its_pipe : (v : View) → IsStepOf 3 w Run → view w.state 3 ≡ Some v → pipe_at w.state 2 0 ≡ Some 5 → pipe_at w.state 3 1 ≡ Some 5 → IsOfApart 2 w Run → ⊥
+  not_on_its_pipe v is see a b apart = let no : false ≡ true = sym ((apart.1 3 v is see).0.pipes 0 1) ∙ (λ i. is_same (a i) (b i)) in let bad : ⊥ = cc in bad
+
+  -- nor one that marks it
+  no_kill : (v : View) → IsStepOf 3 w Run → view w.state 3 ≡ Some v → (own v).marked ≡ Some 2 → IsOfApart 2 w Run → ⊥
+  no_kill v is see marks apart = (apart.1 3 v is see).1.unmarked marks
+
+-- a run that is cut
+module _ (w t : World) where
+  no_moment : Happens w Tick Ticked t → IsCutApart 2 w ((Tick, Ticked) ∷ []) t []
+  no_moment tick = (t, tick, inl (by_a_tick w, (refl, refl)))
+
+  one_moment : (v n : View) (o : Outcome) → Happens w Run o t → IsStepOf 2 w Run → view w.state 2 ≡ Some v → view t.state 2 ≡ Some n → IsCutApart 2 w ((Run, o) ∷ []) t (record { before = v; outcome = o; after = Some n } ∷ [])
+  one_moment v n o step is before after = (t, step, inr (record { before = v; outcome = o; after = Some n }, [], refl, (is, before, refl, after), inl refl, (refl, refl)))
+
+  -- no step of its own is passed over, and there is no moment without one
+  not_passed_over : (o : Outcome) → IsStepOf 2 w Run → IsCutApart 2 w ((Run, o) ∷ []) t [] → ⊥
+  not_passed_over o is cut = elim cut.2 [
+    | inl apart ↦ apart.0.0 is
+    | inr moment ↦ (let none : [] ≡ moment.0 ∷ moment.1 = moment.2 in let no : ⊥ = cc in no)
+  ]
+
+  not_made_up : (m : Moment) → IsCutApart 2 w [] t (m ∷ []) → ⊥
+  not_made_up m cut = let none : m ∷ [] ≡ [] = cut.1 in let no : ⊥ = cc in no
