@@ -3,13 +3,15 @@
     python3 -B checks/closure.py [--tell [NAME] | --write]
 
 A claim is a line of the table 'Each claim with its definition' of docs/THEOREM.md. It leads to what its law or contract cites, to what that
-cites, and so on, by names: over the `use` lines of all `specs/*.antt`. Lines are those of the definitions, without comments,
-blank lines and `use` lines. Types and constants of the code (`specs.declared`) and words of std are leaves: they are counted
-by name. The headline is the first sentences of docs/THEOREM.md, which three laws say.
+cites, and so on, by names: over the `use` lines of all `specs/*.antt`. What speaks of a machine leads also to what a machine
+stands for (MEANING): the laws are on a `Meaning`, and the contracts say that it is the machine's. Lines are those of the
+definitions, without comments, blank lines and `use` lines. Types and constants of the code (`specs.declared`) are leaves: they
+are counted by name, with their lines in `src`, without comments and attributes. Words of std are counted by name. The headline
+is the first sentences of docs/THEOREM.md, which the laws of HEADLINE say.
 
 It compares: the last column of that table; each 'N definitions of L lines in M modules' of the pages, which is the headline's,
-with its minutes; and the reading list of crates/kernel_spec/README.md, which has exactly the headline's modules, each with its
-lines. `--write` writes the numbers there. It looks too whether each file of `kernel_spec` holds definitions or laws, not both.
+with its types, words and minutes; and the reading list of crates/kernel_spec/README.md, which has exactly the headline's
+modules, each with its lines, and names its types and words. `--write` writes the numbers and these names there. It looks too whether each file of `kernel_spec` holds definitions or laws, not both.
 `--tell` tells each closure by modules, and `--tell NAME` what a law or definition leads to. The status is 1 if something differs.
 """
 import collections
@@ -20,14 +22,21 @@ import re
 import sys
 
 TOP = pathlib.Path(__file__).resolve().parents[1]
-LAWS = "crates/xv_machine/src/laws.rt", "crates/kernel_spec/src/laws.rt"
-HEADLINE = (LAWS[0], "steps_are_own"), (LAWS[1], "others_keep"), (LAWS[0], "no_byte_is_shown")
+LAWS = "crates/xv_machine/src/laws.rt", "crates/kernel_spec/src/laws.rt", "crates/xv_claims/src/laws.rt"
+HEADLINE = (LAWS[2], "tells_outcomes"), (LAWS[0], "steps_are_own"), (LAWS[1], "others_keep"), (LAWS[2], "apart_sees_channels"), (LAWS[0], "no_byte_is_shown")
+# What the code's events, outcomes and machine are as values of the definitions
+MEANING = ("crates/xv_machine/specs/Machine.antt", "meaning_of"), ("crates/xv_machine/specs/Events.antt", "event_of"), ("crates/xv_machine/specs/Events.antt", "outcome_of")
+MACHINE = "crates/xv_machine/specs/Meaning.antt", "Meaning"
 READING_LIST = "crates/kernel_spec/README.md"
 CLAIMS = "docs/THEOREM.md"
 PAGES = CLAIMS, READING_LIST
 LINES_A_MINUTE = 15
-SAID = re.compile(r"(\d[\d,]*) definitions of (\d[\d,]*) lines in (\d+) modules(?:: (\d+) minutes)?")
+SAID = re.compile(r"\d[\d,]* definitions of \d[\d,]* lines in \d+ modules, \d+ types and constants of the code of \d+ lines, and \d+ words of std and the kit(: \d+ minutes)?")
+SAID_COUNT = re.compile(r"all \d[\d,]* in reading order")
 SAID_BY_CRATE = re.compile(r"\d[\d,]* of `(\w+)`")
+SAID_OTHERS = re.compile(r"few of \d+ others")
+SAID_TYPES = re.compile(r"^- Types and constants of the code: .*$", re.M)
+SAID_WORDS = re.compile(r"^- Words of std and the kit: .*$", re.M)
 
 TOKEN = re.compile(r"\[\]|[(){}\[\],;]|[^\s(){}\[\],;]+")
 COMMENT = re.compile(r"(?:^|(?<=\s))--(?=\s|$)")
@@ -255,19 +264,48 @@ class Closure:
     def lines_of(self, crate):
         return sum(lines for name, lines in self.by_module.items() if name.split(".")[1] == crate)
 
-    @property
+    @functools.cached_property
     def types(self):
-        """The types and constants of the code."""
+        """The types and constants of the code, as pairs of a crate and a name."""
         parts = [it.split(".") for it in self.outside if ".declared." in it]
-        return {".".join(it[:it.index("TheVariants")] if "TheVariants" in it else it) for it in parts}
+        inner = {"TheVariants", "TheInside"}
+        return sorted({(it[1], next((outer for outer, name in zip(it, it[1:]) if name in inner), it[-1])) for it in parts})
+
+    @functools.cached_property
+    def words(self):
+        """The words of std and of the kit's crates, with their module if two have one name."""
+        paths = [it.split(".") for it in self.outside if ".declared." not in it]
+        places = collections.defaultdict(set)
+        for it in paths:
+            places[it[-1]].add(it[-2])
+        homes = {name: (found - {"Prelude"} or found) for name, found in places.items()}  # the Prelude only hands on
+        return sorted(name if len(found) == 1 else f"{it}.{name}" for name, found in homes.items() for it in found)
+
+    @property
+    def type_lines(self):
+        return sum(lines_of_type(*it) for it in self.types)
 
     @property
     def minutes(self):
-        return round(self.lines / LINES_A_MINUTE)
+        return round((self.lines + self.type_lines) / LINES_A_MINUTE)
 
     def __str__(self):
-        std = sum(it.startswith("Rattle.std.") for it in self.outside)
-        return f"{self.count:,} definitions of {self.lines:,} lines in {len(self.by_module)} modules; {len(self.types)} types and constants of the code, {std} words of std"
+        return (f"{self.count:,} definitions of {self.lines:,} lines in {len(self.by_module)} modules, "
+                f"{len(self.types)} types and constants of the code of {self.type_lines} lines, and {len(self.words)} words of std and the kit")
+
+
+@functools.cache
+def lines_of_type(crate, name):
+    """How many lines a type or a constant of the code has, without comments and attributes."""
+    for path in sorted((TOP / "crates" / crate / "src").glob("**/*.rt")):
+        lines = path.read_text(encoding="utf-8").split("\n")
+        for start, line in enumerate(lines):
+            if not re.match(rf"(pub(\(crate\))? )?(struct|enum|const|type) {name}\b", line):
+                continue
+            rest = lines[start:] if not line.endswith(";") else [line]
+            end = next(number for number, it in enumerate(rest) if it in ("}", line) and (it == "}" or it.endswith((";", "}"))))
+            return sum(it.strip() != "" and not it.strip().startswith(("//", "#[")) for it in rest[:end + 1])
+    raise SystemExit(f"{crate} has no type or constant {name}")
 
 
 # ---- claims
@@ -305,6 +343,13 @@ def roots(path, name):
     return {scope.meaning(it) for it in TOKEN.findall(clauses(path, name))} - {None}
 
 
+def with_meaning(found):
+    """With what a machine stands for, if it speaks of a machine."""
+    if not roots(*MACHINE) <= found.definitions:
+        return found
+    return Closure.of([*found.definitions, *found.outside, *(it for path, name in MEANING for it in roots(path, name))])
+
+
 def claims(text):
     """The rows of the table of claims: their lines' numbers, cells and closures."""
     begun = False
@@ -313,11 +358,11 @@ def claims(text):
         cells = line.strip("|").split("|")
         links = re.findall(r"\[`(\w+)`\]\(\.\./(crates/[^)]*\.(?:antt|rt))\)", line) if begun and line.startswith("|") else ()
         if links:
-            yield number, cells, Closure.of(it for name, path in links for it in roots(path, name))
+            yield number, cells, with_meaning(Closure.of(it for name, path in links for it in roots(path, name)))
 
 
 def headline():
-    return Closure.of(it for path, name in HEADLINE for it in roots(path, name))
+    return with_meaning(Closure.of(it for path, name in HEADLINE for it in roots(path, name)))
 
 
 # ---- what the pages say
@@ -331,10 +376,16 @@ def with_claims(text):
 
 
 def with_headline(text, found):
-    def said(it):
-        more = f": {found.minutes} minutes" if it[4] else ""
-        return f"{found.count:,} definitions of {found.lines:,} lines in {len(found.by_module)} modules{more}"
-    return SAID.sub(said, text)
+    text = SAID_COUNT.sub(f"all {found.count:,} in reading order", text)
+    return SAID.sub(lambda it: f"{found}: {found.minutes} minutes" if it[1] else str(found), text)
+
+
+def by_crates(types):
+    """Types and constants, crate by crate."""
+    crates = collections.defaultdict(list)
+    for crate, name in types:
+        crates[crate].append(f"`{name}`")
+    return "; ".join(f"of {crate} {', '.join(names)}" for crate, names in sorted(crates.items()))
 
 
 def listed(text):
@@ -350,7 +401,12 @@ def with_list(text, found):
     lines = text.split("\n")
     for number, rest, name in listed(text):
         lines[number] = f"- {found.by_module[name]} {rest}"
-    return SAID_BY_CRATE.sub(lambda it: f"{found.lines_of(it[1]):,} of `{it[1]}`", "\n".join(lines))
+    text = "\n".join(lines)
+    named = set(SAID_BY_CRATE.findall(text))
+    text = SAID_BY_CRATE.sub(lambda it: f"{found.lines_of(it[1]):,} of `{it[1]}`", text)
+    text = SAID_OTHERS.sub(f"few of {len({it.split('.')[1] for it in found.by_module} - named)} others", text)
+    text = SAID_TYPES.sub(lambda _: f"- Types and constants of the code: {by_crates(found.types)}.", text)
+    return SAID_WORDS.sub(lambda _: f"- Words of std and the kit: {', '.join(f'`{it}`' for it in found.words)}.", text)
 
 
 def page_text(path, found):
@@ -381,7 +437,7 @@ def tell(title, found):
     for name, lines in sorted(found.by_module.items()):
         inside = [it.name for it in modules()[name].definitions if it in found.definitions and it.kind != "module"]
         print(f"    {lines:4} {name}: {' '.join(inside)}")
-    print(f"    of the code: {' '.join(sorted(it.split('.', 1)[1].replace('specs.declared.', '') for it in found.types))}")
+    print(f"    of the code: {by_crates(found.types)}")
 
 
 def main(words):

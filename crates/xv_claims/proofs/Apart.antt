@@ -56,19 +56,19 @@ or_none : (o : Option Child) → option_or o None ≡ o
 or_none None = refl
 or_none (Some c) = refl
 
-same_children : (gone : Option ℤ) (v w : View) → w.children v.pid ≡ None → (w.pid ≡ 1 → gone ≡ None) → (c : ℕ) → seen_children gone v w c ≡ w.children c
-same_children None v w none orphans c = refl
-same_children (Some status) v w none orphans c =
+same_children : (gone : Option ℤ) (v w : View) → (IsSome gone → (w.children v.pid ≡ None) × (w.pid ≢ 1)) → (c : ℕ) → seen_children gone v w c ≡ w.children c
+same_children None v w ends c = refl
+same_children (Some status) v w ends c =
     ap (λ (b : Bool). option_or (cond (nat_eq c v.pid) (same_child (w.children c) (Status status)) (w.children c)) (cond b (v.children c) None)) not_first ∙ elim (eqb_tells c v.pid) [
       | inl here ↦
-          let gone : w.children c ≡ None = ap w.children here.1 ∙ none in
+          let gone : w.children c ≡ None = ap w.children here.1 ∙ (ends refl).0 in
           ap (λ (b : Bool). option_or (cond b (same_child (w.children c) (Status status)) (w.children c)) None) here.0
               ∙ ap (λ (o : Option Child). option_or (same_child o (Status status)) None) gone ∙ sym gone
       | inr there ↦ ap (λ (b : Bool). option_or (cond b (same_child (w.children c) (Status status)) (w.children c)) None) there.0 ∙ or_none (w.children c)
     ]
   where
     not_first : nat_eq w.pid 1 ≡ false
-    not_first = ne_eqb w.pid 1 (λ first. let ends : Some status ≡ None = orphans first in let no : ⊥ = cc in no)
+    not_first = ne_eqb w.pid 1 (ends refl).1
 
 -- ---- what is read off a view
 
@@ -84,12 +84,13 @@ clock_is s q (Some l) w e = sym (ap (λ (u : View). u.clock) (same_Some (view_of
 
 -- ---- a step of who is apart
 
-seen_apart : (s : State) (v w : View) (o : Own) → AreApart s v.pid w.pid → Spares o w.pid → w.children v.pid ≡ None → w.clock ≡ v.clock → seen s v o w ≡ with_channels (channels_left v o) w
+seen_apart : (s : State) (v w : View) (o : Own) → AreApart s v.pid w.pid → o.marked ≢ Some w.pid → (IsSome (gone_with o.answer) → (w.children v.pid ≡ None) × (w.pid ≢ 1)) → w.clock ≡ v.clock
+    → seen s v o w ≡ with_channels (channels_left v o) w
 unfolding seen
-seen_apart s v w o apart spares none clock = λ i. record (with_channels (channels_left v o) w) {
+seen_apart s v w o apart marks ends clock = λ i. record (with_channels (channels_left v o) w) {
   clock = clock i;
   descriptors = λ d. table d i;
-  children = λ c. same_children (gone_with o.answer) v w none spares.orphans c i;
+  children = λ c. same_children (gone_with o.answer) v w ends c i;
   killed = unmarked i;
 }
   where
@@ -103,7 +104,7 @@ seen_apart s v w o apart spares none clock = λ i. record (with_channels (channe
     table d = (λ i. seen_descriptor (left_at o.left.descriptors (no_file d i)) (left_at o.left.descriptors (no_pipe d i)) (w.descriptors d)) ∙ seen_alone (w.descriptors d)
 
     unmarked : (w.killed || is_this w.pid o.marked) ≡ w.killed
-    unmarked = ap (λ (b : Bool). w.killed || b) (this_is_not w.pid o.marked spares.unmarked) ∙ sym (or_false w.killed)
+    unmarked = ap (λ (b : Bool). w.killed || b) (this_is_not w.pid o.marked marks) ∙ sym (or_false w.killed)
 
 -- ---- one event
 
@@ -115,16 +116,15 @@ record Keeps (p : ℕ) (v : View) (t : State) : Type 0 where
 unchanged : (p : ℕ) (v : View) (w t : World) → t ≡ w → view w.state p ≡ Some v → Keeps p v t.state
 unchanged p v w t e is = record { now = channels v; is = ap (λ (u : World). view u.state p) e ∙ is }
 
-step_seen : (w t : World) (r q : ℕ) (o : Outcome) (u : View) (h : StepOf w r o t) → r ≢ q → view w.state q ≡ Some u → AreApart w.state r q → Spares (own h.before) q
+step_seen : (w t : World) (r q : ℕ) (o : Outcome) (u : View) (h : StepOf w r o t) → r ≢ q → view w.state q ≡ Some u → AreApart w.state r q → Spares w.state r (own h.before) q
     → view t.state q ≡ Some (with_channels (channels_left h.before (own h.before)) u)
 step_seen w t r q o u h other is apart spares =
     let pid_r : h.before.pid ≡ r = pid_is w.state r (live w.state r) h.before h.was in
     let pid_q : u.pid ≡ q = pid_is w.state q (live w.state q) u is in
     let apart_too : AreApart w.state h.before.pid u.pid = subst (λ (n : ℕ). AreApart w.state n u.pid) (sym pid_r) (subst (λ (n : ℕ). AreApart w.state r n) (sym pid_q) apart) in
-    let spares_too : Spares (own h.before) u.pid = subst (λ (n : ℕ). Spares (own h.before) n) (sym pid_q) spares in
-    let none : u.children h.before.pid ≡ None = ap u.children pid_r ∙ children_are w.state q (live w.state q) u is r ∙ apart.no_child in
+    let none : child_of q (get w.state.processes r) ≡ None → u.children h.before.pid ≡ None = λ e. ap u.children pid_r ∙ children_are w.state q (live w.state q) u is r ∙ e in
     let clock : u.clock ≡ h.before.clock = clock_is w.state q (live w.state q) u is ∙ sym (clock_is w.state r (live w.state r) h.before h.was) in
-    h.state.others q u (λ e. other (sym (e ∙ pid_r))) is ∙ ap Some (seen_apart w.state h.before u (own h.before) apart_too spares_too none clock)
+    h.state.others q u (λ e. other (sym (e ∙ pid_r))) is ∙ ap Some (seen_apart w.state h.before u (own h.before) apart_too (λ e. spares.unmarked (e ∙ ap Some pid_q)) (λ gone. (none (spares.ends gone).0, λ first. (spares.ends gone).1 (sym pid_q ∙ first))) clock)
 
 kept_turn : (p : ℕ) (v : View) (w t : World) (o : Outcome) → TurnTaken w o t → view w.state p ≡ Some v → Keeps p v t.state
 kept_turn p v w t (Turn q) h is = record { now = channels v; is = ap (λ (u : World). view u.state p) h.3 ∙ is }
@@ -170,7 +170,7 @@ pub apart_sees_channels : ApartSeesChannels
 apart_sees_channels w t p q o v u h his other see_p see_q apart spares =
     let step = own_step p w t o w.turns.halted w.turns.current h his.1 his.2 in
     let same : step.before ≡ v = same_Some step.before v (sym step.was ∙ see_p) in
-    step_seen w t p q o u step other see_q apart (subst (λ (x : View). Spares (own x) q) (sym same) spares) ∙ ap (λ (x : View). Some (with_channels (channels_left x (own x)) u)) same
+    step_seen w t p q o u step other see_q apart (subst (λ (x : View). Spares w.state p (own x) q) (sym same) spares) ∙ ap (λ (x : View). Some (with_channels (channels_left x (own x)) u)) same
 
 -- ---- the first moment of a run that is cut at p's steps
 

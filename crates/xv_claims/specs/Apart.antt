@@ -40,22 +40,21 @@ SameButChannels v w = with_channels (channels w) v ≡ w
 
 -- ---- apart
 
--- no descriptor of q is on an open file or on a pipe that one of p's is on too, and p is no child of q
+-- no descriptor of q is on an open file, or on a pipe, that one of p's is on too
 pub record AreApart (s : State) (p q : ℕ) : Type 0 where
   pub files : (d e : ℕ) → meet_on_file s q d p e ≡ false
   pub pipes : (d e : ℕ) → meet_on_pipe s q d p e ≡ false
-  pub no_child : child_of q (get s.processes p) ≡ None
 
--- a step that comes to o doesn't mark q (a kill); and if q is process 1, which gets the children of who ends, then nobody ends by it
-pub record Spares (o : Own) (q : ℕ) : Type 0 where
+-- a step of p that comes to o doesn't mark q (a kill); and if p ends by it, p is no child of q, which would see the status, and q isn't process 1, which gets p's children
+pub record Spares (s : State) (p : ℕ) (o : Own) (q : ℕ) : Type 0 where
   pub unmarked : o.marked ≢ Some q
-  pub orphans : q ≡ 1 → gone_with o.answer ≡ None
+  pub ends : IsSome (gone_with o.answer) → (child_of q (get s.processes p) ≡ None) × (q ≢ 1)
 
 -- ---- a run in which everybody else is apart
 
 -- the event of w is no step of p; and if another process makes a step, it is apart from p and spares it
 abbrev pub IsOfApart : ℕ → World → Event → Type 0
-IsOfApart p w e = ¬ IsStepOf p w e × ((q : ℕ) (v : View) → IsStepOf q w e → view w.state q ≡ Some v → AreApart w.state q p × Spares (own v) p)
+IsOfApart p w e = ¬ IsStepOf p w e × ((q : ℕ) (v : View) → IsStepOf q w e → view w.state q ≡ Some v → AreApart w.state q p × Spares w.state q (own v) p)
 
 -- The run, cut at p's steps, which are these moments (`IsCut`), and every other event is of who is apart from p
 abbrev pub IsCutApart : ℕ → World → List (Event × Outcome) → World → List Moment → Type 0

@@ -10,7 +10,7 @@ use Rattle.xv_claims.specs.Apart.{AreApart, Spares, SameButChannels, IsCutApart,
 abbrev pub ApartSeesChannels : Type 0
 ApartSeesChannels =
     (w t : World) (p q : ℕ) (o : Outcome) (v u : View) → Happens w Run o t → IsStepOf p w Run → p ≢ q → view w.state p ≡ Some v → view w.state q ≡ Some u
-    → AreApart w.state p q → Spares (own v) q
+    → AreApart w.state p q → Spares w.state p (own v) q
     → view t.state q ≡ Some (with_channels (channels_left v (own v)) u)
 
 -- Two worlds in which p sees the same but for the channels go on by any events, each of which is p's own step or one of who is apart from p. If the channels are the same as each of p's steps begins,

@@ -11,7 +11,7 @@ use Rattle.file_table.specs.declared.open_file.End.{End}
 use Rattle.kernel_spec.specs.others.Quiet.{file_at, is_same, pipe_at, seen_children, seen_shown}
 use Rattle.kernel_spec.specs.runs.Moments.{IsStepOf, Moment}
 use Rattle.kernel_spec.specs.runs.Run.{Event, Happens, Outcome, Run, Tick, Ticked, World}
-use Rattle.kernel_spec.specs.steps.Own.{Exited, gone_with, Own}
+use Rattle.kernel_spec.specs.steps.Own.{Answer, Exited, gone_with, Own, Stepped}
 use Rattle.kernel_spec.specs.steps.Step.{own}
 use Rattle.kernel_spec.specs.views.Processes.{Alive, Child, Live, Running, Status, Zombie}
 use Rattle.kernel_spec.specs.views.State.{State}
@@ -67,31 +67,39 @@ module _ (s : State) where
   no_common_pipe : AreApart s 1 2 → pipe_at s 2 3 ≡ Some 5 → pipe_at s 1 0 ≡ Some 5 → ⊥
   no_common_pipe apart a b = let no : false ≡ true = sym (apart.pipes 3 0) ∙ (λ i. is_same (a i) (b i)) in let bad : ⊥ = cc in bad
 
-  -- 2 isn't the parent of 1, live or a zombie
-  not_its_parent : (l : Live) → AreApart s 1 2 → get s.processes 1 ≡ Some (Alive (record l { parent = Some 2 })) → ⊥
-  not_its_parent l apart is = let no : Some Running ≡ None = sym (ap (child_of 2) is) ∙ apart.no_child in let bad : ⊥ = cc in bad
-
-  not_its_zombie : AreApart s 1 2 → get s.processes 1 ≡ Some (Zombie (Some 2) (pos 0)) → ⊥
-  not_its_zombie apart is = let no : Some (Status (pos 0)) ≡ None = sym (ap (child_of 2) is) ∙ apart.no_child in let bad : ⊥ = cc in bad
-
-  -- two processes of which one names nothing are apart, also if 1 is the parent of 2
-  names_nothing : (l : Live) → ((d : ℕ) → file_at s 1 d ≡ None) → ((d : ℕ) → pipe_at s 1 d ≡ None) → get s.processes 1 ≡ Some (Alive (record l { parent = None })) → AreApart s 1 2
-  names_nothing l files pipes is = record {
+  -- two processes of which one names nothing are apart
+  names_nothing : ((d : ℕ) → file_at s 1 d ≡ None) → ((d : ℕ) → pipe_at s 1 d ≡ None) → AreApart s 1 2
+  names_nothing files pipes = record {
     files = λ d e. ap (is_same (file_at s 2 d)) (files e) ∙ none_is_same (file_at s 2 d);
     pipes = λ d e. ap (is_same (pipe_at s 2 d)) (pipes e) ∙ none_is_same (pipe_at s 2 d);
-    no_child = ap (child_of 2) is;
   }
 
-module _ (o : Own) where
-  no_mark : Spares o 3 → o.marked ≡ Some 3 → ⊥
+module _ (s : State) (o : Own) where
+  no_mark : Spares s 5 o 3 → o.marked ≡ Some 3 → ⊥
   no_mark spares is = spares.unmarked is
 
-  no_orphans : Spares o 1 → o.answer ≡ Exited (pos 0) → ⊥
-  no_orphans spares is = let no : Some (pos 0) ≡ None = sym (ap gone_with is) ∙ spares.orphans refl in let bad : ⊥ = cc in bad
+  -- who ends isn't a child of the other, live or not, and the other isn't process 1
+  not_its_child : (l : Live) → Spares s 5 o 3 → o.answer ≡ Exited (pos 0) → get s.processes 5 ≡ Some (Alive (record l { parent = Some 3 })) → ⊥
+  not_its_child l spares ends is =
+      let none : child_of 3 (get s.processes 5) ≡ None = (spares.ends (ap (λ (a : Answer). is_some (gone_with a)) ends)).0 in
+      let no : Some Running ≡ None = sym (ap (child_of 3) is) ∙ none in let bad : ⊥ = cc in bad
 
-  -- another's mark, and an end if q isn't process 1, are no matter
-  spared : o.marked ≡ Some 4 → Spares o 3
-  spared is = record { unmarked = λ e. (let both : ◌≡◌ {A = ℕ} 4 3 = same_Some 4 3 (sym is ∙ e) in let no : ⊥ = cc in no); orphans = λ e. (let no : ⊥ = cc in absurd no) }
+  no_orphans : Spares s 5 o 1 → o.answer ≡ Exited (pos 0) → ⊥
+  no_orphans spares ends = (spares.ends (ap (λ (a : Answer). is_some (gone_with a)) ends)).1 refl
+
+  -- another's mark is no matter, nor is a child of the other's, or process 1, if nobody ends
+  spared : o.marked ≡ Some 4 → o.answer ≡ Stepped → Spares s 5 o 1
+  spared is steps = record {
+    unmarked = λ e. (let both : ◌≡◌ {A = ℕ} 4 1 = same_Some 4 1 (sym is ∙ e) in let no : ⊥ = cc in no);
+    ends = λ gone. (let no : false ≡ true = sym (ap (λ (a : Answer). is_some (gone_with a)) steps) ∙ gone in let bad : ⊥ = cc in absurd bad);
+  }
+
+  -- and an end is none, if it is of no child of the other's, and the other isn't process 1
+  ends_apart : o.marked ≡ None → get s.processes 5 ≡ Some (Zombie (Some 4) (pos 0)) → Spares s 5 o 3
+  ends_apart none is = record {
+    unmarked = λ e. (let both : ◌≡◌ {A = Option ℕ} None (Some 3) = sym none ∙ e in let no : ⊥ = cc in no);
+    ends = λ gone. (ap (child_of 3) is, λ e. (let no : ⊥ = cc in no));
+  }
 
 -- ---- if a premise is left out, the other sees more than the channels
 
