@@ -2,10 +2,11 @@
 # Programs that others wrote, on this machine and beside it: programs/c/guests.sh fetches and builds them; here each is
 # built for Linux, too, run on the machine and by qemu-riscv64, and what both write, and how they end, is compared.
 #
-#   checks/outside.sh    all; checks/outside.sh NAME.. some of: calls lua sqlite duktape awk bzip2 zlib dc torture
+#   checks/outside.sh    all; checks/outside.sh NAME.. some of: kernel calls lua sqlite duktape awk bzip2 zlib dc torture
 #
 # A line for each run tells the seconds here and by QEMU, and whether both gave the same. The last line is the sum.
-# `calls` is our own, and tries what the functions under the C library answer. `torture` is the compiler's own
+# `kernel` are our own, one for each call of the kernel, without a C library: kernel/README.md. `calls` is our own, too, and
+# tries what the functions under the C library answer. `torture` is the compiler's own
 # gcc.c-torture/execute, at the levels of LEVELS, without it -O0 and -O2: five minutes for each to run, and more to build.
 #
 # It needs what guests.sh needs, and qemu-user. GUESTS is the folder in which all of it stands, JOBS how many run side
@@ -25,13 +26,20 @@ need "$XV_RUN" ./xv
 need riscv64-unknown-elf-gcc 'apt-get install gcc-riscv64-unknown-elf'
 need qemu-riscv64 'apt-get install qemu-user'
 
-# Our own program.
+# Our own programs.
+build_kernel() {
+    cd "$checks/outside/kernel"
+    for source in *.c; do
+        build "call-${source%.c}" -O1 -- "$source"
+    done
+}
+
 build_calls() {
     cd "$checks/outside"
     build calls -O1 -- calls.c
 }
 
-[ $# -gt 0 ] || set -- calls lua sqlite duktape awk bzip2 zlib dc torture
+[ $# -gt 0 ] || set -- kernel calls lua sqlite duktape awk bzip2 zlib dc torture
 build_linux_start
 : >"$GUESTS/results"
 for name; do

@@ -104,7 +104,11 @@ long kernel_uptime(void)
 /* Linux has no file of the name `console`. */
 int kernel_open(const char *name, int mode)
 {
-    return call(OPENAT, HERE, (long)(strcmp(name, "console") == 0 ? "/dev/null" : name), mode);
+    long answer = linux_call(OPENAT, HERE, (long)name, mode, 0, 0);
+
+    if (answer == -ENOENT && strcmp(name, "console") == 0)
+        answer = linux_call(OPENAT, HERE, (long)"/dev/null", mode, 0, 0);
+    return answer < 0 ? -1 : answer;
 }
 
 /* Linux sends a signal to who writes for nobody; here files.c does. */
