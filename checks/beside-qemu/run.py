@@ -17,6 +17,7 @@ from words import text
 QUANTA = [1000, 7, 3, 131]
 QEMU = "qemu-riscv64"
 SHOWN = 5
+BATCH = 64
 TRIES = 300
 
 # What is done in place of each instruction by `--turned`. FENCE has no neighbour: nothing else does nothing.
@@ -48,8 +49,27 @@ def outcome(words):
     return f"status {run.returncode}", run.stdout
 
 
-def outcomes(xv_run, program, quantum, turn=None):
-    """What comes of the program on this machine, and by QEMU. With `turn` the second is turned."""
+def counted(path, log):
+    """What comes of a program by QEMU if it does one instruction at a time, and how often it does the one at each address."""
+    result = outcome([QEMU, "-singlestep", "-d", "exec,nochain", "-D", log, path])
+    with open(log, encoding="ascii") as lines:
+        done = Counter(int(line.split("/")[1], 16) for line in lines if line.startswith("Trace"))
+    return result, done
+
+
+def names_done(program, done):
+    """How often which instruction was done. One that the program changes counts as what it was at first."""
+    body, others, _ = placed(program, "linux")
+    names = {at: "ecall" if isinstance(one, int) else one.name for at, one in body + others}
+    total = Counter()
+    for at, times in done.items():
+        total[names[at]] += times
+    return total
+
+
+def outcomes(xv_run, program, quantum, turn=None, done=None):
+    """What comes of the program on this machine, and by QEMU. With `turn` the second is turned. With `done`, a Counter, QEMU does
+    it a second time, one instruction at a time; how often it does which is added, and if the two ways differ, the second counts."""
     with tempfile.TemporaryDirectory(prefix="beside-qemu-") as folder:
         ours, theirs = os.path.join(folder, "init"), os.path.join(folder, "linux")
         with open(ours, "wb") as target:
@@ -58,7 +78,12 @@ def outcomes(xv_run, program, quantum, turn=None):
             target.write(file(program, "linux", turn))
         os.chmod(theirs, stat.S_IRWXU)
         words = [xv_run, "--frames", "256", "--rounds", "1000000", "--quantum", str(quantum), ours]
-        return outcome(words), outcome([QEMU, theirs])
+        here, there = outcome(words), outcome([QEMU, theirs])
+        if done is not None:
+            again, times = counted(theirs, os.path.join(folder, "log"))
+            done += names_done(program, times)
+            there = there if again == there else again
+        return here, there
 
 
 def differ(ours, theirs):
@@ -112,25 +137,62 @@ def show(xv_run, program, quantum, name):
         print(f"  {line}")
 
 
-def compare(options, quanta):
-    """Runs so many programs, and shows those that differ. Tells how many these are."""
-    def run(number):
-        program = Program(options.seed, number)
-        quantum = quanta[number % len(quanta)]
-        found = differ(*outcomes(options.xv_run, program, quantum))
-        return program, quantum, found, Counter(one.name for group in program.body for one in group.instructions)
+class Comparison:
+    """Random programs that were run, one after another: how many differ, and which instructions they had and did."""
 
-    names, different = Counter(), 0
-    with ThreadPoolExecutor(max_workers=len(os.sched_getaffinity(0))) as pool:
-        for number, (program, quantum, found, its_names) in enumerate(pool.map(run, range(options.programs))):
-            names += its_names
-            different += found
-            if found and different <= SHOWN:
-                show(options.xv_run, program, quantum, f"program {number} of seed {options.seed}")
-    name, least = names.most_common()[-1]
-    print(f"{options.programs} programs of seed {options.seed}: {different} other than by QEMU; "
-          f"{len(names)} instructions stand in them, the rarest ({name}) {least} times")
-    return different
+    def __init__(self, options):
+        self.options = options
+        self.quanta = [options.quantum] if options.quantum else QUANTA
+        self.programs = self.different = 0
+        self.standing, self.done = Counter(), Counter()
+
+    @property
+    def steps(self):
+        return sum(self.done.values())
+
+    def run(self, number):
+        program = Program(self.options.seed, number)
+        quantum = self.quanta[number % len(self.quanta)]
+        done = Counter() if self.options.steps else None
+        found = differ(*outcomes(self.options.xv_run, program, quantum, done=done))
+        return number, program, quantum, found, done
+
+    def add(self, number, program, quantum, found, done):
+        self.programs += 1
+        self.different += found
+        self.standing += Counter(one.name for group in program.body for one in group.instructions)
+        self.done += done or Counter()
+        if found and self.different <= SHOWN:
+            show(self.options.xv_run, program, quantum, f"program {number} of seed {self.options.seed}")
+
+    def run_all(self):
+        """Runs so many programs, or, with --steps, as many as it takes for so many instructions."""
+        with ThreadPoolExecutor(max_workers=self.options.jobs) as pool:
+            if not self.options.steps:
+                for result in pool.map(self.run, range(self.options.programs)):
+                    self.add(*result)
+            while self.steps < self.options.steps:
+                for result in pool.map(self.run, range(self.programs, self.programs + BATCH)):
+                    self.add(*result)
+
+    def tell(self):
+        print(f"{self.programs} programs of seed {self.options.seed}: {self.different} other than by QEMU; "
+              f"{len(self.standing)} instructions stand in them, the rarest ({rarest(self.standing)}")
+        if self.done:
+            print(f"{self.steps} instructions were done, {len(self.done)} different ones, the rarest ({rarest(self.done)}")
+
+
+def rarest(names):
+    name, times = names.most_common()[-1]
+    return f"{name}) {times} times"
+
+
+def compare(options):
+    """Runs programs, and shows those that differ. Tells how many these are."""
+    comparison = Comparison(options)
+    comparison.run_all()
+    comparison.tell()
+    return comparison.different
 
 
 def programs_until_told(options, name):
@@ -160,13 +222,15 @@ def main():
     parser = argparse.ArgumentParser(prog="checks/beside-qemu/run.sh", allow_abbrev=False)
     parser.add_argument("--seed", type=int, default=1, help="other programs for each (1)")
     parser.add_argument("--programs", type=int, default=1000, help="how many (1000)")
+    parser.add_argument("--steps", type=int, default=0, help="as many programs as it takes for so many instructions")
+    parser.add_argument("--jobs", type=int, default=len(os.sched_getaffinity(0)), help="how many run side by side (as processors)")
     parser.add_argument("--quantum", type=int, help=f"the Runs in a round ({', '.join(map(str, QUANTA))} in turn)")
     parser.add_argument("--turned", action="store_true", help="let QEMU do each instruction as another, and look whether it is told")
     parser.add_argument("xv_run", help=argparse.SUPPRESS)
     options = parser.parse_args()
     if options.turned:
         return 1 if turn_each(options) else 0
-    return 1 if compare(options, [options.quantum] if options.quantum else QUANTA) else 0
+    return 1 if compare(options) else 0
 
 
 if __name__ == "__main__":
