@@ -3,17 +3,19 @@
 
     checks/once.py [--tell]
 
-- A function of five lines or more stands twice if another one has the same body, in crates/*/src, in the shell scripts, or in JavaScript.
-  Of a body count the words and signs: not its blanks, comments, contracts and loop invariants, and not what its variables are
-  called. A word is taken for a variable if it begins with a small letter, stands behind no dot, and before no bracket of a call.
-- A constant stands twice if another file of the same language has one of the same name and the same value, which is a number.
-- The number of a kernel call stands in kernel_calls and in the kernel (kcall_core): a constant that is named for a call and has its
-  number is a second one anywhere else.
+- A function of five lines or more stands twice if another one has the same body, in crates/*/src, in the shell scripts,
+  or in JavaScript. Of a body count the words and signs: not its blanks, comments, contracts and loop invariants, and
+  not what its variables are called. A word is taken for a variable if it begins with a small letter, stands after no
+  dot, and before no bracket of a call.
+- A constant stands twice if another file of the same language has one of the same name and the same value, a number.
+- The number of a kernel call stands in kernel_calls and in the kernel (kcall_core): a constant that is named for a call
+  and has its number is a second one anywhere else.
 
 So a copy that was changed by a word isn't found, and neither is a number that stands bare in an expression.
 
-checks/once.txt has those that stand today, a row each, and why. The status is 0 if nothing else stands twice, and each row still does;
-1 if not, and each difference is told. `--tell` tells all that stands twice, as rows for that file. Python 3 alone; some seconds.
+checks/once.txt has those that stand today, a row each, and why. The status is 0 if nothing else stands twice, and each
+row still does; 1 if not, and each difference is told. `--tell` tells all that stands twice, as rows for that file. It
+needs Python 3 and git, and takes some seconds.
 """
 import collections
 import pathlib
@@ -24,19 +26,20 @@ import sys
 TOP = pathlib.Path(__file__).resolve().parents[1]
 KNOWN = TOP / "checks/once.txt"
 LEAST_LINES = 5
-# What isn't of this repository's hand, or is made by a script.
-LEFT_OUT = ("page/nektavoly.html", "docs/html/")
 CONTRACT = re.compile(r"\s*(ensures|requires|invariant|decreases|using|ghost|opaque|proof)\b")
-KEYWORDS = set("""as async await break case catch class const continue default delete do else enum esac export extends false fi finally fn for
-    function if impl import in instanceof let loop match mut new null of pub ref return self static super switch then this throw true try
-    typeof undefined until use void where while yield done elif local echo printf shift exit""".split())
-TOKEN = re.compile(r"""[A-Za-z_][A-Za-z0-9_]*|\d[\w.]*|"(?:\\.|[^"\\])*"|'(?:\\.|[^'\\\n])*'|`(?:\\.|[^`\\])*`|::|=>|[-=<>!&|+*/%.^]+|\S""")
+KEYWORDS = set("""as async await break case catch class const continue default delete do done echo elif else enum esac
+    exit export extends false fi finally fn for function if impl import in instanceof let local loop match mut new null of
+    printf pub ref return self shift static super switch then this throw true try typeof undefined until use void where
+    while yield""".split())
+TOKEN = re.compile(r"""[A-Za-z_][A-Za-z0-9_]*|\d[\w.]*|"(?:\\.|[^"\\])*"|'(?:\\.|[^'\\\n])*'|`(?:\\.|[^`\\])*`"""
+                   r"""|::|=>|[-=<>!&|+*/%.^]+|\S""")
 
 
 def files_of(*patterns):
     """The files of git that fit, as they stand in the working tree."""
-    told = subprocess.run(["git", "ls-files", "-co", "--exclude-standard", "--", *patterns], cwd=TOP, capture_output=True, text=True, check=True)
-    return [path for path in sorted(set(told.stdout.split("\n"))) if path and (TOP / path).is_file() and not path.startswith(LEFT_OUT)]
+    asked = ["git", "ls-files", "-co", "--exclude-standard", "--", *patterns]
+    told = subprocess.run(asked, cwd=TOP, capture_output=True, text=True, check=True)
+    return [path for path in sorted(set(told.stdout.split("\n"))) if path and (TOP / path).is_file()]
 
 
 def scripts():
@@ -47,7 +50,7 @@ def scripts():
 
 
 def of_braces(lines, is_head):
-    """The functions of a text that is laid out: (name, lines of the body). A body ends with a brace below the head's first letter."""
+    """The functions of a text that is laid out, by name and lines: a body's last brace stands below the head."""
     at = 0
     while at < len(lines):
         name, indent = is_head(lines[at]), len(lines[at]) - len(lines[at].lstrip())
@@ -63,7 +66,7 @@ def of_braces(lines, is_head):
 
 
 def opened(lines, at, indent):
-    """The place behind the brace that opens the body of a head of several lines; behind the end of the text, if there is none."""
+    """The place after the brace that opens the body of a head of several lines; the text's end, if there is none."""
     while at < len(lines) and not lines[at].endswith(";"):
         if re.match(rf" {{{indent}}}(\S.*)?\{{$", lines[at]):
             return at + 1
@@ -82,13 +85,15 @@ def shell_head(line):
 
 
 def script_head(line):
-    found = re.match(r"\s*(?:export )?(?:async )?(?:function\*? )?(?:static |get |set )?([A-Za-z_]\w*)\([^()]*(?:\([^()]*\)[^()]*)*\) \{$", line) \
+    words = r"\([^()]*(?:\([^()]*\)[^()]*)*\)"
+    before = r"\s*(?:export )?(?:async )?(?:function\*? )?(?:static |get |set )?"
+    found = re.match(rf"{before}([A-Za-z_]\w*){words} \{{$", line) \
         or re.match(r"\s*(?:export )?const (\w+) = (?:async )?\(?[^()]*\)? => \{$", line)
     return found and found[1] not in ("if", "for", "while", "switch", "catch") and found[1]
 
 
 def folded(body, comment):
-    """The words and signs of a body, in which each variable is a number in the order of their first places; and its count of lines."""
+    """The words and signs of a body, each variable as a number in the order of their places; and how many lines."""
     kept = []
     for line in body:
         bare = line.strip()
@@ -96,8 +101,9 @@ def folded(body, comment):
             kept.append(re.sub(rf"\s{re.escape(comment[0])}.*", "", line) if comment[0] == "//" else line)
     tokens, names = TOKEN.findall("\n".join(kept)), {}
     for place, token in enumerate(tokens):
-        before, after = tokens[place - 1] if place else "", tokens[place + 1] if place + 1 < len(tokens) else ""
-        if re.match(r"[a-z_]", token) and token not in KEYWORDS and before not in (".", "::", "?.") and after not in ("(", "::", "!"):
+        before, after = tokens[place - 1] if place else "", (tokens[place + 1:place + 2] or [""])[0]
+        is_free = before not in (".", "::", "?.") and after not in ("(", "::", "!")
+        if re.match(r"[a-z_]", token) and token not in KEYWORDS and is_free:
             tokens[place] = f"v{names.setdefault(token, len(names))}"
     return " ".join(tokens), len(kept)
 
@@ -105,7 +111,8 @@ def folded(body, comment):
 LANGUAGES = {
     "Rattle": (lambda: files_of("crates/*/src/*.rt", "crates/*/src/**/*.rt"), rattle_head, ("//", "#["),
                re.compile(r"\bconst ([A-Z][A-Z0-9_]*): \w+ = (-?\d[\d_]*|0x[0-9a-fA-F_]+)(?:[iu]\w+)?;")),
-    "shell": (lambda: list(scripts()), shell_head, ("#",), re.compile(r"^(?:readonly |export )?([A-Z][A-Z0-9_]*)=(\d+)$", re.M)),
+    "shell": (lambda: list(scripts()), shell_head, ("#",),
+              re.compile(r"^(?:readonly |export )?([A-Z][A-Z0-9_]*)=(\d+)$", re.M)),
     "JavaScript": (lambda: files_of("*.mjs"), script_head, ("//", "/*", "*"),
                    re.compile(r"(?<![.\w])([A-Z][A-Z0-9_]*) = (-?\d[\d_]*|0x[0-9a-fA-F]+)(?=[,;\n])")),
 }
@@ -126,7 +133,7 @@ def is_of_the_kernel(path):
 
 
 def found():
-    """All that stands twice: (kind, places), where the places of a kind are sorted."""
+    """All that stands twice, by kind and places."""
     numbers = calls()
     for language, (files, is_head, comment, constant) in LANGUAGES.items():
         bodies, constants = collections.defaultdict(list), collections.defaultdict(set)
@@ -154,15 +161,16 @@ def main():
     if sys.argv[1:] == ["--tell"]:
         print("\n".join(rows))
         return 0
-    known = [line.split(" -- ")[0].strip() for line in KNOWN.read_text(encoding="utf-8").split("\n") if line and not line.startswith("#")]
+    lines = KNOWN.read_text(encoding="utf-8").split("\n")
+    known = [line.split(" -- ")[0].strip() for line in lines if line and not line.startswith("#")]
     new, gone = sorted(set(rows) - set(known)), sorted(set(known) - set(rows))
     for row in new:
         print(f"stands twice, and checks/once.txt doesn't say why: {row}")
     for row in gone:
         print(f"stands no more as checks/once.txt says, take the row out: {row}")
     counts = collections.Counter(row.split()[0] for row in rows)
-    print(f"once: {counts['body']} functions of like body, {counts['constant']} constants and {counts['call']} numbers of calls stand twice, "
-          f"{'all' if not new else 'not all'} of them known")
+    print(f"once: {counts['body']} functions of like body, {counts['constant']} constants and {counts['call']} numbers "
+          f"of calls stand twice, {'all' if not new else 'not all'} of them known")
     return 1 if new or gone else 0
 
 

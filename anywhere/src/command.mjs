@@ -1,5 +1,5 @@
-// A program under its own name: its words are as they are, but for what a host's shell leaves to programs. At a terminal
-// xv_terminal gets it prepared.
+// A program under its own name: its words are as they are, but for what a host's shell leaves to programs. At a
+// terminal xv_terminal gets it prepared.
 import { isatty } from "node:tty";
 import { is_release, tell_version } from "./about.mjs";
 import { module_of, run } from "./program.mjs";

@@ -1,5 +1,5 @@
-// --gdb: serves GDB; or, with --commands PATH, writes commands for GDB, by which it knows the symbols of all FILEs and starts the
-// machine. programs/host/modes.sh does the same natively.
+// --gdb: serves GDB; or, with --commands PATH, writes commands for GDB, by which it knows the symbols of all FILEs
+// and starts the machine. programs/host/modes.sh does the same natively.
 import { closeSync, existsSync, openSync, readFileSync, readSync, statSync, writeFileSync } from "node:fs";
 import { fileURLToPath } from "node:url";
 import { module_of, run } from "./program.mjs";
@@ -38,16 +38,17 @@ function lines_for(path, words, wanted) {
   const known = files_of(words).filter((file) => existsSync(`${file}.debug`));
   const first = known.find((file) => name_of(file) === wanted);
   const others = known.filter((file) => file !== first).map((file) => `add-symbol-file '${file}.debug' -o 0`);
-  const command = ["node", quoted(XV), "--gdb", ...words.map(quoted)].join(" ");
+  const settings = ["set architecture riscv:rv64", "set remotetimeout 60", "set confirm off"];
   const file = first ? [`file '${first}.debug'`] : [];
-  return [`${BEGIN}${path}`, "set architecture riscv:rv64", "set remotetimeout 60", "set confirm off", ...file, ...others, `target remote | ${command}`];
+  const command = ["target remote | node", quoted(XV), "--gdb", ...words.map(quoted)].join(" ");
+  return [`${BEGIN}${path}`, ...settings, ...file, ...others, command];
 }
 
-/** Whether no file is there, or one that may be written over: it is empty, or has such commands. A forgotten path costs no program. */
+/** Whether no file is there, or one that is empty or has such commands: so a forgotten path costs no program. */
 function is_free(path) {
   try {
     const about = statSync(path);
-    return !about.isFile() || about.size === 0 || readFileSync(path).subarray(0, BEGIN.length).toString("latin1") === BEGIN;
+    return !about.isFile() || about.size === 0 || readFileSync(path, "latin1").startsWith(BEGIN);
   } catch {
     return true;
   }
@@ -65,8 +66,8 @@ function write_commands(path, words, wanted, say) {
 }
 
 /**
- * Serves GDB over parts of words, or writes commands for it, and gives the exit status. `given` are the parts as a person gave them,
- * before a copy of a single FILE became init. `say` tells a text, and gives its status.
+ * Serves GDB over parts of words, or writes commands for it, and gives the exit status. `given` are the parts as a
+ * person gave them, before a copy of a single FILE became init. `say` tells a text, and gives its status.
  */
 export function gdb(parts, given, say) {
   const words = words_of(parts), serve = (...more) => run(module_of("xv_gdb"), "xv_gdb", [...more, ...words]);

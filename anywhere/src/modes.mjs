@@ -24,7 +24,10 @@ function tell({ text, status: ended }) {
 const program = (name) => (words) => run(module_of(name), name, words);
 
 /** How the words of a kind are run. */
-const DOINGS = { run: program("xv_run"), terminal: at_terminal, "--why": why, "--explain": program("xv_explain"), "--picture": picture, "--debug": debug };
+const DOINGS = {
+  run: program("xv_run"), terminal: at_terminal, "--why": why, "--explain": program("xv_explain"), "--picture": picture,
+  "--debug": debug,
+};
 
 /** What xv answers itself, and its status; nothing if the words are for a program. */
 function answered(first) {
@@ -60,7 +63,10 @@ function one_of(modes) {
   return { mode, option };
 }
 
-/** The kind of words without a mode: options that one of both alone takes tell it, and else whether standard input is a terminal. */
+/**
+ * The kind of words without a mode: options that one of both alone takes tell it, and else whether standard input is a
+ * terminal.
+ */
 function kind_of(parts) {
   const asks_for = (kind, other) => options_of(parts).some(({ name }) => takes(kind, name) && !takes(other, name));
   if (asks_for("run", "terminal")) return "run";

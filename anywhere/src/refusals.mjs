@@ -1,6 +1,6 @@
-// What speaks against words before a program gets them, said with what to do: options of other modes, FILEs that can't be, the
-// assembler's mistakes, all of them up to twenty, and words without an init. The texts are those of programs/host/words.txt, and
-// programs/host/refusals.sh says them natively.
+// What speaks against words before a program gets them, said with what to do: options of other modes, FILEs that
+// can't be, the assembler's mistakes, all of them up to twenty, and words without an init. The texts are those of
+// programs/host/words.txt, and programs/host/refusals.sh says them natively.
 import { copyFileSync, existsSync, mkdtempSync, readFileSync, rmSync, statSync, writeFileSync } from "node:fs";
 import { tmpdir } from "node:os";
 import { join } from "node:path";
@@ -62,14 +62,15 @@ function bytes_of(file) {
 /** What the assembler says of a source first: {line, kind}, or {why} it can't be read; null if it says nothing. */
 function first_mistake(source) {
   let told = "";
-  run(module_of("xv_run"), "xv_run", ["--rounds", "0", "--", `/${SOURCE}`], { files: { [SOURCE]: source }, input: () => [], output() {}, errors: (bytes) => { told += bytes; } });
+  const streams = { input: () => [], output() {}, errors: (bytes) => { told += bytes; }, files: { [SOURCE]: source } };
+  run(module_of("xv_run"), "xv_run", ["--rounds", "0", "--", `/${SOURCE}`], streams);
   const [, line, kind, why] = /: line (\d+): ([A-Za-z]+)\n|: (too long|not text)\n/.exec(told) ?? [];
   return told && (kind ? { line: Number(line), kind } : why ? { why } : null);
 }
 
 const LABEL = /^\s*[A-Za-z_]\w*:/;
 
-/** Refuses a source with the assembler's mistakes, if there are any: a line that was told is left out, but for its label. */
+/** Refuses a source with the assembler's mistakes, if it has some: a line that is told is left out, but for its label. */
 function look_at_source(file) {
   const source = bytes_of(file).toString("latin1").split("\n"), told = [];
   for (;;) {
@@ -130,8 +131,9 @@ function with_init(parts, names, say) {
 }
 
 /**
- * Looks at the parts of words for a kind: run, terminal, or a mode. Gives the parts that a program is to get, or the status with
- * which they are refused. `say` gets each text. What it knows nothing of, as the numbers of options, it leaves to the programs.
+ * Looks at the parts of words for a kind: run, terminal, or a mode. Gives the parts that a program is to get, or the
+ * status with which they are refused. `say` gets each text. What it knows nothing of, as the numbers of options, it
+ * leaves to the programs.
  */
 export function looked_at(kind, parts, say) {
   const names = new Map();

@@ -1,6 +1,6 @@
-// The machine at a terminal. If standard input is one, this thread has it: the terminal hands over each key by itself, and the keys
-// go to the thread that runs the program xv_terminal (terminal_worker.mjs). After each end that a process can see, also one by
-// a signal, the terminal is as it was before.
+// The machine at a terminal. If standard input is one, this thread has it: the terminal hands over each key by
+// itself, and the keys go to the thread that runs the program xv_terminal (terminal_worker.mjs). After each end that
+// a process can see, also one by a signal, the terminal is as it was before.
 import { closeSync, existsSync, statSync } from "node:fs";
 import { isatty } from "node:tty";
 import { fileURLToPath } from "node:url";
@@ -126,8 +126,8 @@ export function at_terminal(words) {
 }
 
 /**
- * Runs the debugger: with the lines of programs in C, and with a prompt if a person types. At a terminal the line editor stands in
- * front of another process of this kind.
+ * Runs the debugger: with the lines of programs in C, and with a prompt if a person types. At a terminal the line
+ * editor stands in front of another process of this kind.
  */
 export function debug(words) {
   const prompt = isatty(0) ? ["--prompt"] : [];

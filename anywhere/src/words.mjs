@@ -1,9 +1,9 @@
-// The words of a command line, as the table programs/host/words.txt tells them (programs/host/words.sh reads it too): their bytes, which
-// of them are modes, options and FILEs, and what Windows leaves to programs.
+// The words of a command line, as the table programs/host/words.txt tells them (programs/host/words.sh reads it too):
+// their bytes, which of them are modes, options and FILEs, and what Windows leaves to programs.
 import { readFileSync, readdirSync } from "node:fs";
 
 const LINES = readFileSync(new URL("../../programs/host/words.txt", import.meta.url), "utf8").split(/\r?\n/);
-const ROWS = LINES.map((line) => /^([a-z]+) (\S+) ?(.*)$/.exec(line)).filter(Boolean).map(([, type, name, rest]) => ({ type, name, rest }));
+const ROWS = LINES.map((line) => /^(?<type>[a-z]+) (?<name>\S+) ?(?<rest>.*)$/.exec(line)?.groups).filter(Boolean);
 
 /** The rows of a type, by their names: what stands after the name. */
 export const rows_of = (type) => new Map(ROWS.filter((row) => row.type === type).map(({ name, rest }) => [name, rest]));
@@ -40,8 +40,8 @@ export function help() {
 }
 
 /**
- * The words of this process. Node reads bytes that aren't UTF-8 as U+FFFD: where one stands, the word is taken as it came, as a
- * Buffer, if the host tells it (Linux). The program then refuses it itself.
+ * The words of this process. Node reads bytes that aren't UTF-8 as U+FFFD: where one stands, the word is taken as it
+ * came, as a Buffer, if the host tells it (Linux). The program then refuses it itself.
  */
 export function own_words() {
   const words = process.argv.slice(2);
@@ -56,8 +56,8 @@ export function own_words() {
 }
 
 /**
- * What the words are, each a part {kind, word}: "option", which has its `value`, if it takes one and a word follows; "end" of the
- * options; or "file".
+ * What the words are, each a part {kind, word}: "option", which has its `value`, if it takes one and a word follows;
+ * "end" of the options; or "file".
  */
 export function parts_of(words) {
   const parts = [];
@@ -73,7 +73,10 @@ export function parts_of(words) {
   return parts;
 }
 
-/** The words of parts. A value with a dash, as a negative number, stands in one word with its option: so it is no option itself. */
+/**
+ * The words of parts. A value with a dash, as a negative number, stands in one word with its option: so it is no option
+ * itself.
+ */
 export function words_of(parts) {
   return parts.flatMap(({ word, value }) => {
     if (value === undefined) return [word];
@@ -98,9 +101,10 @@ export const files_of = (words) => parts_of(words).filter(({ kind }) => kind ===
 
 /** The names that a part of a path with * and ? fits, in a folder: sorted, without those that begin with a dot. */
 function fitting(folder, part) {
-  const pattern = new RegExp(`^${part.replace(/[\\^$.|+()[\]{}]/g, "\\$&").replaceAll("*", ".*").replaceAll("?", ".")}$`, "is");
+  const plain = part.replace(/[\\^$.|+()[\]{}]/g, "\\$&");
+  const pattern = new RegExp(`^${plain.replaceAll("*", ".*").replaceAll("?", ".")}$`, "is");
   try {
-    return readdirSync(folder || ".").filter((name) => pattern.test(name) && (part.startsWith(".") || !name.startsWith("."))).sort();
+    return readdirSync(folder).filter((name) => pattern.test(name) && (part[0] === "." || name[0] !== ".")).sort();
   } catch {
     return [];
   }
@@ -109,12 +113,11 @@ function fitting(folder, part) {
 /** The paths that a path with * and ? fits; the path itself if there are none. */
 export function expanded(path) {
   if (!/[*?]/.test(path)) return [path];
-  let heads = [""];
-  path.split("/").forEach((part, place) => {
-    const join = (head, name) => (place === 0 ? name : `${head}/${name}`);
-    heads = heads.flatMap((head) => (/[*?]/.test(part) ? fitting(place === 0 ? "." : `${head}/`, part) : [part]).map((name) => join(head, name)));
-  });
-  return heads.length > 0 ? heads : [path];
+  const [first, ...parts] = path.split("/");
+  const names = (folder, part) => (/[*?]/.test(part) ? fitting(folder, part) : [part]);
+  const longer = (head, part) => names(`${head}/`, part).map((name) => `${head}/${name}`);
+  const found = parts.reduce((heads, part) => heads.flatMap((head) => longer(head, part)), names(".", first));
+  return found.length > 0 ? found : [path];
 }
 
 /** The words as a program takes them: on Windows paths have slashes, and * and ? stand for the files that fit. */
@@ -124,6 +127,7 @@ export function as_taken(words, is_windows = process.platform === "win32") {
   return words_of(parts_of(words).flatMap((part) => {
     if (part.kind === "file") return expanded(with_slashes(part.word)).map((word) => ({ kind: "file", word }));
     if (part.kind === "end" || OPTIONS.get(option_of(part).name)?.value !== "PATH") return [part];
-    return [part.value === undefined ? { ...part, word: with_slashes(part.word) } : { ...part, value: with_slashes(part.value) }];
+    const its = part.value === undefined ? "word" : "value";
+    return [{ ...part, [its]: with_slashes(part[its]) }];
   }));
 }

@@ -1,13 +1,13 @@
 #!/bin/sh
-# The lines of programs in C, for the programs that take --lines: a table with a row PLACE ADDRESS LINE for each address from
-# which on the instructions are of a line, where PLACE is the FILE's, from 0 on, and both numbers are decimal. A row without
-# a LINE ends what is known.
+# The lines of programs in C, for the programs that take --lines: a table with a row PLACE ADDRESS LINE for each
+# address from which on the instructions are of a line, where PLACE is the FILE's, from 0 on, and both numbers are
+# decimal. A row without a LINE ends what is known.
 #
 #   programs/host/lines.sh [OPTION..] FILE..
 #
-# The options are those of the programs that run FILEs: they are passed over. The lines come from FILE.debug or FILE by
-# readelf (Debian: binutils). A FILE that has none gets no row, and so does assembler source: the programs themselves know
-# its lines.
+# The options are those of the programs that run FILEs: they are passed over. The lines come from FILE.debug or FILE
+# by readelf (Debian: binutils). A FILE that has none gets no row, and so does assembler source: the programs
+# themselves know its lines.
 set -u
 self=$(readlink -f -- "$0")
 here=${self%/*}
@@ -22,8 +22,8 @@ for name in riscv64-unknown-elf-readelf riscv64-linux-gnu-readelf readelf; do
     fi
 done
 
-# The rows of the ELF file $2, which is FILE $1. Its sequences of rows end by a row with -; one that begins at 0 behind the
-# first is of a function that the linker left out.
+# The rows of the ELF file $2, which is FILE $1. Its sequences of rows end by a row with -; one that begins at 0
+# behind the first is of a function that the linker left out.
 of_program() {
     "$tool" -W --debug-dump=decodedline "$2" 2>/dev/null | PLACE=$1 awk '
 function hexadecimal(digits,    n, i) {

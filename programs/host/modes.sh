@@ -2,19 +2,19 @@
 # Runs programs in a mode of xv, natively, for ./xv: programs/host/modes.sh MODE WORD.., with the words of that mode.
 #
 #   --why      tells on standard error why processes end or wait
-#   --picture  writes a picture of the run (SVG) to standard output. What the programs write to the console goes to standard error,
-#              with the reports of --why. The status is that of the run, or 5 if the picture can't be written. Without words it
-#              draws the trace that standard input has
-#   --debug    the debugger, with a prompt if a person types. At a terminal lines are edited, kept and completed by Node's line
-#              editor, if there is Node: it starts this script once more, by pipes. Without Node rlwrap does a part of that, if it is
-#              there
-#   --gdb      serves GDB. With --commands PATH it writes commands for GDB into that file, by which GDB knows the symbols of all FILEs,
-#              as the C compiler's scripts leave them in FILE.debug, and starts the machine: gdb-multiarch -x PATH. GDB waits a
-#              minute for an answer then, since a machine may start slowly. A file that is there is written over only if it has
-#              such commands: so a forgotten PATH costs no program
+#   --picture  writes a picture of the run (SVG) to standard output. What the programs write to the console goes to
+#              standard error, with the reports of --why. The status is that of the run, or 5 if the picture can't be
+#              written. Without words it draws the trace that standard input has
+#   --debug    the debugger, with a prompt if a person types. At a terminal lines are edited, kept and completed by
+#              Node's line editor, if there is Node: it starts this script once more, by pipes. Without Node rlwrap
+#              does a part of that, if it is there
+#   --gdb      serves GDB. With --commands PATH it writes commands for GDB into that file, by which GDB knows the
+#              symbols of all FILEs, as the C compiler's scripts leave them in FILE.debug, and starts the machine:
+#              gdb-multiarch -x PATH. GDB waits a minute for an answer then, since a machine may start slowly. A file
+#              that is there is written over only if it has such commands: so a forgotten PATH costs no program
 #
-# The lines of programs in C come from lines.sh. XV_WHY, XV_PICTURE, XV_DEBUGGER and XV_GDB are other programs than those that stand
-# built.
+# The lines of programs in C come from lines.sh. XV_WHY, XV_PICTURE, XV_DEBUGGER and XV_GDB are other programs than
+# those that stand built.
 set -u
 self=$(readlink -f -- "$0")
 here=${self%/*}
@@ -73,8 +73,8 @@ is_program() {
     [ -f "$1" ] && [ "$(head -c 4 -- "$1" 2>/dev/null | tr -d '\0')" = "$(printf '\177ELF')" ]
 }
 
-# Notes a part of the words of --gdb: the path of --commands, the program that GDB is to get, and if no option names one, the
-# first FILE that is a program and isn't init. All but the path is kept.
+# Notes a part of the words of --gdb: the path of --commands, the program that GDB is to get, and if no option names
+# one, the first FILE that is a program and isn't init. All but the path is kept.
 note_part() {
     value_of "$2" ${3+"$3"}
     case $1${2%%=*} in

@@ -1,9 +1,10 @@
-# Sourced by xv, after words.sh: what speaks against words before a program gets them, said with what to do. The texts are those of
-# words.txt. (anywhere/src/refusals.mjs says them by Node, and checks/refusals compares both with one text.)
+# Sourced by xv, after words.sh: what speaks against words before a program gets them, said with what to do. The texts
+# are those of words.txt. (anywhere/src/refusals.mjs says them by Node, and checks/refusals compares both with one
+# text.)
 #
-#   look_at KIND RUN WORD..   looks at the words for KIND: run, terminal, or a mode. RUN is the program xv_run, which assembles. It
-#                             ends with 1 if an option is refused, and with 2 if a FILE is. Else $alone is the single FILE that is
-#                             to be taken as init, or nothing
+#   look_at KIND RUN WORD..   looks at the words for KIND: run, terminal, or a mode. RUN is the program xv_run, which
+#                             assembles. It ends with 1 if an option is refused, and with 2 if a FILE is. Else $alone
+#                             is the single FILE that is to be taken as init, or nothing
 #
 # What it knows nothing of, as the numbers of options, it leaves to the programs.
 # shellcheck shell=sh
@@ -72,8 +73,9 @@ $name/$file" files=$((files + 1))
     esac
 }
 
-# Ends with the assembler's mistakes in the source $1, if there are any: the assembler tells the first, so a line that it has told
-# is left out, but for its label (or for all but its label, if the label is the mistake), and it is asked again.
+# Ends with the assembler's mistakes in the source $1, if there are any: the assembler tells the first, so a line that
+# it has told is left out, but for its label (or for all but its label, if the label is the mistake), and it is asked
+# again.
 look_at_source() {
     # A source that is right costs no file.
     first_mistake "$1" || return 0
@@ -99,10 +101,12 @@ look_at_source() {
     exit "$told"
 }
 
-# What the assembler says of the source $1 first: `LINE KIND`, or why it can't be read, in $mistake. Fails if it says nothing.
+# What the assembler says of the source $1 first: `LINE KIND`, or why it can't be read, in $mistake. Fails if it says
+# nothing.
 first_mistake() {
     mistake=$("$run" --rounds 0 -- "$1" 2>&1 >/dev/null </dev/null |
-        sed -nE 's/^xv_run: .*: line ([0-9]*): ([A-Za-z]*)$/\1 \2/p; s/^xv_run: .*: (too long|not text|cannot be read)$/\1/p')
+        sed -nE 's/^xv_run: .*: line ([0-9]*): ([A-Za-z]*)$/\1 \2/p
+            s/^xv_run: .*: (too long|not text|cannot be read)$/\1/p')
     [ -n "$mistake" ]
 }
 

@@ -1,11 +1,11 @@
 #!/bin/sh
-# The machine at a terminal: programs/host/terminal.sh [OPTION..] FILE.., with the options of xv_terminal (--help tells
-# them). Without words it runs the shell with all programs that stand in programs/bin.
+# The machine at a terminal: programs/host/terminal.sh [OPTION..] FILE.., with the options of xv_terminal (--help
+# tells them). Without words it runs the shell with all programs that stand in programs/bin.
 #
-# If standard input is a terminal, it hands over each key by itself while the machine runs, and a look at it answers at
-# once. It is as it was after every end that the script can see, also one by a signal. The lines of programs in C, for the
-# prompt, come from lines.sh. XV_TERMINAL is the program, and without it the one that is built. Status 125 says that it
-# couldn't be started.
+# If standard input is a terminal, it hands over each key by itself while the machine runs, and a look at it answers
+# at once. It is as it was after every end that the script can see, also one by a signal. The lines of programs in C,
+# for the prompt, come from lines.sh. XV_TERMINAL is the program, and without it the one that is built. Status 125
+# says that it couldn't be started.
 set -u
 
 give_up() {
@@ -31,7 +31,8 @@ fi
 
 [ -t 0 ] || exec "$program" "$@"
 
-command -v stty >/dev/null || give_up "there is no stty on the PATH (Debian: coreutils), by which each key is handed over"
+command -v stty >/dev/null ||
+    give_up "there is no stty on the PATH (Debian: coreutils), by which each key is handed over"
 
 # Notes the path of --record.
 note_record() {

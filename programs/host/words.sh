@@ -1,14 +1,16 @@
-# Sourced: the words of a command line, as the table words.txt tells them. (anywhere/src/words.mjs reads the same table.)
+# Sourced: the words of a command line, as the table words.txt tells them. (anywhere/src/words.mjs reads the same
+# table.)
 #
 #   read_table FOLDER         reads FOLDER/words.txt
 #   row TYPE NAME             leaves in $row what stands after the name in that row; fails if there is none
 #   takes KIND OPTION         whether a kind takes an option
 #   tell NAME WORD..          says the text of this name, with these words in it, and leaves its status in $told
 #   refuse NAME WORD..        does so, and ends with that status
-#   each_part CALL WORD..     does `CALL option WORD [VALUE]`, `CALL end --` or `CALL file WORD` for each part of the words
+#   each_part CALL WORD..     does `CALL option WORD [VALUE]`, `CALL end --` or `CALL file WORD` for each part of the
+#                             words
 #   keep WORD                 adds a word to $kept, as a shell reads it back: eval "set -- $kept"
-#   keep_part KIND WORD ..    adds the words of a part. A value with a dash, as a negative number, stands in one word with its
-#                             option then: so it is no option itself
+#   keep_part KIND WORD ..    adds the words of a part. A value with a dash, as a negative number, stands in one word
+#                             with its option then: so it is no option itself
 #   value_of WORD [VALUE]     leaves in $value the value of an option, whichever way it stands
 #   name_of FILE              tells the name of the program that a FILE gives
 #   show_help                 tells the help
