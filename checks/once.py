@@ -28,8 +28,8 @@ KNOWN = TOP / "checks/once.txt"
 LEAST_LINES = 5
 CONTRACT = re.compile(r"\s*(ensures|requires|invariant|decreases|using|ghost|opaque|proof)\b")
 KEYWORDS = set("""as async await break case catch class const continue default delete do done echo elif else enum esac
-    exit export extends false fi finally fn for function if impl import in instanceof let local loop match mut new null of
-    printf pub ref return self shift static super switch then this throw true try typeof undefined until use void where
+    exit export extends false fi finally fn for function if impl import in instanceof let local loop match mut new null
+    of printf pub ref return self shift static super switch then this throw true try typeof undefined until use void where
     while yield""".split())
 TOKEN = re.compile(r"""[A-Za-z_][A-Za-z0-9_]*|\d[\w.]*|"(?:\\.|[^"\\])*"|'(?:\\.|[^'\\\n])*'|`(?:\\.|[^`\\])*`"""
                    r"""|::|=>|[-=<>!&|+*/%.^]+|\S""")

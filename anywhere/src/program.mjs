@@ -18,6 +18,8 @@ const FOLDER = fileURLToPath(new URL("..", import.meta.url));
 // so short that the end of a short run would wait for it; this is about what later ones have.
 const [V8] = process.versions.v8.split(".").map(Number);
 if (V8 < 12) setFlagsFromString("--wasm-tiering-budget=10000000");
+// A function is compiled when it is called first: a short run calls few of them.
+setFlagsFromString("--wasm-lazy-compilation");
 
 // Errors of WASI, by the names that Node gives them.
 const ERRORS = { EAGAIN: 6, EIO: 29, ENOSPC: 51, EPIPE: 64 };

@@ -70,7 +70,7 @@ function first_mistake(source) {
 
 const LABEL = /^\s*[A-Za-z_]\w*:/;
 
-/** Refuses a source with the assembler's mistakes, if it has some: a line that is told is left out, but for its label. */
+/** Refuses a source that has mistakes of the assembler: a line that is told is left out, but for its label. */
 function look_at_source(file) {
   const source = bytes_of(file).toString("latin1").split("\n"), told = [];
   for (;;) {
