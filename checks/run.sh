@@ -1,6 +1,6 @@
 #!/bin/sh
 # The checks beside the proofs: checks/run.sh gives the programs the words that are stored, plays the sessions, also those
-# at a terminal and of the debugger, the stored runs, random programs and random words in rows and by single events, the
+# at a terminal and of the debugger, the stored runs, words as others' disassemblers show them, random programs and random words in rows and by single events, the
 # reports and the conversations with GDB by the programs that are built, reads the lines of all sources a second time,
 # grades submissions, runs the commands that the pages show, looks at their links, at the cases by name and at the numbers of
 # calls, counts what the proofs can do without, what stands twice and what has to be believed, and tells of which state the
@@ -32,6 +32,9 @@ tell_others() {
     tell labs.sh 'labs.sh --refusals' '69 answers of a lab, most of which are refused: seconds; needs no kit'
     tell hostile/run.sh 'hostile/run.sh' 'each refused growth of memory, read and write is answered: a minute'
     tell beside-qemu/run.sh 'beside-qemu/run.sh' '1,000 random programs do what they do under QEMU: some minutes; needs qemu-user'
+    tell beside-qemu/run.sh 'beside-qemu/run.sh --steps 10000000' 'as many of them as it takes for ten million instructions: some minutes; needs the same'
+    tell beside-disassemblers/run.sh 'beside-disassemblers/run.sh' "all 2^32 words are what GNU's and LLVM's disassemblers say: half an hour; needs packages, told by the script"
+    tell outside.sh 'outside.sh kernel' 'each kernel call answers what Linux does under QEMU: a minute; needs packages, told by the script'
     tell rows/run.sh 'rows/run.sh --many 1000 [--seed N]' 'more random programs in rows and by single events: minutes'
     tell rows/wild.sh 'rows/wild.sh --many 800 [--seed N]' 'the same of random words, some 100,000 rows: minutes'
     tell outside.sh 'outside.sh' "others' programs do what they do under QEMU: minutes, with \`torture\` an hour; needs packages, told by the script"
@@ -81,7 +84,7 @@ begin_node() {
 
 # What needs a program: the quick ones first.
 quick='checks/words/run.sh checks/refusals/run.sh checks/sessions/run.sh checks/rows/wild.sh'
-longer='checks/stored-runs/run.sh checks/rows/run.sh checks/why/run.sh checks/c-programs/run.sh checks/gdb/run.sh checks/terminal/run.sh checks/debugger/run.sh checks/debugger/typed.py checks/lines.py checks/grading/run.sh'
+longer='checks/stored-runs/run.sh checks/rows/run.sh checks/why/run.sh checks/c-programs/run.sh checks/gdb/run.sh checks/terminal/run.sh checks/debugger/run.sh checks/debugger/typed.py checks/lines.py checks/beside-disassemblers/sample.py checks/grading/run.sh'
 
 # shellcheck disable=SC2086
 case "$*" in

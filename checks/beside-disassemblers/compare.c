@@ -3,12 +3,11 @@
  *   compare OBJECT DIFFERENCES sweep OPCODE     of all words whose bits 6 to 2 are these, 0 to 31, and bits 1 and 0 are 11
  *   compare OBJECT DIFFERENCES whole OPCODE..   the same with GNU's whole table, which takes ten times as long
  *   compare OBJECT DIFFERENCES short            of all words whose bits 1 and 0 are others
- *   compare OBJECT DIFFERENCES tell             of the words of the standard input, in hexadecimal: a line for each, with the three
- *                                               texts and tabs between them
+ *   compare OBJECT DIFFERENCES tell             of the words of the standard input, in hexadecimal: a line for each with the text
+ *                                               that all three have, for sample.txt
  *
  * The status is 1 if a word is another than the project and the list of differences say, 2 if it can't be tried.
  */
-#include <ctype.h>
 #include <stdbool.h>
 #include <stdio.h>
 #include <stdlib.h>
@@ -72,7 +71,7 @@ static bool is_named(const char *text, const char *name)
 
 static bool is_shift(const char *text)
 {
-    return text[0] == 's' && (text[1] == 'l' || text[1] == 'r') && text[3] == 'i';
+    return text[0] == 's' && (text[1] == 'l' || text[1] == 'r') && text[2] != 't' && text[3] == 'i';
 }
 
 static bool has_target(const char *text)
@@ -226,18 +225,17 @@ static void sweep_short(void)
     printf("other low bits: %lu words are no instructions, in %.0f s\n", asked, seconds() - begin);
 }
 
+/* Of the words of the standard input that no row of the list has: the text that all three have, if they have one. */
 static void tell(void)
 {
     uint32_t word;
     while (scanf("%x", &word) == 1) {
-        const char *theirs = gnu_text(word), *tab;
-        printf("%08x\t%s\t", word, ours_text(word));
-        for (tab = theirs; *tab; tab++)
-            putchar(isspace((unsigned char)*tab) ? ' ' : *tab);
-        putchar('\t');
-        for (tab = llvm_text(word); *tab; tab++)
-            putchar(isspace((unsigned char)*tab) ? ' ' : *tab);
-        putchar('\n');
+        if (row_of(GNU, word) || row_of(LLVM, word))
+            continue;
+        const char *ours = ours_text(word);
+        compare_with(GNU, word, ours, gnu_text(word));
+        compare_with(LLVM, word, ours, llvm_text(word));
+        printf("%08x%s%s\n", word, *ours ? " " : "", ours);
     }
 }
 

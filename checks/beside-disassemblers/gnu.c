@@ -124,7 +124,8 @@ void gnu_begin(const char *object)
     disassemble_init_for_target(&about);
 }
 
-/* A word that isn't one instruction of four bytes is shown as data: `.4byte`, `.2byte`, or as many. */
+/* A word that isn't one instruction of four bytes is shown as data: `.4byte`, `.2byte`, or as many. Behind an instruction may stand the
+ * address that its operands and instructions before it make, as `# 0x40`; it is left out. */
 const char *gnu_text(uint32_t word)
 {
     at_zero = word;
@@ -132,5 +133,8 @@ const char *gnu_text(uint32_t word)
     text[0] = 0;
     if (disassemble(0, &about) != 4 || text[0] == '.')
         return "";
+    char *comment = strstr(text, " # ");
+    if (comment)
+        *comment = 0;
     return text;
 }
