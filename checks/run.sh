@@ -1,10 +1,11 @@
 #!/bin/sh
 # The checks beside the proofs: checks/run.sh gives the programs the words that are stored, plays the sessions, also those
-# at a terminal and of the debugger, the stored runs, words as others' disassemblers show them, random programs and random words in rows and by single events, the
-# reports and the conversations with GDB by the programs that are built, reads the lines of all sources a second time,
-# grades submissions, runs the commands that the pages show, looks at their links, at the cases by name and at the numbers of
-# calls, counts what the proofs can do without, what stands twice and what has to be believed, and tells of which state the
-# modules and page/nektavoly.html are, in some 40 seconds. The gate does the same after `rt ci`.
+# at a terminal and of the debugger, the stored runs, random programs and random words in rows and by single events, the
+# reports and the conversations with GDB by the programs that are built, reads the lines of all sources a second time, lets
+# the debugger show words as others' disassemblers do, grades submissions, runs the commands that the pages show, looks at
+# their links, at the cases by name and at the numbers of calls, counts what the proofs can do without, what stands twice and
+# what has to be believed, and tells of which state the modules and page/nektavoly.html are, in some 40 seconds. The gate does
+# the same after `rt ci`.
 # `checks/run.sh --others` tells which other checks there are, how each is called, and how long it takes.
 #
 # `checks/run.sh --node` plays all of that which needs a program by the modules of anywhere/, with Node in place of the native
