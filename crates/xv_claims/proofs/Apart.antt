@@ -4,7 +4,8 @@ use Rattle.console_core.specs.Lists.{empty_console}
 use Rattle.kernel_spec.specs.others.Quiet.{is_same, file_at, pipe_at, seen_table, meets_on_file, meets_on_pipe}
 unfoldable use Rattle.kernel_spec.specs.others.Quiet.{seen}
 use Rattle.kernel_spec.specs.runs.Moments.{AllBoth, IsStepOf, Moment}
-use Rattle.kernel_spec.specs.runs.Run.{Event, Halted, Happens, Idle, Key, KeyHappens, Outcome, Run, RunHappens, Send, Sent, sent, Step_of, StepOf, Tick, Ticked, TickHappens, Turn, TurnTaken, Typed, World}
+use Rattle.kernel_spec.specs.runs.Run.{Event, Halted, Happens, Idle, Key, KeyHappens, Outcome, Run, RunHappens, Send, Sent, sent, Step_of, StepOf}
+use Rattle.kernel_spec.specs.runs.Run.{Tick, Ticked, TickHappens, Turn, TurnTaken, Typed, World}
 use Rattle.kernel_spec.specs.steps.Own.{gone_with, Own}
 unfoldable use Rattle.kernel_spec.specs.steps.Step.{own}
 use Rattle.kernel_spec.specs.views.Processes.{Live}
@@ -72,19 +73,24 @@ same_children (Some status) v w ends c =
 
 -- ---- what is read off a view
 
-children_are : (s : State) (q : ℕ) (o : Option Live) (w : View) → option_map (view_of s q) o ≡ Some w → (r : ℕ) → w.children r ≡ child_of q (get s.processes r)
-unfolding view_of
-children_are s q None w e r = let no : ⊥ = cc in absurd no
-children_are s q (Some l) w e r = sym (ap (λ (u : View). u.children r) (same_Some (view_of s q l) w e))
+a_view : (s : State) (q : ℕ) (o : Option Live) (w : View) → option_map (view_of s q) o ≡ Some w → (l : Live) × (w ≡ view_of s q l)
+a_view s q None w e = let no : ⊥ = cc in absurd no
+a_view s q (Some l) w e = (l, sym (same_Some (view_of s q l) w e))
 
-clock_is : (s : State) (q : ℕ) (o : Option Live) (w : View) → option_map (view_of s q) o ≡ Some w → w.clock ≡ s.clock
-unfolding view_of
-clock_is s q None w e = let no : ⊥ = cc in absurd no
-clock_is s q (Some l) w e = sym (ap (λ (u : View). u.clock) (same_Some (view_of s q l) w e))
+-- two live processes see one clock, and a child as the state has it
+module _ (s : State) (p q : ℕ) (w : View) (see : view s q ≡ Some w) where
+  one_clock : (v : View) → view s p ≡ Some v → w.clock ≡ v.clock
+  unfolding view_of
+  one_clock v see_p = ap (λ (u : View). u.clock) (a_view s q (live s q) w see).1 ∙ sym (ap (λ (u : View). u.clock) (a_view s p (live s p) v see_p).1)
+
+  no_child : child_of q (get s.processes p) ≡ None → w.children p ≡ None
+  unfolding view_of
+  no_child none = ap (λ (u : View). u.children p) (a_view s q (live s q) w see).1 ∙ none
 
 -- ---- a step of who is apart
 
-seen_apart : (s : State) (v w : View) (o : Own) → AreApart s v.pid w.pid → o.marked ≢ Some w.pid → (IsSome (gone_with o.answer) → (w.children v.pid ≡ None) × (w.pid ≢ 1)) → w.clock ≡ v.clock
+seen_apart : (s : State) (v w : View) (o : Own) → AreApart s v.pid w.pid → o.marked ≢ Some w.pid
+    → (IsSome (gone_with o.answer) → (w.children v.pid ≡ None) × (w.pid ≢ 1)) → w.clock ≡ v.clock
     → seen s v o w ≡ with_channels (channels_left v o) w
 unfolding seen
 seen_apart s v w o apart marks ends clock = λ i. record (with_channels (channels_left v o) w) {
@@ -109,11 +115,11 @@ seen_apart s v w o apart marks ends clock = λ i. record (with_channels (channel
 -- ---- one event
 
 -- p sees the channels change, and nothing else
-record Keeps (p : ℕ) (v : View) (t : State) : Type 0 where
+record SeesChannels (p : ℕ) (v : View) (t : State) : Type 0 where
   now : Channels
   is : view t p ≡ Some (with_channels now v)
 
-unchanged : (p : ℕ) (v : View) (w t : World) → t ≡ w → view w.state p ≡ Some v → Keeps p v t.state
+unchanged : (p : ℕ) (v : View) (w t : World) → t ≡ w → view w.state p ≡ Some v → SeesChannels p v t.state
 unchanged p v w t e is = record { now = channels v; is = ap (λ (u : World). view u.state p) e ∙ is }
 
 step_seen : (w t : World) (r q : ℕ) (o : Outcome) (u : View) (h : StepOf w r o t) → r ≢ q → view w.state q ≡ Some u → AreApart w.state r q → Spares w.state r (own h.before) q
@@ -122,11 +128,13 @@ step_seen w t r q o u h other is apart spares =
     let pid_r : h.before.pid ≡ r = pid_is w.state r (live w.state r) h.before h.was in
     let pid_q : u.pid ≡ q = pid_is w.state q (live w.state q) u is in
     let apart_too : AreApart w.state h.before.pid u.pid = subst (λ (n : ℕ). AreApart w.state n u.pid) (sym pid_r) (subst (λ (n : ℕ). AreApart w.state r n) (sym pid_q) apart) in
-    let none : child_of q (get w.state.processes r) ≡ None → u.children h.before.pid ≡ None = λ e. ap u.children pid_r ∙ children_are w.state q (live w.state q) u is r ∙ e in
-    let clock : u.clock ≡ h.before.clock = clock_is w.state q (live w.state q) u is ∙ sym (clock_is w.state r (live w.state r) h.before h.was) in
-    h.state.others q u (λ e. other (sym (e ∙ pid_r))) is ∙ ap Some (seen_apart w.state h.before u (own h.before) apart_too (λ e. spares.unmarked (e ∙ ap Some pid_q)) (λ gone. (none (spares.ends gone).0, λ first. (spares.ends gone).1 (sym pid_q ∙ first))) clock)
+    let none : child_of q (get w.state.processes r) ≡ None → u.children h.before.pid ≡ None = λ e. ap u.children pid_r ∙ no_child w.state r q u is e in
+    let clock : u.clock ≡ h.before.clock = one_clock w.state r q u is h.before h.was in
+    let unmarked : (own h.before).marked ≢ Some u.pid = λ e. spares.unmarked (e ∙ ap Some pid_q) in
+    let ends : IsSome (gone_with (own h.before).answer) → (u.children h.before.pid ≡ None) × (u.pid ≢ 1) = λ gone. (none (spares.ends gone).0, λ first. (spares.ends gone).1 (sym pid_q ∙ first)) in
+    h.state.others q u (λ e. other (sym (e ∙ pid_r))) is ∙ ap Some (seen_apart w.state h.before u (own h.before) apart_too unmarked ends clock)
 
-kept_turn : (p : ℕ) (v : View) (w t : World) (o : Outcome) → TurnTaken w o t → view w.state p ≡ Some v → Keeps p v t.state
+kept_turn : (p : ℕ) (v : View) (w t : World) (o : Outcome) → TurnTaken w o t → view w.state p ≡ Some v → SeesChannels p v t.state
 kept_turn p v w t (Turn q) h is = record { now = channels v; is = ap (λ (u : World). view u.state p) h.3 ∙ is }
 kept_turn p v w t Idle h is = unchanged p v w t h is
 kept_turn p v w t (Step_of q a) h is = absurd h
@@ -136,7 +144,7 @@ kept_turn p v w t (Sent b) h is = absurd h
 kept_turn p v w t Halted h is = absurd h
 
 kept_run : (p : ℕ) (v : View) (w t : World) (o : Outcome) (halted : Option ℤ) (current : Option ℕ) → w.turns.halted ≡ halted → w.turns.current ≡ current
-    → RunHappens w halted current o t → IsOfApart p w Run → view w.state p ≡ Some v → Keeps p v t.state
+    → RunHappens w halted current o t → IsOfApart p w Run → view w.state p ≡ Some v → SeesChannels p v t.state
 kept_run p v w t o (Some status) current e f h apart is = unchanged p v w t h.1 is
 kept_run p v w t o None (Some r) e f h apart is =
     let other : r ≢ p = λ same. apart.0 (refl, e, f ∙ ap Some same) in
@@ -144,18 +152,18 @@ kept_run p v w t o None (Some r) e f h apart is =
     record { now = channels_left h.before (own h.before); is = step_seen w t r p o v h other is both.0 both.1 }
 kept_run p v w t o None None e f h apart is = kept_turn p v w t o h is
 
-kept_tick : (p : ℕ) (v : View) (w t : World) (o : Outcome) (halted : Option ℤ) → TickHappens w halted o t → view w.state p ≡ Some v → Keeps p v t.state
+kept_tick : (p : ℕ) (v : View) (w t : World) (o : Outcome) (halted : Option ℤ) → TickHappens w halted o t → view w.state p ≡ Some v → SeesChannels p v t.state
 kept_tick p v w t o (Some status) h is = unchanged p v w t h.1 is
 kept_tick p v w t o None h is = record { now = record (channels v) { clock = _ }; is = ap (λ (s : State). view s p) h.1 ∙ clock_view w.state _ p (live w.state p) v is }
 
-kept_key : (p : ℕ) (v : View) (w t : World) (o : Outcome) (halted : Option ℤ) (b : ℕ) → KeyHappens w halted b o t → view w.state p ≡ Some v → Keeps p v t.state
+kept_key : (p : ℕ) (v : View) (w t : World) (o : Outcome) (halted : Option ℤ) (b : ℕ) → KeyHappens w halted b o t → view w.state p ≡ Some v → SeesChannels p v t.state
 kept_key p v w t o (Some status) b h is = unchanged p v w t h.1 is
 kept_key p v w t o None b h is = record {
   now = record (channels v) { console = (line w.state.console b).0 };
   is = ap (λ (s : State). view s p) h.1 ∙ console_view w.state ((line w.state.console b).0) p (live w.state p) v is;
 }
 
-kept : (p : ℕ) (v : View) (w t : World) (e : Event) (o : Outcome) → Happens w e o t → IsOfApart p w e → view w.state p ≡ Some v → Keeps p v t.state
+kept : (p : ℕ) (v : View) (w t : World) (e : Event) (o : Outcome) → Happens w e o t → IsOfApart p w e → view w.state p ≡ Some v → SeesChannels p v t.state
 kept p v w t Run o h apart is = kept_run p v w t o w.turns.halted w.turns.current refl refl h apart is
 kept p v w t Tick o h apart is = kept_tick p v w t o w.turns.halted h is
 kept p v w t (Key b) o h apart is = kept_key p v w t o w.turns.halted b h is
@@ -188,8 +196,8 @@ record First (p : ℕ) (v : View) (t : World) (m : Moment) (ms : List Moment) : 
   last : IsSome m.after ⊎ (ms ≡ [])
   cut : IsCutApart p end later t ms
 
-first_of : (p : ℕ) (v : View) (w t : World) (es : List (Event × Outcome)) (m : Moment) (ms : List Moment) (c : Channels) → view w.state p ≡ Some (with_channels c v) → IsCutApart p w es t (m ∷ ms)
-    → First p v t m ms
+first_of : (p : ℕ) (v : View) (w t : World) (es : List (Event × Outcome)) (m : Moment) (ms : List Moment) (c : Channels)
+    → view w.state p ≡ Some (with_channels c v) → IsCutApart p w es t (m ∷ ms) → First p v t m ms
 first_of p v w t [] m ms c see cut = let none : m ∷ ms ≡ [] = cut.1 in let no : ⊥ = cc in absurd no
 first_of p v w t (e ∷ es) m ms c see (mid, h, way) = elim way [
   | inl (apart, cut) ↦ (let k = kept p (with_channels c v) w mid e.0 e.1 h apart see in first_of p v mid t es m ms k.now k.is cut)
@@ -204,7 +212,8 @@ first_of p v w t (e ∷ es) m ms c see (mid, h, way) = elim way [
         sees = ap (λ (x : Moment). x.before) (sym first) ∙ same_Some n.before (with_channels c v) (sym moment.1 ∙ see);
         see = moment.1 ∙ ap (λ (x : Moment). Some x.before) first;
         is = (refl, moment.0.1, moment.0.2);
-        happens = subst (λ (o : Outcome). Happens w Run o mid) (sym moment.2 ∙ ap (λ (x : Moment). x.outcome) first) (subst (λ (x : Event). Happens w x e.1 mid) moment.0.0 h);
+        happens = subst (λ (o : Outcome). Happens w Run o mid) (sym moment.2 ∙ ap (λ (x : Moment). x.outcome) first)
+            (subst (λ (x : Event). Happens w x e.1 mid) moment.0.0 h);
         after = moment.3 ∙ ap (λ (x : Moment). x.after) first;
         last = subst (λ (x : Moment). IsSome x.after ⊎ (ms ≡ [])) first (subst (λ (x : List Moment). IsSome n.after ⊎ (x ≡ [])) more last);
         cut = subst (λ (x : List Moment). IsCutApart p mid es t x) more cut;
@@ -225,7 +234,8 @@ module _ (p : ℕ) (v : View) (x y : World) (m n : Moment) (ms ns : List Moment)
       let afters : m.after ≡ n.after = sym c.after ∙ step_c.1 ∙ ap (λ (z : View). (own z).next) same ∙ sym step_d.1 ∙ d.after in
       λ i. record { before = same i; outcome = outcomes i; after = afters i }
 
-two_cuts : (p : ℕ) (v w x y : World) (es fs : List (Event × Outcome)) (ms ns : List Moment) (a : View) (c d : Channels) → view v.state p ≡ Some (with_channels c a) → view w.state p ≡ Some (with_channels d a)
+two_cuts : (p : ℕ) (v w x y : World) (es fs : List (Event × Outcome)) (ms ns : List Moment) (a : View) (c d : Channels)
+    → view v.state p ≡ Some (with_channels c a) → view w.state p ≡ Some (with_channels d a)
     → IsCutApart p v es x ms → IsCutApart p w fs y ns → AllBoth (λ m n. channels m.before ≡ channels n.before) ms ns → AllBoth (λ m n. m ≡ n) ms ns
 two_cuts p v w x y es fs [] ns a c d see_v see_w cut_v cut_w s = tt
 two_cuts p v w x y es fs (m ∷ ms) [] a c d see_v see_w cut_v cut_w s = tt
@@ -237,7 +247,8 @@ two_cuts p v w x y es fs (m ∷ ms) (n ∷ ns) a c d see_v see_w cut_v cut_w s =
       elim f.last as (λ _. AllBoth (λ m n. m ≡ n) ms ns) [
         | inl lives ↦
             let there = the_value m.after lives in
-            two_cuts p f.end g.end x y f.later g.later ms ns there.0 (channels there.0) (channels there.0) (f.after ∙ there.1) (g.after ∙ ap (λ (z : Moment). z.after) (sym now) ∙ there.1) f.cut g.cut s.1
+            let see_w = g.after ∙ ap (λ (z : Moment). z.after) (sym now) ∙ there.1 in
+            two_cuts p f.end g.end x y f.later g.later ms ns there.0 (channels there.0) (channels there.0) (f.after ∙ there.1) see_w f.cut g.cut s.1
         | inr over ↦ subst (λ (z : List Moment). AllBoth (λ m n. m ≡ n) z ns) (sym over) tt
       ],
     )

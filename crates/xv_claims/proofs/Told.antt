@@ -1,5 +1,6 @@
 -- What is told of a machine is determined by its first world and its events, and it is what its observers answer.
-use Rattle.std.proofs.Common.{[], ℕ, zero, suc, ◌*◌, ◌+◌, ◌-◌, ◌<◌, ◌≤◌, ◌^◌, ◌∙◌, ◌∷◌, ◌++◌, ◌≡◌, ap, ap₂, arith, Bool, false, get_or, inl, inr, length, List, map, None, Option, refl, Some, subst, sym}
+use Rattle.std.proofs.Common.{[], ℕ, zero, suc, ◌*◌, ◌+◌, ◌-◌, ◌<◌, ◌≤◌, ◌^◌, ◌∙◌, ◌∷◌, ◌++◌, ◌≡◌, ap, ap₂, arith, Bool, false, get_or, inl, inr}
+use Rattle.std.proofs.Common.{length, List, map, None, Option, refl, Some, subst, sym}
 use Rattle.std.proofs.lemmas.Bool.{cases_eq, cases_lt}
 use Rattle.std.proofs.lemmas.List.{length-map}
 use Rattle.std.proofs.lemmas.Option.{none-some, same_Some}
@@ -26,6 +27,7 @@ use Rattle.kernel_spec.specs.waking.Turns.{Turns}
 use Rattle.kernel_spec.specs.runs.Alike.{AreAlike}
 use Rattle.kernel_spec.specs.runs.Run.{Event, Outcome, World}
 use Rattle.kernel_spec.specs.runs.Rounds.{events}
+use Rattle.kernel_spec.proofs.Common.{is_some-view}
 use Rattle.kernel_spec.proofs.runs.Replays.{replay_is_the_same}
 use Rattle.kernel_spec.proofs.steps.MapsAfterChange.{first, second}
 use Rattle.kernel_spec.proofs.turns.KeepsSlots.{is_listed, not_listed}
@@ -66,10 +68,6 @@ module _ (s : State) (p : ℕ) where
   unfolding view_of
   child_read q None = refl
   child_read q (Some l) = refl
-
-  some_read : (o : Option Live) → is_some (option_map (view_of s p) o) ≡ is_some o
-  some_read None = refl
-  some_read (Some l) = refl
 
   abbrev part_seen : (size place : ℕ) → Option View → Bool
   part_seen size place None = false
@@ -118,7 +116,7 @@ module _ (v w : World) (alike : AreAlike v w) where
   same_child p q = sym (child_read a p q (live a p)) ∙ ap (child_seen a p q) (alike.views p) ∙ child_read b p q (live b p)
 
   same_some : (p : ℕ) → is_some (live a p) ≡ is_some (live b p)
-  same_some p = sym (some_read a p (live a p)) ∙ ap is_some (alike.views p) ∙ some_read b p (live b p)
+  same_some p = sym (is_some-view (live a p) a p) ∙ ap is_some (alike.views p) ∙ is_some-view (live b p) b p
 
   same_part : (size place p : ℕ) → has_part size place (live a p) ≡ has_part size place (live b p)
   same_part size place p = sym (part_read a p size place (live a p)) ∙ ap (part_seen a p size place) (alike.views p) ∙ part_read b p size place (live b p)

@@ -27,12 +27,13 @@ module _ (c : Channels) (v : View) where
   these : channels (with_channels c v) ≡ c
   these = refl
 
-  else_as_before : ((with_channels c v).pid ≡ v.pid) × ((with_channels c v).regs ≡ v.regs) × ((with_channels c v).image ≡ v.image) × ((with_channels c v).call ≡ v.call) × ((with_channels c v).killed ≡ v.killed)
-      × ((with_channels c v).descriptors ≡ v.descriptors) × ((with_channels c v).children ≡ v.children) × ((with_channels c v).programs ≡ v.programs)
+  else_as_before : let w = with_channels c v in
+      (w.pid ≡ v.pid) × (w.regs ≡ v.regs) × (w.image ≡ v.image) × (w.call ≡ v.call) × (w.killed ≡ v.killed) × (w.descriptors ≡ v.descriptors) × (w.children ≡ v.children) × (w.programs ≡ v.programs)
   else_as_before = (refl, refl, refl, refl, refl, refl, refl, refl)
 
 -- a step leaves the clock, and the rest as `own` says
-left_so : (v : View) (o : Own) → channels_left (record v { clock = 7 }) (record o { left = record o.left { pids = 1 ∷ 4 ∷ []; next_pid = 5; free = 9 } }) ≡ record { console = o.left.console; clock = 7; pids = 1 ∷ 4 ∷ []; next_pid = 5; free = 9 }
+left_so : (v : View) (o : Own) → channels_left (record v { clock = 7 }) (record o { left = record o.left { pids = 1 ∷ 4 ∷ []; next_pid = 5; free = 9 } })
+    ≡ record { console = o.left.console; clock = 7; pids = 1 ∷ 4 ∷ []; next_pid = 5; free = 9 }
 left_so v o = refl
 
 module _ (v : View) where
@@ -146,7 +147,8 @@ module _ (w t : World) where
   no_moment : Happens w Tick Ticked t → IsCutApart 2 w ((Tick, Ticked) ∷ []) t []
   no_moment tick = (t, tick, inl (by_a_tick w, (refl, refl)))
 
-  one_moment : (v n : View) (o : Outcome) → Happens w Run o t → IsStepOf 2 w Run → view w.state 2 ≡ Some v → view t.state 2 ≡ Some n → IsCutApart 2 w ((Run, o) ∷ []) t (record { before = v; outcome = o; after = Some n } ∷ [])
+  one_moment : (v n : View) (o : Outcome) → Happens w Run o t → IsStepOf 2 w Run → view w.state 2 ≡ Some v → view t.state 2 ≡ Some n
+      → IsCutApart 2 w ((Run, o) ∷ []) t (record { before = v; outcome = o; after = Some n } ∷ [])
   one_moment v n o step is before after = (t, step, inr (record { before = v; outcome = o; after = Some n }, [], refl, (is, before, refl, after), inl refl, (refl, refl)))
 
   -- no step of its own is passed over, and there is no moment without one

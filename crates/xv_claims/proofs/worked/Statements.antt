@@ -1,5 +1,6 @@
 -- Worked cases of statements: each is used on what boots and events give, so a premise that nobody produces, and a claim that is weaker, are refused here.
-use Rattle.std.proofs.Common.{[], ℕ, ◌%◌, ◌+◌, ◌<◌, ◌∙◌, ◌∷◌, ◌++◌, ◌≡◌, ◌≢◌, ◌⊎◌, ap, Bool, false, List, None, Ok, Option, refl, Some, subst, sym, true}
+use Rattle.std.proofs.Common.{[], ℕ, ◌%◌, ◌+◌, ◌<◌, ◌∙◌, ◌∷◌, ◌++◌, ◌≡◌, ◌≢◌, ◌⊎◌, ap, Bool, false, List, None, Ok, Option, refl, Some, subst, sym}
+use Rattle.std.proofs.Common.{true}
 use Rattle.kernel_spec.specs.laws.Worlds.{OthersKeep}
 use Rattle.kernel_spec.specs.runs.First.{first}
 use Rattle.kernel_spec.specs.runs.Moments.{IsStepOf}
@@ -43,7 +44,8 @@ module _ (v : View) (d : Descriptor) where
   other_offset : SameDescriptors (record v { descriptors = λ n. Some (record d { shown = Shown_file 2 10 }) }) (record v { descriptors = λ n. Some (record d { shown = Shown_file 2 90 }) })
   other_offset n = refl
 
-  other_content : (e : End) (x y : Pipe) → SameDescriptors (record v { descriptors = λ n. Some (record d { shown = Shown_pipe 3 e x }) }) (record v { descriptors = λ n. Some (record d { shown = Shown_pipe 3 e y }) })
+  other_content : (e : End) (x y : Pipe) → SameDescriptors (record v { descriptors = λ n. Some (record d { shown = Shown_pipe 3 e x }) })
+      (record v { descriptors = λ n. Some (record d { shown = Shown_pipe 3 e y }) })
   other_content e x y n = refl
 
   -- which are in use, what may be done with them, what they are on, and which share one, may not
@@ -53,7 +55,8 @@ module _ (v : View) (d : Descriptor) where
   other_mode : SameDescriptors (record v { descriptors = λ n. Some (record d { read = true }) }) (record v { descriptors = λ n. Some (record d { read = false }) }) → ⊥
   other_mode same = let no : true ≡ false = ap can_read (same 7) in let bad : ⊥ = cc in bad
 
-  other_program : SameDescriptors (record v { descriptors = λ n. Some (record d { shown = Shown_file 2 10 }) }) (record v { descriptors = λ n. Some (record d { shown = Shown_file 3 10 }) }) → ⊥
+  other_program : SameDescriptors (record v { descriptors = λ n. Some (record d { shown = Shown_file 2 10 }) })
+      (record v { descriptors = λ n. Some (record d { shown = Shown_file 3 10 }) }) → ⊥
   other_program same = let no : ◌≡◌ {A = ℕ} 2 3 = ap program_of (same 7) in let bad : ⊥ = cc in bad
 
   other_name : SameDescriptors (record v { descriptors = λ n. Some (record d { file = 2 }) }) (record v { descriptors = λ n. Some (record d { file = 3 }) }) → ⊥
@@ -98,7 +101,8 @@ module _ (boots_reach : BootReaches) (reaches_on : ReachesOn) (events_go : Event
   byte_has_source law p byte low holds = law 64 8 programs ((Run, o) ∷ (Run, q) ∷ []) c p 2 5 byte reached_two low holds
 
   -- what it has told is what the definitions give of two Runs, and nothing else
-  told_so : TellsOutcomes → (told : Told) × OutcomesOf 64 8 programs (Run ∷ Run ∷ []) told × HasTold ((Run, o) ∷ (Run, q) ∷ []) c told × ((other : Told) → OutcomesOf 64 8 programs (Run ∷ Run ∷ []) other → other ≡ told)
+  told_so : TellsOutcomes
+      → (told : Told) × OutcomesOf 64 8 programs (Run ∷ Run ∷ []) told × HasTold ((Run, o) ∷ (Run, q) ∷ []) c told × ((other : Told) → OutcomesOf 64 8 programs (Run ∷ Run ∷ []) other → other ≡ told)
   told_so law = law 64 8 programs ((Run, o) ∷ (Run, q) ∷ []) c reached_two
 
   both_outcomes : OutcomesAreDetermined → (told : Told) → OutcomesOf 64 8 programs (Run ∷ Run ∷ []) told → TellsOutcomes → told.outcomes ≡ o ∷ q ∷ []

@@ -1,5 +1,6 @@
 -- Worked cases of what is told of a machine.
-use Rattle.std.proofs.Common.{[], ℕ, ◌*◌, ◌+◌, ◌^◌, ◌≤◌, ◌∙◌, ◌∷◌, ◌≡◌, ◌≢◌, ap, arith, false, length, List, map, None, Ok, Err, Option, refl, Result, Some, subst, suc, sym, true}
+use Rattle.std.proofs.Common.{[], ℕ, ◌*◌, ◌+◌, ◌^◌, ◌≤◌, ◌∙◌, ◌∷◌, ◌≡◌, ◌≢◌, ap, arith, false, length, List, map, None, Ok, Err, Option, refl}
+use Rattle.std.proofs.Common.{Result, Some, subst, suc, sym, true}
 use Rattle.std.proofs.lemmas.Option.{same_Some}
 use Rattle.std.specs.FinMap.{get}
 use Rattle.std.specs.Prelude.{◌↔◌, Contains, is_some}
@@ -113,7 +114,8 @@ module _ (w : World) where
   last_two = refl
 
   -- the rest is read off the world
-  as_observed : (p q va : ℕ) → let told = told_of 64 2 three w in (told.registers p ≡ registers_of w.state p) × (told.peek p va ≡ byte_at w.state p va) × (told.child_state p q ≡ child_at w.state p q)
+  as_observed : (p q va : ℕ) → let told = told_of 64 2 three w in
+      (told.registers p ≡ registers_of w.state p) × (told.peek p va ≡ byte_at w.state p va) × (told.child_state p q ≡ child_at w.state p q)
       × (told.free_frames ≡ w.state.free) × (told.current ≡ w.turns.current) × (told.halted ≡ w.turns.halted)
   as_observed p q va = (refl, refl, refl, refl, refl, refl)
 
