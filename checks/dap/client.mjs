@@ -1,0 +1,62 @@
+// A client of the debug adapter: it starts anywhere/commands/xv_dap.mjs, sends requests, and waits for what comes.
+import { spawn } from "node:child_process";
+import { fileURLToPath } from "node:url";
+import { Reader, Writer } from "../../anywhere/editor/protocol.mjs";
+
+const ADAPTER = fileURLToPath(new URL("../../anywhere/commands/xv_dap.mjs", import.meta.url));
+const PATIENCE = 1000 * Number(process.env.PATIENCE ?? 60);
+
+export class Client {
+  constructor(cwd) {
+    this.adapter = spawn(process.execPath, [ADAPTER], { cwd, stdio: ["pipe", "pipe", "inherit"] });
+    this.writer = new Writer((text) => this.adapter.stdin.write(text));
+    this.waiting = [];
+    this.heard = []; // events that nobody has waited for yet
+    this.output = "";
+    const reader = new Reader((message) => this.take(message));
+    this.adapter.stdout.on("data", (bytes) => reader.take(bytes));
+    this.ended = new Promise((tell) => this.adapter.on("exit", tell));
+  }
+
+  take(message) {
+    if (message.type === "event" && message.event === "output") this.output += message.body.output;
+    const k = this.waiting.findIndex((it) => it.fits(message));
+    if (k >= 0) this.waiting.splice(k, 1)[0].tell(message);
+    else if (message.type === "event") this.heard.push(message);
+  }
+
+  until(what, fits) {
+    return new Promise((tell, fail) => {
+      const timer = setTimeout(() => fail(new Error(`${what} didn't come`)), PATIENCE);
+      this.waiting.push({ fits, tell: (it) => { clearTimeout(timer); tell(it); } });
+    });
+  }
+
+  /** The next event of this name, that was heard already or will be. */
+  event(name) {
+    const k = this.heard.findIndex((it) => it.event === name);
+    if (k >= 0) return Promise.resolve(this.heard.splice(k, 1)[0].body);
+    return this.until(name, (it) => it.type === "event" && it.event === name).then((it) => it.body);
+  }
+
+  /** The answer to a request; an error with its words if it is refused. */
+  async ask(command, args = {}) {
+    const seq = this.writer.count + 1, answer = this.until(command, (it) => it.type === "response" && it.request_seq === seq);
+    this.writer.send({ type: "request", command, arguments: args });
+    const { success, message, body } = await answer;
+    if (!success) throw new Error(message);
+    return body;
+  }
+
+  /** A request after which the machine stops: where it stops. */
+  async stop_after(command, args = {}) {
+    await this.ask(command, args);
+    return this.event("stopped");
+  }
+
+  /** The calls of a thread, as `main wc.c:24`. */
+  async calls(threadId) {
+    const { stackFrames } = await this.ask("stackTrace", { threadId });
+    return stackFrames.map((it) => `${it.name}${it.source ? ` ${it.source.name}:${it.line}` : ""}`);
+  }
+}
