@@ -156,7 +156,7 @@ export class Session {
 
   stop_before(fault) {
     this.run.go(fault.at);
-    this.stop("exception", `process ${fault.pid}: ${this.fault_words(fault).split("\n")[0]}`);
+    this.stop("exception", this.fault_words(fault).split("\n")[0]);
   }
 
   /** The fault that is next, if the machine stands before one. */
