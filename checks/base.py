@@ -259,16 +259,26 @@ def linked(folder, to):
         shutil.copytree(folder, to, symlinks=True, copy_function=copy_file, dirs_exist_ok=True)
 
 
+ROOMS = set()
+
+
 @contextlib.contextmanager
 def room(what):
     """A folder for a while, beside the clone's own, so that files can have second names there."""
     home = TOP / "crates" / what / "out" / "since"
     home.mkdir(parents=True, exist_ok=True)
     made = pathlib.Path(tempfile.mkdtemp(prefix=f"new-{os.getpid()}-", dir=home))
+    ROOMS.add(made)
     try:
         yield made
     finally:
         shutil.rmtree(made, ignore_errors=True)
+        ROOMS.discard(made)
+
+
+def clear_rooms():
+    for it in list(ROOMS):
+        shutil.rmtree(it, ignore_errors=True)
 
 
 def sweep():

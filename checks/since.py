@@ -10,6 +10,7 @@ import subprocess
 import sys
 import threading
 import time
+import traceback
 from concurrent.futures import ThreadPoolExecutor
 
 import base
@@ -17,6 +18,7 @@ import edits
 import why
 
 TOP = base.TOP
+WHO = {"all_edits.py": "all-edits.sh", "try_edits.py": "wrong-bodies/run.sh"}.get(pathlib.Path(sys.argv[0]).name, "since.sh")
 BEGUN = time.monotonic()
 PRINTING = threading.Lock()
 
@@ -31,7 +33,7 @@ def lasted(seconds):
 
 
 def refuse(why_not):
-    print(f"since.sh: {why_not}", file=sys.stderr)
+    print(f"{WHO}: {why_not}", file=sys.stderr, flush=True)
     sys.exit(2)
 
 
@@ -266,6 +268,12 @@ class Run:
         else:
             self.prove(name)
 
+    def stand_all(self):
+        """Finds out which libraries stand, and proves nothing."""
+        for name in self.here.ordered():
+            if all(it in self.stands for it in self.here.below(name)):
+                self.take_as_it_is(name)
+
     def is_reached(self, name):
         return any(self.turned.get(it) for it in self.here.below(name))
 
@@ -313,55 +321,80 @@ def changed_functions(run, name):
     return found
 
 
-def edits_to_try(run, name):
-    """The edits of a crate whose function differs from the revision's, or that differ themselves; and those that don't apply."""
-    found, bad, changed = [], [], changed_functions(run, name) if name in run.differs else set()
-    words = ["git", "-C", str(TOP), "diff", "--name-only", run.options["revision"], "--", "crates/*/must-fail", "checks/wrong-bodies"]
-    written = set(subprocess.run(words, capture_output=True, text=True, check=False).stdout.split())
-    words = ["git", "-C", str(TOP), "ls-files", "--others", "--exclude-standard", "crates/*/must-fail", "checks/wrong-bodies"]
-    written |= set(subprocess.run(words, capture_output=True, text=True, check=False).stdout.split())
+def all_edits(run, name):
+    """The edits of a crate's bodies; and apart from them those that don't apply, each with why."""
+    found, bad, sources = [], [], texts_of(run.here.files[name])
     for path in edit_paths(name):
-        is_new = str(path.relative_to(TOP)) in written
         try:
-            edit = edits.Edit(name, path, texts_of(run.here.files[name]))
+            found.append(edits.Edit(name, path, sources))
         except ValueError as error:
-            if is_new or name in run.differs:
-                bad.append((f"{name}/{path.name}", f"DOES NOT APPLY: {error}"))
-            continue
-        if is_new or edit.functions & changed:
-            found.append(edit)
+            bad.append((path, f"DOES NOT APPLY: {error}"))
     return found, bad
 
 
-def try_edits(run, name, found):
-    """Tries edits over what is kept of the crate's checks; what was refused of the same sources isn't tried again."""
-    kept, low = run.kept[name], {it: run.stands[it] for it in run.here.below(name)}
+def git(*words):
+    return subprocess.run(["git", "-C", str(TOP), *words], capture_output=True, text=True, check=False).stdout.strip()
+
+
+def edits_to_try(run, name, written):
+    """The edits of a crate whose function differs from the revision's, or that are among the written files; and those that
+    don't apply, if the crate differs or they are."""
+    changed = changed_functions(run, name) if name in run.differs else set()
+    is_new = lambda path: str(path.relative_to(TOP)) in written
+    found, bad = all_edits(run, name)
+    return ([it for it in found if is_new(it.path) or it.functions & changed],
+            [it for it in bad if is_new(it[0]) or name in run.differs])
+
+
+def begin_edits(run, name, count):
+    """Whether a crate's edits can be tried: if nothing is kept of its checks, it is checked first, from nothing."""
+    kept = run.kept[name]
+    lacking = [it for it in run.here.below(name) if it not in run.stands]
+    if lacking:
+        say(f"{name}: its {count} edits can't be tried, since {lacking[0]} has no library that stands: checks/since.sh makes one")
+        return False
+    if kept.has_work():
+        return True
+    say(f"{name}: nothing is kept of its checks, so its edits begin with one from nothing: about {lasted(run.here.work(name))} of one processor")
+    low = {it: run.stands[it] for it in run.here.below(name)}
+    with base.room(name) as place:
+        base.write_files(run.here.files[name], place)
+        status, said = run.check(name, run.here, low, place / "kept", place)
+        if not base.is_proved(status, said):
+            say(f"{name}: its {count} edits can't be tried, since it is not proved")
+            return False
+        (place / "kept").rename(kept.incremental)
+    return True
+
+
+def try_edits(run, name, found, told=None):
+    """Tries edits over what is kept of the crate's checks: how many are refused, the names of the others, and how many of the
+    first were refused before, of the same sources. What is said of each is put into `told`."""
+    kept, low, missed = run.kept[name], {it: run.stands[it] for it in run.here.below(name)}, []
     state = base.sum_of(run.sums[name], run.kit, sorted((it, run.idents[it]) for it in low))
     tried = kept.read("tried.json")
-    tried = tried.get("refused", {}) if tried.get("state") == state else {}
+    tried = tried["refused"] if tried.get("state") == state and not run.options.get("anew") else {}
     key = {it.name: base.sum_of(it.path.read_bytes()) for it in found}
     new = [it for it in found if tried.get(it.name) != key[it.name]]
-    told = [0, []]
 
     def tell(edit, is_refused, text):
         if is_refused:
             tried[edit.name] = key[edit.name]
             kept.write("tried.json", {"state": state, "refused": tried})
         else:
-            told[1].append(edit.name)
+            missed.append(edit.name)
+        if told is not None:
+            told[edit.name] = text
         say(f"{edit.name}: {text}")
 
-    with base.room(name) as place:
-        base.linked(kept.incremental, place / "kept")
-
-        def check(texts):
+    def check(texts):
+        with base.room(name) as place:
+            base.linked(kept.incremental, place / "kept")
             base.write_files({**run.here.files[name], **{it: text.encode() for it, text in texts.items()}}, place)
             return run.check(name, run.here, low, place / "kept", place, flags=["--allow-holes"])[1]
 
-        if new:
-            edits.try_all(name, new, texts_of(run.here.files[name]), check, tell)
-    told[0] = len(found) - len(told[1])
-    return told[0], told[1], len(found) - len(new)
+    edits.try_all(name, new, texts_of(run.here.files[name]), check, tell)
+    return len(found) - len(missed), missed, len(found) - len(new)
 
 
 # ---- tests
@@ -403,8 +436,7 @@ def run_tests(run, name):
 def quick_checks(run):
     """What looks at the whole repository in seconds: its name, and the words that do it."""
     found = [(it, ["python3", "-B", f"checks/{it}"]) for it in ("links.py", "lemmas.py", "closure.py", "cases.py")]
-    words = ["git", "-C", str(TOP), "diff", "--name-only", run.options["revision"]]
-    written = subprocess.run(words, capture_output=True, text=True, check=False).stdout
+    written = git("diff", "--name-only", run.options["revision"])
     if re.search(r"\.sh$|^(bin|xv|\.ci)\b", written, re.M):
         found.append(("shell.sh", ["checks/shell.sh"]))
     for name in run.differs:
@@ -431,7 +463,7 @@ def do_quick(run, failed):
 FLAGS = ("--alone", "--no-edits", "--no-tests", "--proofs", "--definitions", "--prepare", "--help")
 
 
-def read_words(words):
+def read_words(words, flags):
     options, names = {"base": None}, []
     while words:
         word = words.pop(0)
@@ -439,20 +471,19 @@ def read_words(words):
             if not words:
                 refuse("--base takes a folder")
             options["base"] = pathlib.Path(words.pop(0)).resolve()
-        elif word in FLAGS:
+        elif word in flags:
             options[word[2:]] = True
         elif word.startswith("-"):
-            refuse(f"there is no {word}: checks/since.sh --help tells what there is")
+            refuse(f"there is no {word}: {WHO} --help tells what there is")
         else:
             names.append(word)
-    for it in FLAGS:
+    for it in flags:
         options.setdefault(it[2:], False)
     return options, names
 
 
 def revision_of(names):
     """The revision that is meant, by its checksum: the one that is named, or where this branch left origin's."""
-    git = lambda *words: subprocess.run(["git", "-C", str(TOP), *words], capture_output=True, text=True, check=False).stdout.strip()
     if names:
         return git("rev-parse", "-q", "--verify", f"{names[0]}^{{commit}}") or refuse(f"{names[0]} is no revision of this repository")
     for it in ("origin/HEAD", "origin/main", "@{upstream}"):
@@ -501,23 +532,27 @@ def make_what_lacks(run):
 
 
 def try_all_edits(run):
+    """Tries the edits of what changed: how many are refused, the names of the others, how many were refused before, and how
+    many are left."""
     refused, missed, before, left = 0, [], 0, 0
+    written = git("diff", "--name-only", run.options["revision"], "--", "crates/*/must-fail", "checks/wrong-bodies").split()
+    written += git("ls-files", "--others", "--exclude-standard", "crates/*/must-fail", "checks/wrong-bodies").split()
     for name in run.here.ordered():
-        found, bad = edits_to_try(run, name)
+        found, bad = edits_to_try(run, name, written)
         left += len(edit_paths(name)) - len(found) - len(bad)
-        for edit, text in bad:
-            say(f"{edit}: {text}")
-            missed.append(edit)
+        for path, text in bad:
+            say(f"{name}/{path.name}: {text}")
+            missed.append(f"{name}/{path.name}")
         if not found:
             continue
-        if name in run.failed or any(it not in run.stands for it in run.here.below(name)):
-            say(f"{name}: {len(found)} edits aren't tried, since it is not proved")
-            continue
-        if not run.kept[name].has_work():
-            say(f"{name}: nothing is kept of its checks, so its edits begin with one from nothing: about {lasted(run.here.work(name))} of one processor")
-        say(f"{name}: trying {len(found)} edits of what changed")
-        count, bad, known = try_edits(run, name, found)
-        refused, before, missed = refused + count, before + known, missed + bad
+        if name in run.failed:
+            say(f"{name}: its {len(found)} edits aren't tried, since it is not proved")
+        elif begin_edits(run, name, len(found)):
+            say(f"{name}: trying {len(found)} edits of what changed")
+            count, bad, known = try_edits(run, name, found)
+            refused, before, missed = refused + count, before + known, missed + bad
+        else:
+            missed += [it.name for it in found]
     return refused, missed, before, left
 
 
@@ -549,38 +584,80 @@ def tell_left(run, left_edits):
         say("the programs are built of this state: checks/run.sh tries them, in a minute")
 
 
-def main(words):
-    options, names = read_words(words)
-    if options["help"]:
-        print("".join(it[1:].lstrip() or "\n" for it in (TOP / "checks/since.sh").read_text().splitlines(True) if it.startswith("#") and not it.startswith("#!")), end="")
-        return 0
+def tell_head(script):
+    """What the head of a script says."""
+    for line in (TOP / "checks" / script).read_text(encoding="utf-8").split("\n")[1:]:
+        if not line.startswith("#"):
+            return 0
+        print(line[2:])
+
+
+def begin(names, options):
+    """The run of a call, once nothing else works in this clone."""
     if not base.KIT:
         refuse("there is no rt on the PATH: it is the command of the Rattle kit")
-    if len(names) > 1 and not options["prepare"]:
-        refuse(f"one revision is enough: {' '.join(names)}")
     signal.signal(signal.SIGTERM, lambda *_: sys.exit(143))
     held = os.open(TOP / "crates", os.O_RDONLY)
     try:
         fcntl.flock(held, fcntl.LOCK_EX | fcntl.LOCK_NB)
     except BlockingIOError:
-        say("another since.sh works in this clone: waiting for its end")
+        say("another since.sh or all-edits.sh works in this clone: waiting for its end")
         fcntl.flock(held, fcntl.LOCK_EX)
     base.sweep()
-    options["revision"] = revision_of([] if options["prepare"] else names)
-    options["shown"] = names[0] if names and not options["prepare"] else options["revision"][:10]
+    options["revision"] = revision_of(names)
+    options["shown"] = names[0] if names else options["revision"][:10]
     here, there = base.tree_here(), base.tree_of(options["revision"])
     if not there:
         refuse(f"{options['shown']} has no crates.txt")
     if options["base"]:
         take_from(options["base"], here)
-    return go(Run(here, there, options), names)
+    run = Run(here, there, options)
+    run.read_bases()
+    return run
 
 
-def go(run, names):
+def main(words):
+    options, names = read_words(words, FLAGS)
+    if options["help"]:
+        return tell_head("since.sh")
+    if options["prepare"]:
+        return prepare(begin([], options), names)
+    if len(names) > 1:
+        refuse(f"one revision is enough: {' '.join(names)}")
+    return go(begin(names, options))
+
+
+def prepare(run, names):
+    """Fills what the checks of these crates begin with; without names, has `rt all check` make all libraries whole."""
+    lost = [it for it in names if it not in run.here.crates]
+    if lost or run.differs:
+        refuse(f"there is no crate {lost[0]}" if lost else f"{' '.join(run.differs)}: what differs is not to be prepared: `git stash` first")
+    if not names:
+        work = sum(run.here.work(it) for it in run.here.crates)
+        say(f"rt all check: about {work // 60} minutes of one processor if nothing is kept, less what is; Ctrl-C stops it, and the next call goes on")
+        return subprocess.run(["rt", "all", "check", "--jobs", str(run.slots.count)], cwd=TOP, check=False).returncode
+    run.stand_all()
+    with ThreadPoolExecutor(len(names)) as pool:
+        jobs = [pool.submit(fill, run, it) for it in names]
+        try:
+            is_well = all([it.result() for it in jobs])
+        except BaseException:
+            base.stop_all()
+            raise
+    return 0 if is_well else 1
+
+
+def fill(run, name):
+    begun = time.monotonic()
+    is_well = bool(run.face_of_base(name)) if name in run.bases else begin_edits(run, name, len(edit_paths(name)))
+    say(f"{name}: {'prepared' if is_well else 'NOT PREPARED'} in {lasted(time.monotonic() - begun)}")
+    return is_well
+
+
+def go(run):
     gone = [it for it in run.there.crates if it not in run.here.crates]
     say(f"since {run.options['shown']}: {len(run.differs)} of {len(run.here.crates)} crates differ{': ' if run.differs else ''}{' '.join(run.differs)}"
         + (f"; gone: {' '.join(gone)}" if gone else ""))
-    run.read_bases()
     run.lacking = make_what_lacks(run)
     lost = []
     quick = threading.Thread(target=do_quick, args=(run, lost))
@@ -607,11 +684,24 @@ def go(run, names):
     return 1 if lost else 0
 
 
-if __name__ == "__main__":
+def leave(call):
+    """Ends the process with what a call comes to; nothing that it began goes on."""
+    status = 1
     try:
-        STATUS = main(sys.argv[1:])
+        status = call(sys.argv[1:])
+    except SystemExit as end:
+        status = end.code if isinstance(end.code, int) else 2
     except KeyboardInterrupt:
-        base.stop_all()
-        print("stopped: what was proved stays so, and the next call goes on", flush=True)
-        STATUS = 130
-    os._exit(STATUS)
+        print("stopped: what was done stays so, and the next call goes on", flush=True)
+        status = 130
+    except Exception:
+        traceback.print_exc()
+        status = 2
+    base.stop_all()
+    base.clear_rooms()
+    sys.stdout.flush()
+    os._exit(status)
+
+
+if __name__ == "__main__":
+    leave(main)
