@@ -190,6 +190,18 @@ def turned(one, other):
     return sorted(it for it in both if one["modules"].get(it) != other["modules"].get(it))
 
 
+def has_line(rlib, needs):
+    """Whether a library was made over these libraries, as crates.txt has them."""
+    return set(re.findall(r"^dep (\w+)$", (rlib / "format").read_text(encoding="utf-8"), re.M)) == {"std", *needs}
+
+
+def is_younger(rlib, home):
+    """Whether a library was put where it lies after each file of its crate was: it is made of these files then."""
+    made = rlib.stat().st_mtime_ns
+    paths = [it for part in PARTS if (home / part).is_dir() for it in [home / part, *(home / part).rglob("*")]]
+    return all(it.lstat().st_ctime_ns < made for it in paths)
+
+
 def has_texts(rlib, files):
     """Whether a library was made of these definitions and proofs."""
     root = rlib / "lang/antt"

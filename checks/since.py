@@ -98,27 +98,43 @@ class Run:
         self.kit, self.bases = kit_sum(), {}
         self.stands, self.idents, self.turned = {}, {}, {}  # of each library: where it is, its name, whether its face is another one
         self.proved, self.failed, self.left, self.taken, self.unknown = [], [], [], [], []
-        self.code, self.seconds = [], 0.0
+        self.code, self.seconds, self.stamps = [], 0.0, None
 
     # ---- the base
 
     def read_bases(self):
         """Which libraries of the base are of the revision's sources, made over one another."""
-        stamps = None
         for name in self.here.ordered():
-            rlib = self.kept[name].of_base
-            if name not in self.there.crates or not self.here.makes_library(name) or not base.ident(rlib) or not base.is_of_kit(rlib):
-                continue
-            over = base.made_over(rlib)
-            if over:
-                low = [it for it in self.there.below(name)]
-                is_good = base.has_texts(rlib, self.there.files[name]) and all(it in self.bases and over.get(it) == self.bases[it] for it in low)
-            else:
-                stamps = stamps if stamps is not None else base.stamps_of(self.there)
-                stamp = rlib.parent / "stamp"
-                is_good = stamp.exists() and stamp.read_text(encoding="utf-8") == stamps.get(name)
-            if is_good:
-                self.bases[name] = base.ident(rlib)
+            if name in self.there.crates and self.here.makes_library(name):
+                places = [TOP, *([self.options["base"]] if self.options["base"] else [])]
+                for place in places:
+                    rlib = place / "crates" / name / "out/rlib" / f"{name}.rlib"
+                    if name not in self.bases and base.ident(rlib) and base.is_of_kit(rlib) and self.is_of_revision(name, rlib, place):
+                        self.kept[name].of_base, self.bases[name] = rlib, base.ident(rlib)
+
+    def is_of_revision(self, name, rlib, place):
+        """Whether a library is of the revision's sources. `rt check` leaves a stamp that says so. `rt ci` leaves none: then it is
+        told by the library's definitions, proofs and names of those below, and by its time beside the code's."""
+        files, over = self.there.files[name], base.made_over(rlib)
+        if not over:
+            if self.stamps is None:
+                self.stamps = base.stamps_of(self.there)
+            stamp = rlib.parent / "stamp"
+            return stamp.exists() and stamp.read_text(encoding="utf-8") == self.stamps.get(name)
+        if any(over.get(it) != self.bases.get(it) for it in self.there.below(name)):
+            return False
+        if not (base.has_line(rlib, self.there.crates[name][1]) and base.has_texts(rlib, files)):
+            return False
+        note, sources = rlib.parent / "since.json", self.there.sum(name)
+        told = {"ident": base.ident(rlib), "sources": sources}
+        if note.exists() and json.loads(note.read_text(encoding="utf-8")) == told:
+            return True
+        home = place / "crates" / name
+        is_good = self.options.get("trust") or base.files_of(home) == files and base.is_younger(rlib, home)
+        if is_good and place == TOP:
+            note.write_text(json.dumps(told), encoding="utf-8")
+        # (of a crate that differs, the code is compared when it is checked as the revision has it)
+        return is_good or name in self.differs
 
     def is_whole(self, name):
         """Whether the base's library has all its modules."""
@@ -460,7 +476,7 @@ def do_quick(run, failed):
 
 # ---- the call
 
-FLAGS = ("--alone", "--no-edits", "--no-tests", "--proofs", "--definitions", "--prepare", "--help")
+FLAGS = ("--alone", "--no-edits", "--no-tests", "--proofs", "--definitions", "--prepare", "--trust", "--help")
 
 
 def read_words(words, flags):
@@ -490,29 +506,6 @@ def revision_of(names):
         if git("rev-parse", "-q", "--verify", it):
             return git("merge-base", "HEAD", it)
     return git("rev-parse", "HEAD") or refuse("this is no clone by git: it has no revision to begin from")
-
-
-def take_from(folder, here):
-    """Gives the libraries of another clone a second name here, if there are none of that crate."""
-    if not (folder / "crates.txt").exists():
-        refuse(f"{folder} is no clone of this repository")
-    count = 0
-    for name in here.crates:
-        theirs, ours = folder / "crates" / name / "out/rlib", TOP / "crates" / name / "out/rlib"
-        if base.ident(theirs / f"{name}.rlib") and not base.ident(ours / f"{name}.rlib"):
-            shutil.rmtree(ours, ignore_errors=True)
-            new = ours.with_name(f"rlib.{os.getpid()}.new")
-            shutil.copytree(theirs, new, copy_function=link_or_copy)
-            new.rename(ours)
-            count += 1
-    say(f"libraries taken from {folder}: {count}")
-
-
-def link_or_copy(one, other):
-    try:
-        os.link(one, other)
-    except OSError:
-        shutil.copyfile(one, other)
 
 
 HOW_TO_BEGIN = "run `./xv --build` or .ci/run once, before you change something (up to an hour), or name a clone in which the gate has passed by --base"
@@ -584,6 +577,16 @@ def tell_left(run, left_edits):
         say("the programs are built of this state: checks/run.sh tries them, in a minute")
 
 
+def base_of(folder):
+    """The other clone whose libraries are taken. It is remembered for the next call; that of this clone forgets it."""
+    if folder:
+        if not (folder / "crates.txt").exists():
+            refuse(f"{folder} is no clone of this repository")
+        git("config", "--local", "nektavoly.base", "" if folder == TOP else str(folder))
+    known = folder or pathlib.Path(git("config", "--local", "nektavoly.base") or TOP)
+    return known if known != TOP and (known / "crates.txt").exists() else None
+
+
 def tell_head(script):
     """What the head of a script says."""
     for line in (TOP / "checks" / script).read_text(encoding="utf-8").split("\n")[1:]:
@@ -609,8 +612,7 @@ def begin(names, options):
     here, there = base.tree_here(), base.tree_of(options["revision"])
     if not there:
         refuse(f"{options['shown']} has no crates.txt")
-    if options["base"]:
-        take_from(options["base"], here)
+    options["base"] = base_of(options["base"])
     run = Run(here, there, options)
     run.read_bases()
     return run

@@ -3,7 +3,9 @@
 # interfaces reach, tries the edits of the functions that changed, runs tests, and does the quick checks.
 #
 #   checks/since.sh [REV]              from REV; without it, from where this branch left origin's
-#   checks/since.sh --base FOLDER ..   takes libraries that lack here from another clone, in which the gate has passed REV
+#   checks/since.sh --base FOLDER ..   takes libraries that lack here from another clone, in which the gate has passed REV; that
+#                                      is remembered, and --base . forgets it
+#   checks/since.sh --trust ..         takes libraries as REV's whose times don't say so, if their definitions and proofs are REV's
 #   checks/since.sh --alone ..         proves what differs, and leaves the crates above to the gate
 #   checks/since.sh --no-edits ..      tries no edits; --no-tests runs no tests; --proofs does neither, nor quick checks
 #   checks/since.sh --definitions ..   also turns the definitions of the files of specs/ that differ, minutes each
