@@ -7,7 +7,7 @@
 #                             is the single FILE that is to be taken as init, or nothing
 #
 # What it knows nothing of, as the numbers of options, it leaves to the programs.
-# shellcheck shell=sh
+# shellcheck shell=sh disable=SC2034,SC2154
 
 # A limit of the table.
 most() {
@@ -137,7 +137,6 @@ look_at_part() {
     esac
 }
 
-# shellcheck disable=SC2034
 look_at() {
     for_kind=$1 run=$2 names=/ given='' files=0 file='' helps='' alone=''
     most_files=$(most files) most_name_bytes=$(most name-bytes)

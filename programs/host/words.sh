@@ -14,7 +14,7 @@
 #   value_of WORD [VALUE]     leaves in $value the value of an option, whichever way it stands
 #   name_of FILE              tells the name of the program that a FILE gives
 #   show_help                 tells the help
-# shellcheck shell=sh
+# shellcheck shell=sh disable=SC2034,SC2154
 
 read_table() {
     table_path=$1/words.txt
