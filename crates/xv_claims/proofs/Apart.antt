@@ -1,6 +1,5 @@
 -- A process that is apart from who makes a step sees only the channels change.
 use Rattle.console_core.specs.Keys.{line}
-use Rattle.console_core.specs.Lists.{empty_console}
 use Rattle.kernel_spec.specs.others.Quiet.{is_same, file_at, pipe_at, seen_table, meets_on_file, meets_on_pipe}
 unfoldable use Rattle.kernel_spec.specs.others.Quiet.{seen}
 use Rattle.kernel_spec.specs.runs.Moments.{AllBoth, IsStepOf, Moment}
@@ -17,20 +16,19 @@ use Rattle.std.proofs.lemmas.Bool.{ne_eqb}
 use Rattle.std.proofs.lemmas.Bool.Decides.{eqb_tells}
 use Rattle.std.proofs.lemmas.Option.{same_Some}
 use Rattle.std.specs.FinMap.{get}
-use Rattle.std.specs.Prelude.{ℤ, nat_eq, is_some, IsSome, option_map}
+use Rattle.std.specs.Prelude.{ℤ, nat_eq, IsSome, option_map}
 unfoldable use Rattle.xk_base.specs.Words.{least_below}
 use Rattle.xk_base.specs.declared.limits.TheConstants.{NOFILE}
 use Rattle.std.specs.Option.{option_or}
 use Rattle.kernel_spec.specs.others.Quiet.{seen_children}
-use Rattle.kernel_spec.specs.runs.Moments.{IsMoment}
 use Rattle.kernel_spec.specs.views.Processes.{Child, Status}
-use Rattle.kernel_spec.specs.views.Words.{is_this, ◌>>=◌}
-use Rattle.kernel_spec.proofs.Common.{none_has_no_value, or_false, same_first, same_rest, the_value, this_is_not}
+use Rattle.kernel_spec.specs.views.Words.{is_this}
+use Rattle.kernel_spec.proofs.Common.{or_false, same_first, same_rest, the_value, this_is_not}
 use Rattle.kernel_spec.proofs.runs.Two.{own_step, stepped}
 use Rattle.kernel_spec.proofs.steps.LeastPasses.{least_passes}
 use Rattle.kernel_spec.proofs.steps.OthersKeepTheRest.{clock_view, console_view, pid_is}
 use Rattle.kernel_spec.proofs.steps.SeenByParts.{left_at, same_child, seen_descriptor}
-use Rattle.xv_claims.specs.Apart.{AreApart, Channels, channels, channels_left, IsCutApart, IsOfApart, SameButChannels, Spares, with_channels}
+use Rattle.xv_claims.specs.Apart.{AreApart, Channels, channels, channels_left, IsCutApart, IsOfApart, Spares, with_channels}
 use Rattle.xv_claims.specs.ApartLaws.{ApartSeesChannels, ApartWorlds}
 
 -- ---- descriptors
@@ -64,7 +62,7 @@ same_children (Some status) v w ends c =
       | inl here ↦
           let gone : w.children c ≡ None = ap w.children here.1 ∙ (ends refl).0 in
           ap (λ (b : Bool). option_or (cond b (same_child (w.children c) (Status status)) (w.children c)) None) here.0
-              ∙ ap (λ (o : Option Child). option_or (same_child o (Status status)) None) gone ∙ sym gone
+          ∙ ap (λ (o : Option Child). option_or (same_child o (Status status)) None) gone ∙ sym gone
       | inr there ↦ ap (λ (b : Bool). option_or (cond b (same_child (w.children c) (Status status)) (w.children c)) None) there.0 ∙ or_none (w.children c)
     ]
   where

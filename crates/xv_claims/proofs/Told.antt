@@ -17,13 +17,12 @@ use Rattle.xk_base.specs.Image.{some_below}
 unfoldable use Rattle.xk_base.specs.Image.{price}
 use Rattle.pipe_core.specs.Pipe.{Pipe as Pipes}
 use Rattle.kernel_spec.specs.views.Processes.{Child, Live, Process, Alive, Zombie}
-use Rattle.kernel_spec.specs.views.State.{live, live_part, ProgramFile, State}
-use Rattle.kernel_spec.specs.views.View.{child_of, view, View}
+use Rattle.kernel_spec.specs.views.State.{live, live_part, State}
+use Rattle.kernel_spec.specs.views.View.{child_of, View}
 unfoldable use Rattle.kernel_spec.specs.views.View.{view_of}
 use Rattle.kernel_spec.specs.views.WellFormed.{cost, over_all}
 unfoldable use Rattle.kernel_spec.specs.views.WellFormed.{sum_below}
 use Rattle.kernel_spec.specs.views.Words.{count_if}
-use Rattle.kernel_spec.specs.waking.Turns.{Turns}
 use Rattle.kernel_spec.specs.runs.Alike.{AreAlike}
 use Rattle.kernel_spec.specs.runs.Run.{Event, Outcome, World}
 use Rattle.kernel_spec.specs.runs.Rounds.{events}
@@ -38,9 +37,8 @@ use Rattle.kcall_core.specs.declared.kernel.observers.frame_uses.FrameUse.TheVar
 use Rattle.xv_machine.specs.FrameUses.{IsOwned, IsUsed, page_frame_in}
 use Rattle.xv_machine.specs.Meaning.{Meaning, Owned}
 use Rattle.xv_machine.specs.Notes.{notes_of}
-use Rattle.xv_machine.specs.Reached.{IsReached}
-use Rattle.xv_machine.specs.Sound.{frames_of, HasFrames, IsSoundMachine, uses}
-use Rattle.xv_claims.specs.Told.{count_used, has_page, has_part, HasTold, HaveUse, OutcomesOf, Told, told_of}
+use Rattle.xv_machine.specs.Sound.{frames_of, HasFrames, IsSoundMachine}
+use Rattle.xv_claims.specs.Told.{count_used, has_page, has_part, HaveUse, told_of}
 use Rattle.xv_claims.specs.ToldLaws.{OutcomesAreDetermined, TellsOutcomes}
 
 -- ---- what is read off a live process is read off its view

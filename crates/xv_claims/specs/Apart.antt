@@ -1,5 +1,5 @@
 -- Two processes that have nothing in common, and what is left between them (the xv6 book, "Process overview": processes are kept apart).
-use Rattle.std.specs.Prelude.{◌≡◌, ◌≢◌, ℕ, ◌⊎◌, false, List, [], ◌∷◌, Option, None, Some, IsSome}
+use Rattle.std.specs.Prelude.{◌≡◌, ◌≢◌, ℕ, ◌⊎◌, false, List, [], ◌∷◌, None, Some, IsSome}
 use Rattle.std.specs.FinMap.{get}
 use Rattle.console_core.specs.Lists.{Console}
 use Rattle.kernel_spec.specs.views.State.{State}

@@ -1,8 +1,8 @@
 -- Worked cases of processes that have nothing in common, and of what is left between them.
-use Rattle.std.proofs.Common.{[], ℕ, ◌∙◌, ◌∷◌, ◌≡◌, ◌≢◌, ◌||◌, ap, Bool, false, inl, inr, List, None, Option, refl, Some, subst, sym, true}
+use Rattle.std.proofs.Common.{[], ℕ, ◌∙◌, ◌∷◌, ◌≡◌, ◌≢◌, ◌||◌, ap, false, inl, inr, None, Option, refl, Some, sym, true}
 use Rattle.std.proofs.lemmas.Option.{same_Some}
 use Rattle.std.specs.FinMap.{get}
-use Rattle.std.specs.Prelude.{ℤ, is_some, pos}
+use Rattle.std.specs.Prelude.{is_some, pos}
 use Rattle.console_core.specs.Lists.{Console}
 use Rattle.pipe_core.specs.Pipe.{Pipe}
 use Rattle.rv64i_core.specs.Registers.{Registers}
@@ -10,14 +10,15 @@ use Rattle.xk_base.specs.Image.{Image}
 use Rattle.file_table.specs.declared.open_file.End.{End}
 use Rattle.kernel_spec.specs.others.Quiet.{file_at, is_same, pipe_at, seen_children, seen_shown}
 use Rattle.kernel_spec.specs.runs.Moments.{IsStepOf, Moment}
-use Rattle.kernel_spec.specs.runs.Run.{Event, Happens, Outcome, Run, Tick, Ticked, World}
+use Rattle.kernel_spec.specs.runs.Run.{Happens, Outcome, Run, Tick, Ticked, World}
 use Rattle.kernel_spec.specs.steps.Own.{Answer, Exited, gone_with, Own, Stepped}
 use Rattle.kernel_spec.specs.steps.Step.{own}
 use Rattle.kernel_spec.specs.views.Processes.{Alive, Child, Live, Running, Status, Zombie}
 use Rattle.kernel_spec.specs.views.State.{State}
-use Rattle.kernel_spec.specs.views.View.{Descriptor, Descriptors, child_of, Shown, Shown_file, Shown_pipe, View, view}
+use Rattle.kernel_spec.specs.views.View.{Descriptor, Descriptors, child_of, Shown_file, Shown_pipe, View, view}
 use Rattle.kernel_spec.specs.views.Words.{is_this}
 use Rattle.kernel_spec.proofs.Common.{none_is_same}
+use Rattle.xv_claims.specs.ApartLaws.{ApartWorlds}
 use Rattle.xv_claims.specs.Apart.{AreApart, Channels, channels, channels_left, IsCutApart, IsOfApart, SameButChannels, Spares, with_channels}
 
 -- ---- the channels
@@ -160,3 +161,13 @@ module _ (w t : World) where
 
   not_made_up : (m : Moment) → IsCutApart 2 w [] t (m ∷ []) → ⊥
   not_made_up m cut = let none : m ∷ [] ≡ [] = cut.1 in let no : ⊥ = cc in no
+
+-- ---- two worlds that show process 2 the same but for the channels: if these are the same too as it makes a step, it has one answer
+
+module _ (law : ApartWorlds) (v w x y : World) (a b n m : View) (o q : Outcome) (see_v : view v.state 2 ≡ Some a) (see_w : view w.state 2 ≡ Some b) (alike : SameButChannels a b)
+    (step_v : Happens v Run o x) (step_w : Happens w Run q y) (his_v : IsStepOf 2 v Run) (his_w : IsStepOf 2 w Run) (after_v : view x.state 2 ≡ Some n) (after_w : view y.state 2 ≡ Some m) where
+  one_answer : channels a ≡ channels b → (o ≡ q) × (Some n ≡ Some m)
+  one_answer same =
+      let moments = law 2 v w x y ((Run, o) ∷ []) ((Run, q) ∷ []) (record { before = a; outcome = o; after = Some n } ∷ []) (record { before = b; outcome = q; after = Some m } ∷ []) a b see_v see_w alike
+      (one_moment v x a n o step_v his_v see_v after_v) (one_moment w y b m q step_w his_w see_w after_w) (same, tt) in
+      (ap (λ (z : Moment). z.outcome) moments.0, ap (λ (z : Moment). z.after) moments.0)

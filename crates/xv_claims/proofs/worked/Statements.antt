@@ -1,11 +1,10 @@
 -- Worked cases of statements: each is used on what boots and events give, so a premise that nobody produces, and a claim that is weaker, are refused here.
-use Rattle.std.proofs.Common.{[], ℕ, ◌%◌, ◌+◌, ◌<◌, ◌∙◌, ◌∷◌, ◌++◌, ◌≡◌, ◌≢◌, ◌⊎◌, ap, Bool, false, List, None, Ok, Option, refl, Some, subst, sym}
+use Rattle.std.proofs.Common.{[], ℕ, ◌%◌, ◌+◌, ◌<◌, ◌∙◌, ◌∷◌, ◌≡◌, ◌≢◌, ◌⊎◌, ap, Bool, false, List, None, Ok, Option, refl, Some, subst, sym}
 use Rattle.std.proofs.Common.{true}
 use Rattle.kernel_spec.specs.laws.Worlds.{OthersKeep}
 use Rattle.kernel_spec.specs.runs.First.{first}
 use Rattle.kernel_spec.specs.runs.Moments.{IsStepOf}
-use Rattle.kernel_spec.specs.runs.Run.{Event, Happens, Outcome, Run, StateAfter, Step_of, Tick, TickHappens, Ticked, TurnsAfter, World}
-use Rattle.kernel_spec.specs.runs.Rounds.{events}
+use Rattle.kernel_spec.specs.runs.Run.{Happens, Outcome, Run, StateAfter, Step_of, Tick, TickHappens, Ticked, TurnsAfter, World}
 use Rattle.kernel_spec.specs.runs.Sources.{Holds, Stands, WasPut}
 use Rattle.kernel_spec.specs.steps.Step.{own}
 use Rattle.kernel_spec.specs.views.Shared.{bare, SameDescriptors}
@@ -18,6 +17,8 @@ use Rattle.xv_machine.specs.Boots.{Boots, HasEmptyTrace}
 use Rattle.xv_machine.specs.Meaning.{Meaning}
 use Rattle.xv_machine.specs.Reached.{BootReaches, EventsGo, IsEvent, IsReached, NoByteIsShown, ReachesOn, StepsAreOwn}
 use Rattle.xv_machine.specs.Sound.{IsSoundMachine}
+use Rattle.xv_claims.specs.Apart.{AreApart, channels_left, Spares, with_channels}
+use Rattle.xv_claims.specs.ApartLaws.{ApartSeesChannels}
 use Rattle.xv_claims.specs.Told.{HasTold, OutcomesOf, Told}
 use Rattle.xv_claims.specs.ToldLaws.{OutcomesAreDetermined, TellsOutcomes}
 
@@ -94,6 +95,14 @@ module _ (boots_reach : BootReaches) (reaches_on : ReachesOn) (events_go : Event
   second_is_own : StepsAreOwn → IsStepOf 1 b.world Run
       → (v : View) × (view b.world.state 1 ≡ Some v) × (q ≡ Step_of 1 (own v).answer) × StateAfter b.world.state v (own v) c.world.state × TurnsAfter b.world.turns 1 (own v) c.world.turns
   second_is_own law his = law 64 8 programs ((Run, o) ∷ []) b c 1 q reached_one his two
+
+  -- process 2, which has nothing in common with it and which it spares, sees the channels change
+  other_sees_channels : ApartSeesChannels → IsStepOf 1 b.world Run → (v u : View) → view b.world.state 1 ≡ Some v → view b.world.state 2 ≡ Some u
+      → AreApart b.world.state 1 2 → Spares b.world.state 1 (own v) 2 → view c.world.state 2 ≡ Some (with_channels (channels_left v (own v)) u)
+  other_sees_channels law his v u see_v see_u apart spares = law b.world c.world 1 2 q v u two.promised.0 his other see_v see_u apart spares
+    where
+      other : ◌≢◌ {A = ℕ} 1 2
+      other e = cc
 
   -- a byte that a process holds then stood in the memory of process 1 at boot, or was put there
   byte_has_source : NoByteIsShown → (p byte : ℕ) → 5 < 4096 → Holds c.world p 2 5 byte

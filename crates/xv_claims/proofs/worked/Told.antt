@@ -16,7 +16,6 @@ use Rattle.kernel_spec.specs.views.Words.{count_if}
 unfoldable use Rattle.kernel_spec.specs.runs.First.{first}
 use Rattle.kernel_spec.specs.runs.Run.{Event, Key, out, Outcome, Send, Sent, Tick, Ticked, Typed, World}
 use Rattle.kernel_spec.specs.runs.Rounds.{events}
-use Rattle.kcall_core.specs.declared.kernel.observers.frame_uses.FrameUse.{FrameUse}
 use Rattle.kcall_core.specs.declared.kernel.observers.frame_uses.FrameUse.TheVariants.{Free, Trapframe, Root, Upper, Lower, Page, Pipe}
 use Rattle.kcall_core.specs.Observers.{byte_at, child_at, registers_of}
 use Rattle.xv_machine.specs.FrameUses.{IsUsed, page_frame_at}
