@@ -295,17 +295,18 @@ class Closure:
 
 
 @functools.cache
+def code_of_crate(crate):
+    """All code of a crate."""
+    return "\n".join(it.read_text(encoding="utf-8") for it in sorted((TOP / "crates" / crate / "src").glob("**/*.rt")))
+
+
 def lines_of_type(crate, name):
     """How many lines a type or a constant of the code has, without comments and attributes."""
-    for path in sorted((TOP / "crates" / crate / "src").glob("**/*.rt")):
-        lines = path.read_text(encoding="utf-8").split("\n")
-        for start, line in enumerate(lines):
-            if not re.match(rf"(pub(\(crate\))? )?(struct|enum|const|type) {name}\b", line):
-                continue
-            rest = lines[start:] if not line.endswith(";") else [line]
-            end = next(number for number, it in enumerate(rest) if it in ("}", line) and (it == "}" or it.endswith((";", "}"))))
-            return sum(it.strip() != "" and not it.strip().startswith(("//", "#[")) for it in rest[:end + 1])
-    raise SystemExit(f"{crate} has no type or constant {name}")
+    found = re.search(rf"^(pub(\(crate\))? )?(struct|enum|const|type) {name}\b.*?(;$|^}}$)", code_of_crate(crate), re.M | re.S)
+    if not found:
+        raise SystemExit(f"{crate} has no type or constant {name}")
+    lines = map(str.strip, found[0].split("\n"))
+    return sum(it != "" and not it.startswith(("//", "#[")) for it in lines)
 
 
 # ---- claims

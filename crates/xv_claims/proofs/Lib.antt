@@ -1,3 +1,4 @@
 pub mod Apart
+pub mod Asleep
 pub mod Told
 mod worked

@@ -4,6 +4,8 @@ use Rattle.kernel_spec.specs.views.View.{View, view}
 use Rattle.kernel_spec.specs.steps.Step.{own}
 use Rattle.kernel_spec.specs.runs.Run.{World, Event, Run, Outcome, Happens}
 use Rattle.kernel_spec.specs.runs.Moments.{IsStepOf, Moment, AllBoth}
+use Rattle.kernel_spec.specs.waking.Turns.{Sleeps}
+use Rattle.kernel_spec.specs.waking.Wakes.{IsInCall, NoReadySleeper, Promised}
 use Rattle.xv_claims.specs.Apart.{AreApart, Spares, SameButChannels, IsCutApart, channels, channels_left, with_channels}
 
 -- A step of p changes for q, which is apart from p and is spared, the channels, as the step leaves them, and nothing else
@@ -13,8 +15,15 @@ ApartSeesChannels =
     → AreApart w.state p q → Spares w.state p (own v) q
     → view t.state q ≡ Some (with_channels (channels_left v (own v)) u)
 
--- Two worlds in which p sees the same but for the channels go on by any events, each of which is p's own step or one of who is apart from p. If the channels are the same as each of p's steps begins,
--- its steps have the same outcomes, and it sees the same before and after each, whatever else the worlds hold
+-- Who sleeps for ticks (call 13) isn't woken by another's step that doesn't mark it: of the clock's wake-ups a step makes none
+abbrev pub OnlyTicksWake : Type 0
+OnlyTicksWake =
+    (w t : World) (p q : ℕ) (o : Outcome) (v u : View) → Promised w Run o t → IsStepOf p w Run → p ≢ q → view w.state p ≡ Some v → view w.state q ≡ Some u
+    → NoReadySleeper w → Sleeps w.turns q → IsInCall 13 u → (own v).marked ≢ Some q
+    → Sleeps t.turns q
+
+-- Two worlds in which p sees the same but for the channels go on by any events, each of which is p's own step or one of who is apart from p.
+-- If the channels are the same as each of p's steps begins, its steps have the same outcomes, and it sees the same before and after each, whatever else the worlds hold
 abbrev pub ApartWorlds : Type 0
 ApartWorlds =
     (p : ℕ) (v w x y : World) (es fs : List (Event × Outcome)) (ms ns : List Moment) (a b : View)

@@ -32,8 +32,8 @@ abbrev pub has_page : (vpn : ℕ) → Option Live → Bool
 has_page vpn None = false
 has_page vpn (Some l) = is_some (get l.image.pages vpn)
 
--- How many of all frames have this use. A live process has a frame for its registers, a root, a table for each 2^18 pages and for each 512 pages of which one is there, and a frame for each page;
--- what is neither free nor a process's holds a pipe
+-- How many of all frames have this use. A live process has a frame for its registers, a root, a table for each 2^18 pages and for each 512 pages of which one is there,
+-- and a frame for each page; what is neither free nor a process's holds a pipe
 abbrev pub count_used : (frames : ℕ) → State → FrameUse → ℕ
 count_used frames s Free = s.free
 count_used frames s (Trapframe pid) = count_if (is_some (live s pid))
@@ -82,11 +82,12 @@ told_of frames trace list w = record {
   frames = count_used frames w.state;
 }
 
--- From the first world of so many frames, so long a trace and these programs, these events give this, by the definitions alone. There is one such answer and no other (`OutcomesAreDetermined`): so this is a function, but for the numbers by which
--- the kernel keeps open files, pipes and frames, which are left open, and aren't told
+-- From the first world of so many frames, so long a trace and these programs, these events give this, by the definitions alone. There is one such answer and no other (`OutcomesAreDetermined`).
+-- So it is a function, though it goes by runs: they leave open by which numbers the kernel keeps open files, pipes and frames, and these aren't told
 abbrev pub OutcomesOf : (frames trace : ℕ) → List ProgramFile → List Event → Told → Type 0
 OutcomesOf frames trace programs wanted told =
-    (w : World) × (first frames trace programs ≡ Ok w) × ((t : World) × (list : List (Event × Outcome)) × IsPromised w list t × (events list ≡ wanted) × (told ≡ told_of frames trace list t))
+    (w : World) × (first frames trace programs ≡ Ok w)
+    × ((t : World) × (list : List (Event × Outcome)) × IsPromised w list t × (events list ≡ wanted) × (told ≡ told_of frames trace list t))
 
 -- A machine that has gone by this list has told this: what its events gave, and what its observers answer
 pub record HasTold (list : List (Event × Outcome)) (m : Meaning) (told : Told) : Type 0 where

@@ -1,6 +1,6 @@
 //! The laws that a reader meets first, each as a clause of a function with an empty body.
 ghost use Rattle.xv_claims.specs.ToldLaws.{OutcomesAreDetermined, TellsOutcomes};
-ghost use Rattle.xv_claims.specs.ApartLaws.{ApartSeesChannels, ApartWorlds};
+ghost use Rattle.xv_claims.specs.ApartLaws.{ApartSeesChannels, ApartWorlds, OnlyTicksWake};
 
 /// What can be seen of a machine.
 pub fn outcomes_of()
@@ -16,6 +16,9 @@ pub fn outcomes_of()
 pub fn apart_processes()
     // A step of one changes for the other the channels, and nothing else.
     ensures apart_sees_channels { ApartSeesChannels }
+
+    // And it wakes nobody who sleeps for ticks.
+    ensures only_ticks_wake { OnlyTicksWake }
 
     // Two worlds that show a process the same, and the same channels as each of its steps begins, can't be told
     // apart by it, if all others who make steps are apart from it.

@@ -8,6 +8,10 @@ use Rattle.pipe_core.specs.Pipe.{Pipe}
 use Rattle.rv64i_core.specs.Registers.{Registers}
 use Rattle.xk_base.specs.Image.{Image}
 use Rattle.file_table.specs.declared.open_file.End.{End}
+use Rattle.proc_table.specs.declared.process.Call.{Call}
+unfoldable use Rattle.kernel_spec.specs.waking.Ready.{ready}
+use Rattle.kernel_spec.specs.waking.Turns.{Sleeps}
+use Rattle.kernel_spec.specs.waking.Wakes.{NoReadySleeper, Promised}
 use Rattle.kernel_spec.specs.others.Quiet.{file_at, is_same, pipe_at, seen_children, seen_shown}
 use Rattle.kernel_spec.specs.runs.Moments.{IsStepOf, Moment}
 use Rattle.kernel_spec.specs.runs.Run.{Happens, Outcome, Run, Tick, Ticked, World}
@@ -18,7 +22,7 @@ use Rattle.kernel_spec.specs.views.State.{State}
 use Rattle.kernel_spec.specs.views.View.{Descriptor, Descriptors, child_of, Shown_file, Shown_pipe, View, view}
 use Rattle.kernel_spec.specs.views.Words.{is_this}
 use Rattle.kernel_spec.proofs.Common.{none_is_same}
-use Rattle.xv_claims.specs.ApartLaws.{ApartWorlds}
+use Rattle.xv_claims.specs.ApartLaws.{ApartWorlds, OnlyTicksWake}
 use Rattle.xv_claims.specs.Apart.{AreApart, Channels, channels, channels_left, IsCutApart, IsOfApart, SameButChannels, Spares, with_channels}
 
 -- ---- the channels
@@ -171,3 +175,17 @@ module _ (law : ApartWorlds) (v w x y : World) (a b n m : View) (o q : Outcome) 
       let moments = law 2 v w x y ((Run, o) ∷ []) ((Run, q) ∷ []) (record { before = a; outcome = o; after = Some n } ∷ []) (record { before = b; outcome = q; after = Some m } ∷ []) a b see_v see_w alike
       (one_moment v x a n o step_v his_v see_v after_v) (one_moment w y b m q step_w his_w see_w after_w) (same, tt) in
       (ap (λ (z : Moment). z.outcome) moments.0, ap (λ (z : Moment). z.after) moments.0)
+
+-- ---- who sleeps for ticks
+
+-- a mark makes it ready, and so it has to be asked for
+marked_is_ready : (x : View) → ready (record x { killed = true }) ≡ true
+unfolding ready
+marked_is_ready x = refl
+
+-- process 2, which sleeps for 5 ticks, sleeps on after a step of process 3
+sleeps_on : OnlyTicksWake → (w t : World) (o : Outcome) (v u : View) (c : Call) → Promised w Run o t → IsStepOf 3 w Run → view w.state 3 ≡ Some v → view w.state 2 ≡ Some u → NoReadySleeper w → Sleeps w.turns 2
+    → u.call ≡ Some (record c { number = pos 13; a0 = 5 }) → (own v).marked ≡ None → Sleeps t.turns 2
+sleeps_on law w t o v u c promised his see_v see_u none asleep call marks =
+    law w t 3 2 o v u promised his (λ e. (let no : ⊥ = cc in no)) see_v see_u none asleep (record c { number = pos 13; a0 = 5 }, call, refl)
+    (λ e. (let both : ◌≡◌ {A = Option ℕ} None (Some 2) = sym marks ∙ e in let no : ⊥ = cc in no))
