@@ -1,0 +1,81 @@
+#!/usr/bin/env python3
+"""Adds to TinyCC's source what the machine needs, in lines of our own: insert.py FOLDER. Each place is looked for, and has to be there once.
+
+- The machine multiplies and divides by functions of the library, as gcc's programs do: the back end would write instructions of the
+  extension M.
+- There are no registers for fractions: what needs one is a mistake of the source, and no instruction of the extensions F and D is
+  written.
+- A constant of a pointer's type has 64 bits.
+"""
+import pathlib
+import re
+import sys
+
+FRACTIONS = '''
+/* What stands here would take a register for fractions. */
+static void refuse_fractions(int type)
+{
+    if (is_float(type))
+        tcc_error("float and double aren't there: the machine has whole numbers alone (RV64I)");
+}
+
+/* The function of the library that does an operation; NULL if an instruction does it. */
+static const char *function_of(int op, int has_64_bits)
+{
+    switch (op) {
+    case '*': return has_64_bits ? "__muldi3" : "__mulsi3";
+    case '/': case TOK_PDIV: return has_64_bits ? "__divdi3" : "__divsi3";
+    case '%': return has_64_bits ? "__moddi3" : "__modsi3";
+    case TOK_UDIV: return has_64_bits ? "__udivdi3" : "__udivsi3";
+    case TOK_UMOD: return has_64_bits ? "__umoddi3" : "__umodsi3";
+    default: return NULL;
+    }
+}
+'''
+
+CALL = '''    {
+        const char *name = function_of(op, ll == 0);
+        if (name) {
+            vpush_global_sym(&func_old_type, tok_alloc(name, strlen(name))->tok);
+            vrott(3);
+            gfunc_call(2);
+            vpushi(0);
+            vtop->r = REG_IRET;
+            if (ll)
+                EI(0x1b, 0, ireg(REG_IRET), ireg(REG_IRET), 0); /* its upper half is the sign */
+            else
+                vtop->type.t = VT_LLONG;
+            return;
+        }
+    }
+'''
+
+# Behind what (a pattern) which text is inserted, in riscv64-gen.c.
+BEHIND = [
+    (r"#define TREG_SP 18\n(?=\nST_DATA)", FRACTIONS),
+    (r"ST_FUNC void load\(int r, SValue \*sv\)\n\{\n(?:    int .*\n)+", '''    refuse_fractions(sv->type.t);
+    if (bt == VT_PTR)
+        bt = VT_LLONG;
+'''),
+    (r"ST_FUNC void store\(int r, SValue \*sv\)\n\{\n(?:    int .*\n)+", "    refuse_fractions(sv->type.t);\n"),
+    (r"static void reg_pass_rec\(.*\)\n\{\n", "    refuse_fractions(type->t);\n"),
+    (r"ST_FUNC void gen_opf\(int op\)\n\{\n(?:    int .*\n)+", "    refuse_fractions(VT_DOUBLE);\n"),
+    (r"ST_FUNC void gen_cvt_itof\(int t\)\n\{\n", "    refuse_fractions(VT_DOUBLE);\n"),
+    (r"ST_FUNC void gen_cvt_ftoi\(int t\)\n\{\n", "    refuse_fractions(VT_DOUBLE);\n"),
+    (r"ST_FUNC void gen_cvt_ftof\(int dt\)\n\{\n", "    refuse_fractions(VT_DOUBLE);\n"),
+    (r"(?=    gv2\(RC_INT, RC_INT\);\n    a = ireg\(vtop\[-1\])", CALL),
+]
+
+
+def main():
+    path = pathlib.Path(sys.argv[1]) / "riscv64-gen.c"
+    text = path.read_text()
+    for pattern, ours in BEHIND:
+        found = list(re.finditer(pattern, text))
+        if len(found) != 1:
+            sys.exit(f"insert.py: {path} has {len(found)} places in which {pattern!r} fits")
+        text = text[:found[0].end()] + ours + text[found[0].end():]
+    path.write_text(text)
+
+
+main()
