@@ -19,6 +19,7 @@ QEMU = "qemu-riscv64"
 SHOWN = 5
 BATCH = 64
 TRIES = 300
+PATIENCE = int(os.environ.get("PATIENCE", 60))
 
 # What is done in place of each instruction by `--turned`. FENCE has no neighbour: nothing else does nothing.
 TURNED = {
@@ -43,9 +44,9 @@ def turning(name):
 def outcome(words):
     """The exit status and the output of a program, or what else came of it."""
     try:
-        run = subprocess.run(words, stdin=subprocess.DEVNULL, stdout=subprocess.PIPE, stderr=subprocess.DEVNULL, timeout=10)
+        run = subprocess.run(words, stdin=subprocess.DEVNULL, stdout=subprocess.PIPE, stderr=subprocess.DEVNULL, timeout=PATIENCE)
     except subprocess.TimeoutExpired:
-        return "no end within 10 seconds", b""
+        return f"no end within {PATIENCE} seconds", b""
     return f"status {run.returncode}", run.stdout
 
 
