@@ -99,11 +99,11 @@ case "$*" in
     ;;
 --node)
     begin_node
-    do_all $quick $longer
+    do_all $quick $longer checks/dap/run.sh 'node anywhere/try/machine_room.mjs'
     ;;
 '--node --quick' | '--quick --node')
     begin_node
-    do_all $quick
+    do_all $quick checks/dap/run.sh 'node anywhere/try/machine_room.mjs'
     ;;
 --others) tell_others ;;
 *)

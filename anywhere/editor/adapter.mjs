@@ -1,7 +1,8 @@
 // The requests of an editor (Debug Adapter Protocol), answered by a session. A thread is a process: its id is the pid.
 import { basename, resolve } from "node:path";
-import { call_number } from "../machine/calls.mjs";
+import { all_calls, call_number } from "../machine/calls.mjs";
 import { calls_of } from "../machine/line_steps.mjs";
+import { word_at } from "../machine/memory.mjs";
 import { hex, number } from "../machine/number_words.mjs";
 import { REGISTERS } from "../machine/registers.mjs";
 import { condition_of } from "./conditions.mjs";
@@ -9,8 +10,10 @@ import { evaluated } from "./expressions.mjs";
 import { Session } from "./session.mjs";
 import { kernel_variables, state_words } from "./kernel_scope.mjs";
 
-const MOST_READ = 65536, INSTRUCTION = 4n;
+const MOST_READ = 65536, MOST_INSTRUCTIONS = 4096; // of one answer
+const INSTRUCTION = 4n; // bytes
 const FAULTS = "fault", CALLS = "call";
+const KNOWN = "a register, a label, a number, x ADDRESS COUNT, type TEXT, goto EVENT";
 
 const CAPABILITIES = {
   supportsConfigurationDoneRequest: true, supportsFunctionBreakpoints: true, supportsConditionalBreakpoints: true,
@@ -37,7 +40,8 @@ function text_in(args, name) {
 function number_in(args, name, least, most) {
   const value = args[name];
   if (value === undefined) return undefined;
-  if (!Number.isInteger(value) || value < least || value > most) throw new Error(`${name} is a number from ${least} to ${most}`);
+  const is_one = Number.isInteger(value) && value >= least && value <= most;
+  if (!is_one) throw new Error(`${name} is a number from ${least} to ${most}`);
   return value;
 }
 
@@ -49,7 +53,8 @@ function texts_in(args, name) {
 
 export class Adapter {
   constructor(module, writer, leave) {
-    Object.assign(this, { module, writer, leave, points: new Map(), handles: [], frames: [], session: null, base: process.cwd() });
+    Object.assign(this, { module, writer, leave, session: null, base: process.cwd(), handles: [], frames: [] });
+    this.points = new Map(); // the break points of each source, and of each kind of others
     this.filters = { faults: true, calls: [] };
   }
 
@@ -73,7 +78,7 @@ export class Adapter {
   }
 
   get own() {
-    if (!this.session?.programs) throw new Error("no machine is booted: launch comes first");
+    if (!this.session) throw new Error("no machine is booted: launch comes first");
     return this.session;
   }
 
@@ -111,8 +116,10 @@ export class Adapter {
       frames: number_in(args, "frames", 16, 32768) ?? 4096, quantum: number_in(args, "quantum", 1, 1000000) ?? 1000,
       keys: text_in(args, "keys") ?? null, clock,
     };
-    this.session = new Session(this.module, this);
-    this.session.boot(words, this.base, texts_in(args, "sourceFolders"), settings);
+    this.session = null;
+    const session = new Session(this.module, this);
+    session.boot(words, this.base, texts_in(args, "sourceFolders"), settings);
+    this.session = session;
     if (this.session.programs.told) this.output(`${this.session.programs.told}\n`, "console");
     this.set_breaks();
     return {};
@@ -124,7 +131,7 @@ export class Adapter {
 
   on_configurationDone() {
     return Adapter.after(() => {
-      if (!this.session?.programs) return;
+      if (!this.session) return;
       if (this.args.stopOnEntry === false || this.args.noDebug) this.session.play();
       else this.session.stop("entry");
     });
@@ -151,14 +158,18 @@ export class Adapter {
     const found = wanted.map((it) => this.point(it));
     this.points.set(key, found.flatMap((it) => it.places));
     this.set_breaks();
-    return { breakpoints: found.map(({ places, words, line }) => ({ verified: places.length > 0, ...(words ? { message: words } : {}), ...(line ? { line } : {}) })) };
+    const told = ({ places, words, line }) => (
+      { verified: places.length > 0, ...(words ? { message: words } : {}), ...(line ? { line } : {}) }
+    );
+    return { breakpoints: found.map(told) };
   }
 
   /** One break point: the places at which it stands. A condition that can't be read is told. */
   point({ places, name, line, condition, hitCondition, words = "nothing begins here" }) {
     try {
       const holds = condition_of(condition, hitCondition);
-      const list = this.args?.noDebug ? [] : places.map((it) => ({ kind: "address", program: null, name, holds, ...it }));
+      const all = places.map((it) => ({ kind: "address", program: null, name, holds, ...it }));
+      const list = this.args?.noDebug ? [] : all;
       return { places: list, line, words: list.length ? "" : words };
     } catch (error) {
       return { places: [], line, words: error.message };
@@ -174,8 +185,8 @@ export class Adapter {
   on_setBreakpoints({ source = {}, breakpoints = [] }) {
     const path = resolve(this.base, source.path ?? ""), { programs } = this.own;
     return this.points_of(`line ${path}`, breakpoints.map((it) => {
-      const places = programs.places_of_line(path, it.line), near = places.length ? [] : programs.lines_near(path, it.line);
-      const words = near.length ? `no instruction begins here; nearest: ${near.join(", ")}` : "no program was made of this source";
+      const places = programs.places_of_line(path, it.line), near = programs.lines_near(path, it.line).join(", ");
+      const words = near ? `no instruction begins here; nearest: ${near}` : "no program was made of this source";
       return { ...it, places, name: `${basename(path)}:${it.line}`, words };
     }));
   }
@@ -196,7 +207,8 @@ export class Adapter {
   on_dataBreakpointInfo({ name = "" }) {
     const found = evaluated(this.own, this.own.pid, name);
     if (found?.address === undefined) return { dataId: null, description: `${name} is no address, label or function` };
-    return { dataId: hex(found.address), description: `stores to the byte at ${hex(found.address)}`, accessTypes: ["write"] };
+    const dataId = hex(found.address), description = `stores to the byte at ${dataId}`;
+    return { dataId, description, accessTypes: ["write"] };
   }
 
   on_setDataBreakpoints({ breakpoints = [] }) {
@@ -207,19 +219,15 @@ export class Adapter {
 
   on_setExceptionBreakpoints({ filters = [], filterOptions = [] }) {
     const all = [...filters.map((filterId) => ({ filterId })), ...filterOptions];
-    const calls = all.filter((it) => it.filterId === CALLS), names = calls.flatMap((it) => (it.condition ?? "").split(/[\s,]+/)).filter(Boolean);
+    const calls = all.filter((it) => it.filterId === CALLS);
+    const names = calls.flatMap((it) => (it.condition ?? "").split(/[\s,]+/)).filter(Boolean);
     const unknown = names.find((it) => call_number(it) === undefined);
     if (unknown) throw new Error(`${unknown} is no kernel call`);
-    const wanted = names.length ? names : calls.length ? [...this.kernel_calls().values()] : [];
-    this.filters = {
-      faults: all.some((it) => it.filterId === FAULTS), calls: wanted.map((name) => ({ number: call_number(name), name })),
-    };
+    const wanted = calls.length && !names.length ? all_calls() : names;
+    const faults = all.some((it) => it.filterId === FAULTS);
+    this.filters = { faults, calls: wanted.map((name) => ({ number: call_number(name), name })) };
     this.set_breaks();
     return { breakpoints: all.map(() => ({ verified: true })) };
-  }
-
-  kernel_calls() {
-    return this.own.machine.kernel_calls;
   }
 
   on_exceptionInfo() {
@@ -252,14 +260,16 @@ export class Adapter {
   on_threads() {
     const { machine, run, programs } = this.own;
     const name_of = (pid) => programs.files[run.program_of(pid)]?.name ?? "";
-    return { threads: machine.pids().map((pid) => ({ id: pid, name: `${pid} ${name_of(pid)}: ${state_words(this.own, pid)}` })) };
+    const told = (pid) => ({ id: pid, name: `${pid} ${name_of(pid)}: ${state_words(this.own, pid)}` });
+    return { threads: machine.pids().map(told) };
   }
 
   on_stackTrace({ threadId, startFrame = 0, levels = 0 }) {
     const { machine, run, programs } = this.own, program = run.program_of(threadId), pc = this.own.pc(threadId);
     const addresses = pc === null ? [] : calls_of(machine, threadId, programs.known(program, pc).frames);
     const frames = addresses.map((address, k) => this.frame(threadId, program, address, k));
-    return { totalFrames: frames.length, stackFrames: frames.slice(startFrame, levels ? startFrame + levels : undefined) };
+    const end = levels ? startFrame + levels : frames.length;
+    return { totalFrames: frames.length, stackFrames: frames.slice(startFrame, end) };
   }
 
   frame(pid, program, address, depth) {
@@ -280,7 +290,8 @@ export class Adapter {
 
   on_scopes({ frameId }) {
     const { pid } = this.frame_of(frameId);
-    const registers = this.handle(() => this.registers(pid)), kernel = this.handle(() => kernel_variables(this.own, pid, (it) => this.handle(it)));
+    const registers = this.handle(() => this.registers(pid));
+    const kernel = this.handle(() => kernel_variables(this.own, pid, (it) => this.handle(it)));
     return {
       scopes: [
         { name: "Registers", presentationHint: "registers", variablesReference: registers, expensive: false },
@@ -291,7 +302,10 @@ export class Adapter {
 
   registers(pid) {
     const values = this.own.machine.registers(pid) ?? [];
-    return [...values].map((value, k) => ({ name: REGISTERS[k], value: hex(value), memoryReference: hex(value), variablesReference: 0, type: number(value) }));
+    return [...values].map((value, k) => {
+      const address = hex(value);
+      return { name: REGISTERS[k], value: address, type: number(value), memoryReference: address, variablesReference: 0 };
+    });
   }
 
   on_variables({ variablesReference }) {
@@ -303,7 +317,7 @@ export class Adapter {
   on_evaluate({ expression, frameId, context }) {
     const pid = frameId === undefined ? this.own.pid : this.frame_of(frameId).pid;
     const found = evaluated(this.own, pid, expression, context === "repl");
-    if (!found) throw new Error(`${expression}: a register, a label, a number, x ADDRESS COUNT, type TEXT, goto EVENT`);
+    if (!found) throw new Error(`${expression}: ${KNOWN}`);
     if (found.then) setTimeout(found.then, 0);
     const reference = found.address === undefined ? {} : { memoryReference: hex(found.address) };
     return { result: found.text, variablesReference: 0, ...reference };
@@ -316,18 +330,19 @@ export class Adapter {
   }
 
   on_disassemble({ memoryReference, offset = 0, instructionOffset = 0, instructionCount }) {
-    const { machine, run, pid, programs } = this.own, program = run.program_of(pid);
     const first = BigInt(memoryReference) + BigInt(offset) + INSTRUCTION * BigInt(instructionOffset);
-    const list = Array.from({ length: Math.min(instructionCount, 4096) }, (_, k) => BigInt.asUintN(64, first + INSTRUCTION * BigInt(k)));
-    return {
-      instructions: list.map((address) => {
-        const bytes = machine.peek(pid, address, 4), word = bytes.length < 4 ? null : new DataView(bytes.slice().buffer).getUint32(0, true);
-        const { source, line } = programs.place(program, address), text = word === null ? null : machine.instruction(word, address);
-        return {
-          address: hex(address), instruction: text ?? (word === null ? "no memory" : `.word ${hex(word)}`),
-          ...(source ? { location: source, line } : {}), ...(text ? {} : { presentationHint: "invalid" }),
-        };
-      }),
-    };
+    const count = Math.min(instructionCount, MOST_INSTRUCTIONS);
+    const address_of = (_, k) => BigInt.asUintN(64, first + INSTRUCTION * BigInt(k));
+    return { instructions: Array.from({ length: count }, address_of).map((address) => this.instruction(address)) };
+  }
+
+  /** The instruction at an address of the process that is looked at. */
+  instruction(address) {
+    const { machine, run, pid, programs } = this.own, word = word_at(machine, pid, address);
+    const { source, line } = programs.place(run.program_of(pid), address), where = source ? { location: source, line } : {};
+    const text = word === null ? null : machine.instruction(word, address);
+    if (text) return { address: hex(address), instruction: text, ...where };
+    const instruction = word === null ? "no memory" : `.word ${hex(word)}`;
+    return { address: hex(address), instruction, ...where, presentationHint: "invalid" };
   }
 }

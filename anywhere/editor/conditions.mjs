@@ -1,4 +1,4 @@
-// Conditions of break points: `a0 == 3`, `sp < 0x3000`, joined by `&&`; and how often a break point is passed before it stops.
+// Conditions of break points: `a0 == 3`, `sp < 0x3000`, joined by `&&`; and how often one is passed before it stops.
 import { REGISTERS } from "../machine/registers.mjs";
 
 const TESTS = {

@@ -1,5 +1,5 @@
-// What a person asks for in a debug console, or by a pointer over a word: registers, labels, memory; keys that are typed, and
-// another place of the run.
+// What a person asks for in a debug console, or by a pointer over a word: registers, labels, memory; keys that are typed,
+// and another place of the run.
 import { hex, number } from "../machine/number_words.mjs";
 import { REGISTERS } from "../machine/registers.mjs";
 

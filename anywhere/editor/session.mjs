@@ -3,6 +3,7 @@
 import { seek } from "../machine/backward_search.mjs";
 import { call_name } from "../machine/calls.mjs";
 import { fault_in_words } from "../machine/end_reports.mjs";
+import { boot_words } from "../machine/file_refusals.mjs";
 import { line_step } from "../machine/line_steps.mjs";
 import { Machine } from "../machine/machine.mjs";
 import { Player } from "../machine/player.mjs";
@@ -44,7 +45,7 @@ export class Session {
     this.is_live = clock === "live" || (clock === null && keys === null);
     const how = { rounds: !this.is_live, quantum }, { files } = this.programs;
     const refusal = this.player.boot({ config: { frames, trace: 0 }, files, how, keys: [...Buffer.from(keys ?? "")] });
-    if (refusal !== null) throw new Error(`the machine isn't booted: ${refusal}`);
+    if (refusal !== null) throw new Error(boot_words(refusal, { frames }));
     this.shown = 0;
     this.passed = -1;
     this.player.breaks.list = this.breaks;
@@ -144,8 +145,8 @@ export class Session {
   is_still() {
     const { machine, run, player: { plan } } = this;
     if (run.is_past || !plan.is_idle || plan.keys.length || machine.has_output()) return false;
-    const sleeps = ({ asleep, call }) => asleep && call_name(call?.number) === "sleep";
-    return !machine.pids().some((pid) => sleeps(machine.process(pid)));
+    const goes_on = ({ lives, asleep, call }) => lives && (!asleep || call_name(call?.number) === "sleep");
+    return !machine.pids().some((pid) => goes_on(machine.process(pid)));
   }
 
   /** The next fault that the record has already; not the one before which the machine stood when it went on. */

@@ -29,6 +29,12 @@ const DOINGS = {
   "--debug": debug,
 };
 
+/** Serves an editor: the adapter takes no words, since the editor sends them. */
+function serve_editor(words) {
+  if (words.length > 1) return tell(said("no-value", "--dap"));
+  return import("../editor/main.mjs").then((adapter) => adapter.main("xv"));
+}
+
 /** What xv answers itself, and its status; nothing if the words are for a program. */
 function answered(first) {
   switch (first) {
@@ -76,6 +82,7 @@ function kind_of(parts) {
 /** Does what the words of this process ask for, and gives the exit status. */
 export function main() {
   const words = as_taken(own_words());
+  if (String(words[0]) === "--dap") return serve_editor(words);
   const own = answered(words[0] === undefined ? undefined : String(words[0]));
   if (own !== undefined) return own;
   const all = parts_of(words), is_mode = ({ kind, word }) => kind === "option" && MODES.includes(String(word));

@@ -32,6 +32,12 @@ export class Client {
     });
   }
 
+  /** Waits until the console has shown so much that a text is in it, which then counts as read. */
+  async until_output(text) {
+    while (!this.output.includes(text)) await this.until(`the output ${text}`, (it) => it.event === "output");
+    this.output = this.output.slice(this.output.indexOf(text) + text.length);
+  }
+
   /** The next event of this name, that was heard already or will be. */
   event(name) {
     const k = this.heard.findIndex((it) => it.event === name);
