@@ -6,6 +6,18 @@ const HEAD = 64, SYMBOL = 24; // bytes of an ELF file's header and of a section'
 
 export const is_table = (text) => /^(function|label) \d+ \d+ \S+\n/.test(text ?? "");
 
+/** The forms of the rows: a function or a label, a file, a line, how a function's calls lie on the stack. */
+const FORMS = [
+  /^(?:function|label) \d{1,20} \d{1,15} \S+$/, /^file .+$/, /^\d{1,20} \d{1,9}$/,
+  /^frame \d{1,20} (?:sp|s0|-) \d{1,20} \d{1,20} \d{1,20}$/,
+];
+
+/** Puts a list into the order of its addresses, if it isn't in it. */
+function in_order(list) {
+  const is_before = (it, k) => k > 0 && it.address < list[k - 1].address;
+  if (list.some(is_before)) list.sort((a, b) => (a.address < b.address ? -1 : a.address > b.address ? 1 : 0));
+}
+
 const name_in = (kind, [address, size, name]) => (
   { name, address: BigInt(address), size: Number(size), is_label: kind === "label" }
 );
@@ -19,20 +31,22 @@ const line_in = (address, number, file) => (
 );
 
 /**
- * What a table tells: {names, lines, frames}, each in the order of addresses. `line`: as `sh.c:12`, or nothing if none
- * is known.
+ * What a table tells: {names, lines, frames, wrong}, in the order of addresses. `line`: as `sh.c:12`, or nothing if none
+ * is known. `wrong`: the numbers of the rows that are none of a table, which are passed over.
  */
 export function read_table(text) {
-  const names = [], lines = [], frames = [];
+  const names = [], lines = [], frames = [], wrong = [];
   let file = "";
-  for (const row of text.split("\n")) {
-    const [kind, ...words] = row.split(" ");
-    if (kind === "function" || kind === "label") names.push(name_in(kind, words));
+  text.split("\n").forEach((row, k) => {
+    const [kind, ...words] = row.split(" "), form = FORMS.find((it) => it.test(row));
+    if (row !== "" && !form) wrong.push(k + 1);
+    else if (kind === "function" || kind === "label") names.push(name_in(kind, words));
     else if (kind === "file") file = row.slice(5);
     else if (kind === "frame") frames.push(frame_in(words));
     else if (words.length === 1) lines.push(line_in(kind, words[0], file));
-  }
-  return { names, lines, frames };
+  });
+  for (const all of [names, lines, frames]) in_order(all);
+  return { names, lines, frames, wrong };
 }
 
 /** The rows `ADDRESS LINE` of the lines, as `xv_report` reads them. */

@@ -31,7 +31,7 @@ EXPORT = re.compile(r"^export (?=(?:async )?(?:function|const|class|let) ([\w$]+
 
 def joined(first):
     """The module of page/src of this name, after those that it imports, of that folder or of anywhere/machine."""
-    done, made = {}, []
+    done, made, exports = {}, [], {}
 
     def add(path):
         """Adds a module, unless it is there already, and tells the name that it has here."""
@@ -43,9 +43,12 @@ def joined(first):
         for found in IMPORT.finditer(code):
             other = add(os.path.normpath(os.path.join(os.path.dirname(path), found["path"])))
             wanted = [it.strip().replace(" as ", ": ") for it in (found["names"] or "").split(",") if it.strip()]
+            missing = {it.split(":")[0] for it in wanted} - exports[other]
+            assert not missing, f"{path}: {found['path']} has no {', '.join(sorted(missing))}"
             names += f"const {found['all']} = {other};\n" if found["all"] else f"const {{ {', '.join(wanted)} }} = {other};\n"
         body = EXPORT.sub("", IMPORT.sub("", code))
         assert not re.search(r"^(import|export)\b", body, re.M), f"{path}: a form of import or export that isn't known here"
+        exports[name] = set(EXPORT.findall(code))
         made.append(f"const {name} = (() => {{\n{names}{body}\nreturn {{ {', '.join(EXPORT.findall(code))} }};\n}})();\n")
         return name
 

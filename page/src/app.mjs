@@ -22,12 +22,31 @@ export const app = {
 };
 
 const listeners = new Map();
+let part = ""; // the part of the page that is being started, or that hears: what it listens to then is its own
+
+/** Starts a part of the page: if it fails to hear what is told later, that is its own failure, and the others hear it. */
+export function start_part(name, start) {
+  part = name;
+  start();
+  part = "";
+}
 export function on(what, call) {
   if (!listeners.has(what)) listeners.set(what, []);
+  call.part ??= part;
   listeners.get(what).push(call);
 }
+/** Tells those who want to hear of it, one by one. */
 export function tell(what, it) {
-  for (const call of listeners.get(what) || []) call(it);
+  for (const call of listeners.get(what) || []) {
+    try {
+      call(it);
+      if (call.has_failed) app.on_mended?.(call.part);
+      call.has_failed = false;
+    } catch (error) {
+      call.has_failed = true;
+      app.on_failed?.(call.part, what, error);
+    }
+  }
 }
 /** The first of these that is told, as {name, it}. */
 export function once(...names) {

@@ -2,7 +2,6 @@
 import { $, app, element, on, say } from "./app.mjs";
 import { keep, kept } from "./browser_storage.mjs";
 import { type } from "./terminal.mjs";
-import * as editor from "./editor.mjs";
 import * as programs from "./programs.mjs";
 import { is_slide } from "./place_links.mjs";
 

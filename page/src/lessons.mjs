@@ -214,8 +214,8 @@ export function kept_lesson() {
 
 /** Shows the lesson that was kept, and what was answered. */
 export function open_kept(it) {
-  for (const [name, given] of Object.entries(it?.answers ?? {})) answers.set(name, given);
-  chosen = LESSONS[it?.number] ?? null;
+  for (const [name, given] of it.answers) answers.set(name, given);
+  chosen = LESSONS[it.number] ?? null;
   draw();
 }
 
@@ -245,8 +245,8 @@ function draw() {
 /** The link within the page to a page of the manual, as pipes.md or machine.md#rounds. */
 const manual_link = (page) => `#manual=${page.replace(".md", "").replace("#", "&to=")}`;
 
-/** Whether a lesson has this number, from 1 on. */
-export const is_lesson = (number) => LESSONS[number - 1] !== undefined;
+/** How many questions each lesson has. */
+export const questions = () => LESSONS.map((it) => it.questions.length);
 
 /** Opens the lesson of a number, from 1 on, at one of its questions if that isn't 0. */
 export async function open_lesson(number, question = 0) {

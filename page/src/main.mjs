@@ -1,5 +1,5 @@
 // The page: begins the worker and the panels, and hands what the worker tells to them.
-import { $, app, ask, hush, on, set_theme, tell, base64 } from "./app.mjs";
+import { $, app, ask, base64, hush, on, set_theme, start_part, tell } from "./app.mjs";
 import { learn_calls } from "../../anywhere/machine/calls.mjs";
 import { ThinnedRecord } from "./thinned_record.mjs";
 import { LastNames } from "../../anywhere/machine/program_names.mjs";
@@ -15,17 +15,19 @@ import * as processes from "./processes.mjs";
 import * as instruction from "./instruction.mjs";
 import * as c_source from "./c_source.mjs";
 import * as pages from "./pages.mjs";
-import * as opened from "./descriptors.mjs";
+import * as descriptors from "./descriptors.mjs";
 import * as why from "./why.mjs";
 import * as lessons from "./lessons.mjs";
 import * as session from "./session.mjs";
 import * as happened from "./happened.mjs";
-import * as parts from "./missing_stretches.mjs";
+import * as messages from "./messages.mjs";
+import * as missing_stretches from "./missing_stretches.mjs";
 import * as translate from "./translate.mjs";
 import * as manual from "./manual.mjs";
 import * as slides from "./slides.mjs";
-import * as first from "./first_minute.mjs";
-import { is_embedded, short_place } from "./place_links.mjs";
+import * as first_minute from "./first_minute.mjs";
+import { problem } from "./messages.mjs";
+import { is_booted, is_embedded, short_place } from "./place_links.mjs";
 import { calls_in_words } from "../../anywhere/machine/event_words.mjs";
 
 const DATA = globalThis.PAGE_DATA;
@@ -87,7 +89,7 @@ function take_boot({ id, took }) {
 function heard({ data }) {
   if (data.view) take_view(data.view);
   else if (data.stretches) app.line.take(data.stretches);
-  else if (data.part) { if (parts.take(data.part)) redraw(); }
+  else if (data.part) { if (missing_stretches.take(data.part)) redraw(); }
   else if (data.booted) take_boot(data.booted);
   else if (data.refused) programs.refused(data.refused);
   else if (data.replayed) tell("replayed", data.replayed);
@@ -103,8 +105,16 @@ function heard({ data }) {
   else if (data.finished) requestAnimationFrame(() => requestAnimationFrame(() => tell("finished")));
   else if (data.bench) tell("bench", data.bench);
   else if (data.back_bench) tell("back_bench", data.back_bench);
-  else if (data.error) { programs.refuse(data.message); console.error(data.error); }
+  else if (data.error) worker_failed(data);
   else if (data.ready) { learn_calls(data.ready); tell("ready"); }
+}
+
+/** The worker has failed at something: whoever waits for a machine hears of it too. */
+function worker_failed({ message, error }) {
+  programs.refuse(message);
+  problem(`The machine's worker has failed: ${message}`);
+  console.error(error);
+  tell("refused", message);
 }
 
 /** Shows a tab, and says to the worker which panels want to be told. */
@@ -161,6 +171,30 @@ function keep_clear() {
   new ResizeObserver(() => { root.style.scrollPaddingTop = getComputedStyle(bar).position === "sticky" ? `${bar.offsetHeight + 6}px` : "6px"; }).observe(bar);
 }
 
+/** The ways to the first machine, in their order: where the address leads, what was here last time, the shell. */
+const WAYS = [
+  () => sharing.follow(location.hash, "Here is what you had, or the shell, in its place."),
+  () => !is_embedded() && session.restore(),
+  () => { programs.choose("shell"); return is_booted(() => programs.boot()); },
+  () => { programs.set_files(works.shipped_files("shell"), {}, "shell, as it was shipped"); return programs.boot(); },
+];
+
+/** Boots the first machine, by the first way that leads to one. */
+async function first_machine() {
+  look();
+  for (const way of WAYS) {
+    try { if (await way()) break; } catch (error) { problem(`Something has gone wrong: ${error.message}`); }
+  }
+  await sharing.first_is_there();
+  const is_narrow = matchMedia("(max-width: 820px)").matches;
+  if (!is_narrow && !is_embedded() && document.activeElement === document.body) $("screen").focus({ preventScroll: true });
+}
+
+const PARTS = {
+  messages, terminal, editor, works, time, breaks, processes, instruction, c_source, pages, descriptors, why, programs,
+  sharing, lessons, session, happened, missing_stretches, translate, manual, slides, first_minute,
+};
+
 function begin() {
   const began = performance.now();
   theme();
@@ -168,14 +202,10 @@ function begin() {
   app.worker = new Worker(URL.createObjectURL(new Blob([DATA.worker], { type: "text/javascript" })));
   app.worker.onmessage = heard;
   app.worker.onerror = (event) => { programs.refuse(event.message); console.error(event.message); };
-  for (const part of [terminal, editor, works, time, breaks, processes, instruction, c_source, pages, opened, why, programs, sharing, lessons, session, happened, parts, translate, manual, slides, first]) part.start();
+  for (const [name, part] of Object.entries(PARTS)) start_part(name, part.start);
   tabs();
   keep_clear();
-  on("ready", async () => {
-    look();
-    if (!(await sharing.follow(location.hash, "Here is what you had, or the shell, in its place.")) && (is_embedded() || !(await session.restore()))) { programs.choose("shell"); await programs.boot(); }
-    if (!matchMedia("(max-width: 820px)").matches && !is_embedded() && document.activeElement === document.body) $("screen").focus({ preventScroll: true });
-  });
+  on("ready", first_machine);
   addEventListener("hashchange", () => {
     for (const it of ["dialog", "manual"]) if ($(it).open && location.hash) $(it).close();
     sharing.follow(location.hash, "The programs stay as they are.");
@@ -185,6 +215,6 @@ function begin() {
   on("resized", redraw);
   ask("module", { bytes: base64.of(DATA.wasm) });
   on("view", () => { if (!globalThis.ready) { globalThis.ready = true; globalThis.took = { page: began, boot: app.booted?.took, shown: performance.now() }; } });
-  globalThis.page = { app, ask, on, time, programs, sharing, works, drawn: () => drawn, short_place, calls_in_words, manual: manual.pages };
+  globalThis.page = { app, ask, problems: messages.problems, on, time, programs, sharing, works, drawn: () => drawn, short_place, calls_in_words, manual: manual.pages };
 }
 begin();

@@ -1,5 +1,6 @@
 // The manual inside the page: its pages as HTML (build/manual.py makes them), the help of a panel, and links that lead to both.
 import { $, app, element, on } from "./app.mjs";
+import { words_of } from "./outside.mjs";
 import { unpacked } from "./packed_texts.mjs";
 
 const DATA = globalThis.PAGE_DATA;
@@ -28,7 +29,7 @@ function list_pages() {
 /** Shows a page of the manual, at a heading. */
 export function open_manual(name, heading = "") {
   list_pages();
-  const page = pages()[name] ? name : "README", body = $("manual-body");
+  const page = Object.hasOwn(pages(), name) ? name : "README", body = $("manual-body");
   if (shown && (shown.name !== page || $("manual").open)) seen.push({ ...shown, top: body.scrollTop });
   show({ name: page, heading });
 }
@@ -52,10 +53,10 @@ function open_help(heading) {
   if (!$("dialog").open) $("dialog").showModal();
 }
 
-/** What a link to the manual names: {page, to}; null if it is none. */
-export function manual_place(hash) {
-  const words = new URLSearchParams(hash.replace(/^#/, ""));
-  return words.has("manual") ? { page: words.get("manual"), to: words.get("to") ?? "" } : null;
+/** What a link within the page to the manual names: {page, to}. */
+function manual_place(hash) {
+  const words = words_of(hash);
+  return { page: words.get("manual"), to: words.get("to") ?? "" };
 }
 
 export function start() {

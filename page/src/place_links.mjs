@@ -1,10 +1,15 @@
 // A link to a place: what it names behind its #, the way there, and the link that leads to what is shown now. A place is an example, a
 // lesson or a run, an event of it, a process and a panel; `?embed` and `view=lecture` say how it is shown.
-import { $, app, ask, once, say } from "./app.mjs";
+import { $, app, ask, once } from "./app.mjs";
+import { grouped } from "../../anywhere/machine/number_words.mjs";
+import { CALL, WHAT } from "../../anywhere/machine/event_search.mjs";
+import { problem } from "./messages.mjs";
+import { pages } from "./manual.mjs";
+import { link_of } from "./outside.mjs";
 import { all_calls } from "../../anywhere/machine/calls.mjs";
 import { way_of } from "../../anywhere/machine/named_place.mjs";
 import { keys_in } from "../../anywhere/machine/events.mjs";
-import { machine_of, shipped_files } from "./works.mjs";
+import { example_of, machine_of, shipped_files } from "./works.mjs";
 import { events_shown, show_events } from "./happened.mjs";
 import { translate } from "./translate.mjs";
 import * as programs from "./programs.mjs";
@@ -14,9 +19,6 @@ const DATA = globalThis.PAGE_DATA;
 export const PANELS = ["instruction", "pages", "translate", "opened", "happened", "why"]; // those that a link may name
 const TABS = [...PANELS, "programs", "lessons"];
 
-/** What an address has behind its #, by names: example=hello&at=12. */
-export const words_of = (hash) => Object.fromEntries(new URLSearchParams(hash.replace(/^#/, "")));
-
 export const is_embedded = () => new URLSearchParams(location.search).has("embed");
 export const is_lecture = () => document.documentElement.dataset.view === "lecture";
 /** Whether the page is one slide, and no place of work: then nothing of it is kept. */
@@ -24,15 +26,31 @@ export const is_slide = () => is_embedded() || is_lecture();
 
 // ---- the way there
 
-/** The machine's settings that a link names, over those of the example; a place in a run is one in rounds, which are the same each time. */
+const is_shown = (kind) => Object.hasOwn(WHAT, kind) || all_calls().some((it) => kind === CALL + it);
+
+/** What there is that a link may name. */
+const known = () => ({
+  examples: Object.keys(DATA.examples), questions: lessons.questions(), tabs: TABS, is_shown,
+  is_place: (word) => way_of(word, all_calls()) !== null, pages: () => Object.keys(pages()),
+});
+
+/** What a link says, of which what is wrong is told: its words. */
+export function read_link(hash) {
+  const { words, wrong } = link_of(hash, known());
+  for (const it of wrong) problem(it);
+  return words;
+}
+
+/** The machine's settings that a link names, over those of the example; a place is one in rounds, the same each time. */
 function how_of(example, { frames, rounds, keys, at }) {
-  const how = { ...DATA.examples[example] }, typed = keys === undefined ? how.keys : new TextDecoder().decode(programs.keys_of(keys));
+  const how = { ...example_of(example) };
+  const typed = keys === undefined ? how.keys : new TextDecoder().decode(programs.keys_of(keys));
   const given = { frames: Number(frames) || how.frames, quantum: Number(rounds) || how.quantum, keys: typed };
   return { ...how, ...given, rounds: how.rounds || rounds !== undefined || at !== undefined };
 }
 
 /** Boots the example that a link names: as it was left, if it is all that is named, else as it was shipped. */
-async function boot_example(words) {
+function boot_example(words) {
   const { example, at } = words, is_plain = ["at", "frames", "rounds", "keys"].every((it) => words[it] === undefined);
   if (is_plain) programs.choose(example);
   else programs.set_files(shipped_files(example), how_of(example, words), `${example}, as a link has it`);
@@ -40,7 +58,7 @@ async function boot_example(words) {
 }
 
 /** Does what boots a machine; false if it is refused. */
-async function is_booted(action) {
+export async function is_booted(action) {
   const heard = once("booted", "refused");
   await action();
   return (await heard).name === "booted";
@@ -48,24 +66,27 @@ async function is_booted(action) {
 
 /** Goes to the event that a link names. */
 async function go_to(at) {
-  const to = way_of(at, all_calls());
-  if (!to) { say(`The link names no place: at=${at}. It may be an event's number, or as fork, fork.2, fault, end, turn.3, asleep, last`); return; }
   const reached = once("reached", "booted");
-  ask("reach", { to });
+  ask("reach", { to: way_of(at, all_calls()) });
   const { name, it } = await reached;
-  if (name === "reached" && !it.is) say(`The run has no such place as at=${at}: here it ends.`);
+  if (name === "reached" && !it.is) problem(`The run has no such place as at=${at}: here it ends.`);
 }
 
 /** Shows the process and the panel that a link names. */
 function show({ pid, tab, address, access, show: events }) {
-  if (pid !== undefined) {
-    app.chosen = Number(pid) || 0;
-    $("follow").checked = !app.chosen;
-    ask("look", { pid: app.chosen || 1, follow: !app.chosen });
-  }
-  if (address !== undefined) translate(address, ["fetch", "load", "store"].includes(access) ? access : "load");
+  if (pid !== undefined) look_at(Number(pid));
+  if (address !== undefined) translate(address, access ?? "load");
   if (events !== undefined) show_events(events);
-  if (TABS.includes(tab)) globalThis.show_tab(tab);
+  if (tab !== undefined) globalThis.show_tab(tab);
+}
+
+/** Looks at a process, if the run has one of this number up to here. */
+function look_at(pid) {
+  const { lives } = app.line, is_there = pid <= lives.most && lives.from[pid] <= app.view.at;
+  if (!is_there) { problem(`The run has no process ${pid} up to this place: event ${grouped(app.view.at)}.`); return; }
+  app.chosen = pid;
+  $("follow").checked = false;
+  ask("look", { pid, follow: false });
 }
 
 /** How the page is shown: as it is, or as a slide with large letters. */
@@ -75,23 +96,21 @@ export function set_view(name) {
   $("lecture").hidden = name !== "lecture";
 }
 
-/** Follows a link to an example or a lesson; false if it names neither. */
+/** Follows a link to an example or a lesson; false if its machine is refused. */
 export async function follow_place(words) {
-  const { example, lesson, question, at } = words;
-  if (example !== undefined && !DATA.examples[example]) { say(`The link names an example that isn't here: ${example}`); return false; }
-  if (lesson !== undefined && !lessons.is_lesson(Number(lesson))) { say(`The link names a lesson that isn't here: ${lesson}`); return false; }
-  if (example === undefined && lesson === undefined) return false;
+  const { lesson, question } = words;
   document.documentElement.dataset.place = "coming";
-  if (lesson !== undefined) await is_booted(() => lessons.open_lesson(Number(lesson), Number(question) || 0));
-  else await boot_example(words);
-  await arrive(words);
-  return true;
+  const open = () => lessons.open_lesson(Number(lesson), Number(question) || 0);
+  const is_there = await (lesson === undefined ? boot_example(words) : is_booted(open));
+  if (is_there) await arrive(words);
+  return is_there;
 }
 
 /** Goes to the event, the process and the panel of a link whose run is there. */
 export async function arrive(words) {
   set_view(words.view);
   if (words.at !== undefined) await go_to(words.at);
+  if (!app.view) await once("view");
   show(words);
   document.documentElement.dataset.place = "there";
 }
@@ -119,7 +138,7 @@ export function short_place() {
   const is_shipped = work.files.length === shipped.length && shipped.every((it, k) => is_same(it, work.files[k])) && booted.files.every((it) => it.text === undefined || it.text === it.from.text);
   const keys = programs.keys_of(machine.keys), is_typed = keys_in(app.events.all()).some((it, k) => it !== keys[k]);
   if (!is_shipped || is_typed || booted.config.frames !== Number(machine.frames) || booted.how.quantum !== Number(machine.quantum)) return null;
-  const words = new URLSearchParams({ example: name }), usual = machine_of({ ...DATA.examples[name], rounds: true });
+  const words = new URLSearchParams({ example: name }), usual = machine_of({ ...example_of(name), rounds: true });
   if (Number(machine.frames) !== Number(usual.frames)) words.set("frames", machine.frames);
   if (Number(machine.quantum) !== Number(usual.quantum)) words.set("rounds", machine.quantum);
   if (machine.keys !== usual.keys) words.set("keys", machine.keys);

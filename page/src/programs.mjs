@@ -5,8 +5,9 @@ import { is_table } from "../../anywhere/machine/line_tables.mjs";
 import { shipped_source, shipped_table } from "./shipped_sources.mjs";
 import { is_elf, is_source } from "../../anywhere/machine/file_kinds.mjs";
 import { MOST_BYTES, boot_words, files_refused, too_large } from "../../anywhere/machine/file_refusals.mjs";
-import { add, bring_back, bytes_of_file, forget_work, is_changed, own_names, put, put_away, ship_anew, title_of, touch, work_of } from "./works.mjs";
+import { add, bring_back, bytes_of_file, example_of, forget_work, is_changed, own_names, put, put_away, ship_anew, title_of, touch, work_of } from "./works.mjs";
 import { counting } from "./breaks.mjs";
+import { problem } from "./messages.mjs";
 import * as editor from "./editor.mjs";
 
 const DATA = globalThis.PAGE_DATA;
@@ -119,18 +120,24 @@ export function open_work(name, fresh, shown) {
 /** Opens an example as it was left, or another work that was kept. */
 export const choose = (name) => open_work(name);
 
+/** Opens a work again that was open before. */
+export function open_again(work) {
+  app.work = work;
+  show_work();
+}
+
 /** Opens files that are no example, as a work of their own. */
 export function set_files(files, how = {}, name = "own") {
   app.work = put(name, { files, how });
   show_work();
 }
 
-const words_of_example = (name) => (DATA.examples[name].title ? `${name}: ${DATA.examples[name].title}` : name);
+const words_of_example = (name) => (example_of(name).title ? `${name}: ${example_of(name).title}` : name);
 
 /** Lists the examples, those that were changed with a star, and the works of lessons and links. */
 function show_works() {
   const chosen = $("example"), own = own_names(), { name } = app.work;
-  if (!DATA.examples[name] && !own.includes(name)) own.push(name);
+  if (!example_of(name) && !own.includes(name)) own.push(name);
   const option = (it, words) => element("option", { value: it }, words + (is_changed(it) ? " *" : ""));
   chosen.replaceChildren(...Object.keys(DATA.examples).map((it) => option(it, words_of_example(it))), ...(own.length ? [element("optgroup", { label: "lessons, links, your own" }, ...own.map((it) => option(it, title_of(it))))] : []));
   chosen.value = name;
@@ -223,6 +230,15 @@ export function meant({ frames, order, quantum, keys }) {
   return { config: { frames: Number(frames) || 0, trace: 0 }, how: { rounds: order === "rounds", quantum: Math.max(1, Number(quantum) || 1000) }, keys: [...keys_of(keys)] };
 }
 
+/** Says which rows of the table of a program's lines, that was dropped, are none. */
+function tell_wrong_rows({ from, symbols }) {
+  if (from.built_in || !text_named(`${from.name}.lines`)) return;
+  const { wrong } = symbols.table;
+  if (!wrong.length) return;
+  const rows = wrong.length === 1 ? `row ${wrong[0]} is` : `${wrong.length} rows, the first of them ${wrong[0]}, are`;
+  problem(`${from.name}.lines: ${rows} none of a table of lines, and passed over.`);
+}
+
 /** The files of the machine, of those of the list; null if one is refused, which is told. */
 export async function made_of_all(list) {
   const files = await Promise.all(list.filter((it) => !stands_beside(it)).map(made_of)), wrong = files.find((it) => it.mistake);
@@ -232,6 +248,7 @@ export async function made_of_all(list) {
     refuse(`${wrong.from.name}, ${wrong.mistake}`);
     return null;
   }
+  for (const it of files) tell_wrong_rows(it);
   const told = name_first(files), words = files_refused(files);
   if (words) { refuse(`boot: ${words}`); return null; }
   if (told) say(told);
@@ -275,17 +292,24 @@ async function taker_of(it) {
 export async function take(list) {
   const taken = [], refusals = [];
   for (const it of list) {
-    const taker = await taker_of(it), most = taker ? MOST_BYTES_OF_RECORD : MOST_BYTES;
-    if (it.size > most) { refusals.push(too_large(it.name, it.size)); continue; }
-    const bytes = new Uint8Array(await it.arrayBuffer());
-    if (taker) { await taker(new TextDecoder().decode(bytes)); tell("taken"); return; }
-    const file = { ...file_of(it.name, bytes), changed: true };
-    add(file);
-    taken.push(file);
+    try {
+      const taker = await taker_of(it), most = taker ? MOST_BYTES_OF_RECORD : MOST_BYTES;
+      if (it.size > most) { refusals.push(too_large(it.name, it.size)); continue; }
+      const bytes = new Uint8Array(await it.arrayBuffer());
+      if (taker) { await taker(new TextDecoder().decode(bytes), it.name); tell("taken"); return; }
+      const file = { ...file_of(it.name, bytes), changed: true };
+      add(file);
+      taken.push(file);
+    } catch (error) {
+      refusals.push(`${it.name} can't be read (${error.message})`);
+    }
   }
   if (taken.length) { editor.open(taken.at(-1)); show_files(); tell("taken"); }
   const words = taken.length ? `${taken.length} file${taken.length > 1 ? "s" : ""} taken. Boot runs the machine with ${taken.length > 1 ? "them" : "it"}.` : "";
-  if (refusals.length) refuse([`Not taken: ${refusals.join("; ")}.`, words].join(" ").trim()); else say(words);
+  if (refusals.length) {
+    problem(`Not taken: ${refusals.join("; ")}.`);
+    refuse([`Not taken: ${refusals.join("; ")}.`, words].join(" ").trim());
+  } else say(words);
 }
 
 export function start() {

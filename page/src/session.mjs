@@ -9,7 +9,9 @@ import { play_again, run_now } from "./sharing.mjs";
 import * as editor from "./editor.mjs";
 import * as lessons from "./lessons.mjs";
 import * as programs from "./programs.mjs";
-import { is_slide } from "./place_links.mjs";
+import { is_booted, is_slide } from "./place_links.mjs";
+import { problem } from "./messages.mjs";
+import { shown_of } from "./outside.mjs";
 
 const SETTLE = 1000; // ms after a change, until it is kept
 const TABS = ["tab-programs", "tab-lessons", "tab-instruction", "tab-pages", "tab-translate", "tab-opened", "tab-happened", "tab-why"];
@@ -41,26 +43,27 @@ function keep_soon() {
 }
 
 function show_tabs(tabs) {
-  for (const it of tabs ?? []) if (TABS.includes(it)) globalThis.show_tab(it.slice(4));
+  for (const it of tabs) if (TABS.includes(it)) globalThis.show_tab(it.slice(4));
 }
 
 /** Shows what was kept; false if there is nothing, or nothing that can be read. */
 export async function restore() {
   const told = kept_here("now") ?? kept("now");
-  try { return await restored(told); } catch {
-    say("What the browser kept of the last time can't be read. Your sources stand in the list of examples.");
+  if (told === null) return false;
+  try { return await restored(shown_of(told)); } catch (error) {
+    problem(`What the browser kept of the last time can't be read: ${error.message}. Your sources stand in the list of examples.`);
     return false;
   }
 }
 
 async function restored(told) {
-  if (!told || !programs.open_work(told.work, undefined, told.file)) return false;
+  if (!programs.open_work(told.work, undefined, told.file)) return false;
   if ([...$("speed").options].some((it) => it.value === told.speed)) { $("speed").value = told.speed; ask("settings", { speed: Number(told.speed) }); }
   show_tabs(told.tabs);
   lessons.open_kept(told.lesson);
   if (told.run && (await play_again(told.run))) say(`Here is what you had: event ${grouped(told.run.at)} of ${grouped(told.run.end)}.`);
   else {
-    await programs.boot();
+    if (!(await is_booted(() => programs.boot()))) return false;
     if (told.length > 0) say(told.run ? "Your sources are here. The run begins anew: this page is another one than that which made it." : `Your sources are here. The run begins anew: it was too long to be kept, with ${grouped(told.length)} events.`);
   }
   return true;

@@ -4,15 +4,16 @@ import { grouped } from "../../anywhere/machine/number_words.mjs";
 import { RECORD_BEGINNING, read_record, record_text } from "../../anywhere/machine/record_text.mjs";
 import { spans_of } from "../../anywhere/machine/events.mjs";
 import { bytes_of_file, packed_file, touch, unpacked_file, work_of } from "./works.mjs";
-import { arrive, follow_place, is_slide, seen_now, short_place, words_of } from "./place_links.mjs";
-import { manual_place, open_manual } from "./manual.mjs";
+import { problem } from "./messages.mjs";
+import { MOST_EVENTS, Refusal, shared_of, unpacked_value } from "./outside.mjs";
+import { arrive, follow_place, is_booted, is_slide, read_link, seen_now, short_place } from "./place_links.mjs";
+import { open_manual } from "./manual.mjs";
 import { listed_slides, note_slide } from "./slides.mjs";
 import * as programs from "./programs.mjs";
 
 const DATA = globalThis.PAGE_DATA;
 const BEGINNING = "nektavoly 1\n"; // of a file that has what a link has
 const MOST_LETTERS = 100000; // of a link that most programs still hand on
-const MOST_EVENTS = 500e6; // of a run that is kept or handed on: some seconds, to play it again
 const MOST_STRETCHES = 1000000;
 
 // ---- the run that the page has, as a value that can be kept
@@ -30,17 +31,19 @@ export function run_now(is_whole = false) {
 }
 
 /** The files of the list that a kept run names: {name, from} of each. */
-const files_of_run = (run) => run.files.map(({ name, place, file }) => ({ name, from: file === undefined ? app.files[place] : unpacked_file(file) }));
+const files_of_run = (run) => run.files.map(({ name, place, file }) => (
+  { name, from: file === undefined ? app.files[place] : unpacked_file(file) }
+));
 
 /** Plays a kept run again, on the files of the work that is open; false if it can't be played. */
 export async function play_again(run) {
-  const spans = spans_of(run.events), named = files_of_run(run);
-  if (!spans || run.built !== DATA.built || named.some((it) => !it.from)) return false;
+  const named = files_of_run(run);
+  if (run.built !== DATA.built || named.some((it) => !it.from)) return false;
   const files = await programs.made_of_all(named.map((it) => it.from));
   if (!files) return false;
   named.forEach((it, k) => { files[k].name = it.name; });
-  const replayed = once("replayed", "refused");
-  programs.begin("replay", { files, config: { frames: run.frames, trace: 0 }, how: run.how, spans, at: run.at, keys: run.keys, play: run.plays });
+  const replayed = once("replayed", "refused"), spans = spans_of(run.events), config = { frames: run.frames, trace: 0 };
+  programs.begin("replay", { files, config, how: run.how, spans, at: run.at, keys: run.keys, play: run.plays });
   return (await replayed).name === "replayed";
 }
 
@@ -53,10 +56,6 @@ async function pressed(bytes, stream) {
 async function packed(value) {
   const bytes = await pressed(new TextEncoder().encode(JSON.stringify(value)), new CompressionStream("deflate-raw"));
   return base64.to(bytes).replace(/\+/g, "-").replace(/\//g, "_").replace(/=+$/, "");
-}
-
-async function unpacked(text) {
-  return JSON.parse(new TextDecoder().decode(await pressed(base64.of(text.trim().replace(/-/g, "+").replace(/_/g, "/")), new DecompressionStream("deflate-raw"))));
 }
 
 /** What a link has: the sources, the names of the built-in programs, the machine, break points, and the run with its keys and its place. */
@@ -79,46 +78,84 @@ async function name_of(text) {
   return name;
 }
 
-/** Opens what a link or a file has, as a work of its own. */
-async function open(it, packed_text) {
-  const files = it.files.map(([name, text, bytes], k) => ({ ...(text !== undefined && text !== null ? { name, text } : bytes ? { name, bytes: base64.of(bytes) } : { name, bytes: base64.of(DATA.programs[name]), built_in: true }), stops: it.stops?.[k] ?? [] }));
-  programs.set_files(files, it, await name_of(packed_text));
-  app.work.breaks = it.breaks ?? [];
-  touch();
-  if (it.run && (await play_again({ ...it.run, plays: false }))) say(`Here is the run that was shared, at event ${grouped(it.run.at)} of ${grouped(it.run.end)}.`);
-  else {
-    await programs.boot();
-    if (it.run) say("The programs are there, and the run begins anew: this page is another one than that which made it.");
-  }
+/** The files of a work that are those of what was shared; it throws if the page hasn't a program of its own that is named. */
+function files_of_shared({ files }) {
+  const missing = files.find((it) => it.built_in && !unpacked_file(it));
+  if (missing) throw new Error(`it wants the program ${missing.name}, which this page hasn't`);
+  return files.map((it) => (it.built_in ? unpacked_file(it) : it));
 }
 
-/** Follows a link: true if the address has a whole one. If it is damaged, that is said, and what comes in its place. */
-export async function follow(hash, in_its_place) {
-  const manual = manual_place(hash), words = words_of(hash);
-  if (manual) {
-    forget_address();
-    open_manual(manual.page, manual.to);
-    return false;
-  }
-  if (await follow_place(words)) {
-    note_slide(hash);
-    tell("lecture");
-    // (A slide's address stays: a reload shows it again.)
-    if (!is_slide()) forget_address();
+/** Opens what a link or a file has, as a work of its own; false if no machine is booted of it. */
+async function open(packed_text) {
+  const it = shared_of(await unpacked_value(packed_text)), files = files_of_shared(it);
+  programs.set_files(files, it, await name_of(packed_text));
+  app.work.breaks = it.breaks;
+  touch();
+  if (it.run && (await play_again({ ...it.run, plays: false }))) {
+    say(`Here is the run that was shared, at event ${grouped(it.run.at)} of ${grouped(it.run.end)}.`);
     return true;
   }
-  if (words.run === undefined) return false;
-  let it;
-  try { it = await unpacked(words.run); } catch {
-    say(`The link is damaged: copy the whole of it once more. ${in_its_place}`);
+  const is_there = await is_booted(() => programs.boot());
+  if (it.run) problem("The programs are there, and the run begins anew: this page is another one than that which made it.");
+  return is_there;
+}
+
+/** Does what a link or a file leads to. If it leads nowhere, what was open before is open again, and that is said: false. */
+async function attempt(what, action, in_its_place) {
+  const before = app.work;
+  let why = "no machine is booted of it";
+  try {
+    if (await action()) return true;
+    if ($("mistake").className === "bad") why = $("mistake").textContent;
+  } catch (error) {
+    why = error instanceof Refusal || /^it /.test(error.message) ? error.message : "it isn't whole";
+  }
+  document.documentElement.dataset.place = "there";
+  if (app.work !== before && before.files.length) programs.open_again(before);
+  problem(`${what} leads nowhere: ${why}. ${in_its_place}`);
+  return false;
+}
+
+let for_first = null; // what a link says of a run that it doesn't name: of the first one, once it is there
+
+/** Shows what a link says of the run that is here. */
+async function show_here(words) {
+  forget_address();
+  if (app.booted) await arrive(words); else for_first = words;
+}
+
+/** The first machine is there: shows what the link says of it. */
+export async function first_is_there() {
+  if (for_first) await arrive(for_first);
+  for_first = null;
+}
+
+/** Follows a link: whether it has led to a machine. What is wrong with it is said, and what comes in its place. */
+export async function follow(hash, in_its_place) {
+  const words = read_link(hash), { run, manual, to, example, lesson } = words;
+  if (manual !== undefined) {
+    forget_address();
+    open_manual(manual, to);
     return false;
   }
-  await open(it, words.run);
-  await arrive(words);
-  note_slide(hash);
-  tell("lecture");
-  if (!is_slide()) forget_address();
-  return true;
+  if (run === undefined && example === undefined && lesson === undefined) {
+    if (Object.keys(words).length) await show_here(words);
+    return false;
+  }
+  const action = async () => {
+    if (run === undefined) return follow_place(words);
+    if (!(await open(run))) return false;
+    await arrive(words);
+    return true;
+  };
+  const is_there = await attempt("The link", action, in_its_place);
+  if (is_there) {
+    note_slide(hash);
+    tell("lecture");
+  }
+  // (A slide's address stays: a reload shows it again.)
+  if (!is_there || !is_slide()) forget_address();
+  return is_there;
 }
 
 /** The page keeps what a link led to, with what is changed of it: a reload is not to begin anew. */
@@ -126,10 +163,8 @@ function forget_address() {
   try { history.replaceState(null, "", location.href.split("#")[0]); } catch { /* the address stays as it is */ }
 }
 
-async function take_shared(text) {
-  let it;
-  try { it = await unpacked(text.slice(BEGINNING.length)); } catch { programs.refuse("The file is damaged: have it saved once more."); return; }
-  await open(it, text.slice(BEGINNING.length));
+async function take_shared(text, name) {
+  await attempt(`The file ${name}`, () => open(text.slice(BEGINNING.length)), "Have it saved once more.");
 }
 
 // ---- the dialog
@@ -191,13 +226,19 @@ async function files_by_sum() {
   return found;
 }
 
-async function play_record(text) {
-  let said;
-  try { said = read_record(text); } catch (error) { programs.refuse(error.message); return; }
-  const known = await files_by_sum(), missing = said.programs.find(({ sum }) => !known.has(sum));
-  if (missing) { programs.refuse(`the record wants another file ${missing.name}: add it first`); return; }
-  const files = said.programs.map(({ sum, name }) => ({ ...known.get(sum), name }));
-  programs.begin("replay", { files, config: { frames: said.frames, trace: 0 }, how: {}, spans: said.spans });
+/** Plays a record, of programs that are here. */
+async function play_record(text, name) {
+  try {
+    const said = read_record(text), known = await files_by_sum(), missing = said.programs.find(({ sum }) => !known.has(sum));
+    const count = said.spans.reduce((sum, [, , many]) => sum + many, 0);
+    if (count > MOST_EVENTS) throw new Error(`it has ${grouped(count)} events, and the page plays ${grouped(MOST_EVENTS)} at most: the terminal plays it`);
+    if (missing) throw new Error(`the record wants another file ${missing.name}: add it first`);
+    const files = said.programs.map((it) => ({ ...known.get(it.sum), name: it.name }));
+    programs.begin("replay", { files, config: { frames: said.frames, trace: 0 }, how: {}, spans: said.spans });
+  } catch (error) {
+    programs.refuse(error.message);
+    problem(`The record ${name} isn't played: ${error.message}.`);
+  }
 }
 
 export function start() {

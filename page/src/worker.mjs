@@ -286,8 +286,8 @@ function reach_on(way) {
   if (search !== way) return;
   if (!way.go(performance.now() + ASKED)) { view(); setTimeout(() => safely(() => reach_on(way))); return; }
   search = null;
-  postMessage({ reached: { is: way.is_there, at: run.at } });
   view();
+  postMessage({ reached: { is: way.is_there, at: run.at } });
 }
 
 // ---- messages

@@ -2,6 +2,8 @@
 // points. Once something of a work is changed, the browser keeps it under its name.
 import { app, base64, on, say, tell } from "./app.mjs";
 import { forget, keep, kept, names_kept, on_other_tab } from "./browser_storage.mjs";
+import { problem } from "./messages.mjs";
+import { entry, work_of_kept } from "./outside.mjs";
 
 const DATA = globalThis.PAGE_DATA;
 const MOST_GONE = 12; // files that were taken away, and may be brought back
@@ -20,13 +22,16 @@ export function packed_file(file) {
 /** The file of what was kept; null where the page has it no more. */
 export function unpacked_file(it) {
   if (!it.built_in) return { ...it };
-  const packed = DATA.programs[it.name];
-  return packed === undefined ? null : { name: it.name, bytes: base64.of(packed), built_in: true };
+  const packed = entry(DATA.programs, it.name);
+  return packed === null ? null : { ...it, bytes: base64.of(packed) };
 }
+
+/** An example of the page, by its name; null if there is none. */
+export const example_of = (name) => entry(DATA.examples, name);
 
 /** The files of an example as it was shipped. */
 export function shipped_files(example) {
-  const { files, programs = [] } = DATA.examples[example];
+  const { files, programs = [] } = example_of(example);
   return [...files.map((it) => ({ ...it })), ...programs.map((name) => ({ name, bytes: base64.of(DATA.programs[name]), built_in: true }))];
 }
 
@@ -36,10 +41,18 @@ export const machine_of = ({ frames, rounds, quantum, keys }) => ({ frames: fram
 
 // ---- opening
 
+/** The work that was kept under a name; null if there is none, or none that can be read, which is said. */
 function unpacked(name) {
   const it = kept(`work ${name}`);
-  if (!it || !Array.isArray(it.files)) return null;
-  return { ...it, name, files: it.files.map(unpacked_file).filter((file) => file), gone: (it.gone ?? []).map(unpacked_file).filter((file) => file), is_touched: true };
+  if (it === null) return null;
+  const there = (list) => list.map(unpacked_file).filter((file) => file);
+  try {
+    const work = work_of_kept(it), example = example_of(work.example) ? work.example : null;
+    return { ...work, name, example, files: there(work.files), gone: there(work.gone), is_touched: true };
+  } catch (error) {
+    problem(`What the browser kept of ${name} can't be read, and stands as it is: ${error.message}.`);
+    return null;
+  }
 }
 
 /** Makes a work, in place of what has its name. */
@@ -49,10 +62,10 @@ export function put(name, { title = name, files, how = {}, example = null, break
   return work;
 }
 
-const of_example = (name) => () => ({ title: name, files: shipped_files(name), how: DATA.examples[name], example: name });
+const of_example = (name) => () => ({ title: name, files: shipped_files(name), how: example_of(name), example: name });
 
 /** The work of this name: as it was left, or else as `fresh` makes it; null where there is none. */
-export function work_of(name, fresh = DATA.examples[name] ? of_example(name) : null) {
+export function work_of(name, fresh = example_of(name) ? of_example(name) : null) {
   const known = opened.get(name) ?? unpacked(name);
   if (!known) return fresh ? put(name, fresh()) : null;
   opened.set(name, known);
@@ -62,10 +75,13 @@ export function work_of(name, fresh = DATA.examples[name] ? of_example(name) : n
 /** The names of the works that are no examples. */
 export function own_names() {
   const names = new Set([...names_kept("work ").map((it) => it.slice(5)), ...[...opened.values()].filter((it) => it.is_touched).map((it) => it.name)]);
-  return [...names].filter((name) => !DATA.examples[name]).sort();
+  return [...names].filter((name) => !example_of(name)).sort();
 }
 export const is_changed = (name) => opened.get(name)?.is_touched ?? names_kept(`work ${name}`).includes(`work ${name}`);
-export const title_of = (name) => (opened.get(name) ?? kept(`work ${name}`))?.title ?? name;
+export function title_of(name) {
+  const title = (opened.get(name) ?? kept(`work ${name}`))?.title;
+  return typeof title === "string" ? title : name;
+}
 
 // ---- changes
 

@@ -16,6 +16,8 @@ const follow = async (page, link, query = "") => {
   await page.until("document.documentElement.dataset.place === 'there'", 20000).catch(() => {});
   await page.sleep(400);
 };
+/** Whether the list of messages has one with these words. */
+const problem = (page, words) => comes(page, `page.problems().some((it) => it.includes(${JSON.stringify(words)}))`);
 const at = (page) => page.eval("page.app.view?.at");
 const shown = (page) => page.eval("['instruction', 'pages', 'translate', 'opened', 'happened', 'why'].find((it) => !document.getElementById(it).hidden)");
 const events = (page) => page.eval("[...document.querySelectorAll('#event-list > *')].map((it) => it.textContent)");
@@ -60,12 +62,11 @@ async function links(page) {
   await follow(page, short);
   holds((await at(page)) === 1, "and it leads there");
   await follow(page, "example=fork&at=9999999");
-  holds((await message(page)).includes("no such place"), `a place that isn't there is told: ${await message(page)}`);
+  holds((await problem(page, "no such place")), "a place that isn't there is told");
   await follow(page, "example=fork&at=nonsense");
-  holds((await message(page)).includes("names no place"), "a place that means nothing is told");
+  holds((await problem(page, "at=nonsense, and that is not an event's number")), "a place that means nothing is told");
   await page.go(`${url}?n=${++opened}#example=nothing&at=3`);
-  await page.sleep(600);
-  holds((await message(page)).includes("isn't here") && (await comes(page, "document.getElementById('screen').textContent.length")), "an example that isn't there is told, and the page goes on");
+  holds((await problem(page, "example=nothing, and that is not the name of an example")) && (await comes(page, "document.getElementById('screen').textContent.length")), "an example that isn't there is told, and the page goes on");
   await follow(page, "lesson=3&question=2");
   holds((await text_of(page, "lessons")).includes("A pipe that hangs") && (await page.eval("document.activeElement === document.querySelectorAll('#lessons .ask')[1].querySelector('input')")), "a link to a question of a lesson");
   await page.go(`${url}?n=${++opened}#manual=page-tables&to=entries`);
