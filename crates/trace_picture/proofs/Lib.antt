@@ -1,5 +1,7 @@
+pub mod Drawn
 mod Phases
 mod Named
 mod Told
 mod WorkedNames
 mod WorkedRemarks
+mod WorkedShapes

@@ -1,2 +1,3 @@
-pub mod Row
 pub mod Remarks
+pub mod Row
+pub mod Shapes

@@ -12,6 +12,7 @@ mod note;
 mod picture;
 mod remark;
 mod row;
+mod shape;
 
 use crate::chart::Chart;
 use crate::line::{Told, lines_of};

@@ -1,9 +1,12 @@
 //! The picture of a chart, in SVG (Scalable Vector Graphics 1.1).
-use crate::chart::{Chart, Row, newborn};
+ghost use Rattle.std.specs.Prelude.{None};
+
+use crate::chart::Chart;
 use crate::label::{Letter, RowName, Text, names_room, wait_in, who_at};
 use crate::note::Note;
 use crate::remark::Remarks;
-use crate::row::{Phase, State};
+use crate::row::State;
+use crate::shape::{Canvas, Mark, Shape, draw_chart};
 use kernel_calls::KernelCall;
 use std::fmt::{self, Display};
 use std::io::{self, Write};
@@ -40,9 +43,6 @@ font-family=\"sans-serif\" font-size=\"11\">
 .call { fill: #10294f } .exit { fill: #4a4a4a } .fault { fill: #c0392b }
 </style>
 <rect";
-
-/// With more ticks than these they aren't drawn.
-const MOST_TICKS: usize = 300;
 
 // A length in hundredths of a pixel.
 #[derive(Clone, Copy)]
@@ -172,34 +172,14 @@ fn draw_legend<W: Write>(axis: Axis, output: &mut W) -> io::Result<()> {
     Ok(())
 }
 
-// How often the clock ticked.
-fn ticks(chart: &Chart) -> usize {
-    chart
-        .notes
-        .iter()
-        .filter(|note| matches!(note, Note::Tick))
-        .count()
-}
-
-// The ticks of the clock, as lines from the first row to the last.
-fn draw_ticks<W: Write>(chart: &Chart, axis: Axis, bottom: u64, output: &mut W) -> io::Result<()> {
-    if ticks(chart) > MOST_TICKS {
-        return Ok(());
-    }
-    for (event, note) in chart.notes.iter().enumerate() {
-        if matches!(note, Note::Tick) {
-            draw_line("tick", axis.across(event), TOP, bottom, output)?;
-        }
-    }
-    Ok(())
-}
-
-// What is drawn: a chart, what lines tell of its processes besides, and where its events stand.
-#[derive(Clone, Copy)]
-struct Picture<'a> {
-    chart: &'a Chart,
+// A picture that is written as it is drawn: what lines tell of its processes, where its events stand, and up to where its
+// rows go.
+#[derive(Drop)]
+struct Svg<'a, W> {
     remarks: &'a Remarks,
     axis: Axis,
+    bottom: u64,
+    output: &'a mut W,
 }
 
 // What a process waits for that sleeps: ` in read on descriptor 0`; nothing where it isn't told.
@@ -238,54 +218,69 @@ fn write_title<W: Write>(
     )
 }
 
-// A part of the bar of the row at this place, from the event `first` on; its text shows under the pointer.
-fn draw_phase<W: Write>(
-    picture: Picture<'_>,
-    pid: u32,
-    place: usize,
-    first: usize,
-    phase: &Phase,
-    output: &mut W,
-) -> io::Result<()> {
-    let behind = first.saturating_add(phase.events);
-    if phase.state == State::Absent || behind <= first {
-        return Ok(());
+impl<'a, W: Write> Svg<'a, W> {
+    // A part of the bar of the row at this place, from the event `first` on; its text shows under the pointer.
+    fn draw_bar(
+        &mut self,
+        row: usize,
+        pid: u32,
+        first: usize,
+        behind: usize,
+        state: State,
+    ) -> io::Result<()> {
+        let left = self.axis.across(first);
+        let width = Length(self.axis.across(behind).0.saturating_sub(left.0));
+        open_bar(word(state), left, row_top(row), width, self.output)?;
+        write_title(self.remarks, pid, first, behind, state, self.output)
     }
-    let left = picture.axis.across(first);
-    let width = Length(picture.axis.across(behind).0.saturating_sub(left.0));
-    open_bar(word(phase.state), left, row_top(place), width, output)?;
-    write_title(picture.remarks, pid, first, behind, phase.state, output)
+
+    // The name of a process, before its row.
+    fn draw_name(&mut self, row: usize, pid: u32) -> io::Result<()> {
+        let base = row_top(row).saturating_add(10);
+        let name = RowName(who_at(self.remarks, pid, self.axis.events));
+        draw_text(8, base, name, self.output)
+    }
+
+    // A line from a parent's bar to the bar of the child that it made.
+    fn draw_birth(&mut self, event: usize, parent: usize, child: usize) -> io::Result<()> {
+        let x = self.axis.across(event);
+        draw_line(
+            "birth",
+            x,
+            row_middle(parent),
+            row_middle(child),
+            self.output,
+        )
+    }
 }
 
-// The name and the bar of a process.
-fn draw_row<W: Write>(
-    picture: Picture<'_>,
-    row: &Row,
-    place: usize,
-    output: &mut W,
-) -> io::Result<()> {
-    let base = row_top(place).saturating_add(10);
-    let name = RowName(who_at(picture.remarks, row.pid, picture.axis.events));
-    draw_text(8, base, name, output)?;
-    let mut first: usize = 0;
-    for phase in &row.phases {
-        draw_phase(picture, row.pid, place, first, phase, output)?;
-        first = first.saturating_add(phase.events);
-    }
-    Ok(())
-}
+impl<'a, W: Write> Canvas for Svg<'a, W> {
+    ghost drawn = { λ _. None };
 
-// What a mark on a bar stands for.
-#[derive(Clone, Copy)]
-enum Mark {
-    // A call of this number that is done, with its answer.
-    Answered(i32, i64),
-    // A call of this number, in which the process sleeps.
-    Waits(i32),
-    // The process is gone, with this status.
-    Exit(i32),
-    // The process is gone, by a fault of this cause.
-    Fault(u32),
+    fn draw(&mut self, shape: Shape) -> io::Result<()> {
+        match shape {
+            Shape::Tick(event) => {
+                let x = self.axis.across(event);
+                draw_line("tick", x, TOP, self.bottom, self.output)
+            }
+            Shape::Name { row, pid } => self.draw_name(row, pid),
+            Shape::Bar {
+                row,
+                pid,
+                first,
+                behind,
+                state,
+            } => self.draw_bar(row, pid, first, behind, state),
+            Shape::Birth {
+                event,
+                parent,
+                child,
+            } => self.draw_birth(event, parent, child),
+            Shape::Mark { event, row, mark } => {
+                draw_mark(self.axis.across(event), row, mark, self.output)
+            }
+        }
+    }
 }
 
 impl Mark {
@@ -335,17 +330,6 @@ impl Display for Mark {
     }
 }
 
-// The mark of an event, and the process on whose bar it stands.
-fn mark_of(note: Note) -> Option<(u32, Mark)> {
-    match note {
-        Note::Call(pid, number, answer) => Some((pid, Mark::Answered(number, answer))),
-        Note::Block(pid, number) => Some((pid, Mark::Waits(number))),
-        Note::Exit(pid, status) => Some((pid, Mark::Exit(status))),
-        Note::Fault(pid, cause) => Some((pid, Mark::Fault(cause))),
-        _ => None,
-    }
-}
-
 // The word of a fault, with its cause, behind its mark.
 fn draw_fault<W: Write>(x: Length, place: usize, cause: u32, output: &mut W) -> io::Result<()> {
     let left = Length(x.0.saturating_add(BEHIND_MARK));
@@ -364,30 +348,6 @@ fn draw_mark<W: Write>(x: Length, place: usize, mark: Mark, output: &mut W) -> i
         Mark::Fault(cause) => draw_fault(x, place, cause, output),
         _ => Ok(()),
     }
-}
-
-// What stands on the bars for this event.
-fn draw_event<W: Write>(
-    chart: &Chart,
-    axis: Axis,
-    event: usize,
-    note: Note,
-    output: &mut W,
-) -> io::Result<()> {
-    let Some((pid, mark)) = mark_of(note) else {
-        return Ok(());
-    };
-    let Some(place) = chart.place_of(pid) else {
-        return Ok(());
-    };
-    let x = axis.across(event);
-    // a line from a parent's bar to the bar of the child that it made
-    if let Some(child) = newborn(note) {
-        if let Some(child) = chart.place_of(child) {
-            draw_line("birth", x, row_middle(place), row_middle(child), output)?;
-        }
-    }
-    draw_mark(x, place, mark, output)
 }
 
 // The letter that shows a byte of the console.
@@ -452,22 +412,6 @@ fn draw_numbers<W: Write>(axis: Axis, base: u64, output: &mut W) -> io::Result<(
     Ok(())
 }
 
-// The name and the bar of each process, from the first row on.
-fn draw_rows<W: Write>(picture: Picture<'_>, output: &mut W) -> io::Result<()> {
-    for (place, row) in picture.chart.rows.iter().enumerate() {
-        draw_row(picture, row, place, output)?;
-    }
-    Ok(())
-}
-
-// What stands on the bars, event by event.
-fn draw_events<W: Write>(chart: &Chart, axis: Axis, output: &mut W) -> io::Result<()> {
-    for (event, &note) in chart.notes.iter().enumerate() {
-        draw_event(chart, axis, event, note, output)?;
-    }
-    Ok(())
-}
-
 // What stands below the bars: the bytes that were sent and typed, and the numbers of events.
 fn draw_below<W: Write>(chart: &Chart, axis: Axis, bottom: u64, output: &mut W) -> io::Result<()> {
     draw_bytes("sent", chart, axis, bottom.saturating_add(16), output)?;
@@ -487,18 +431,17 @@ pub fn draw<W: Write>(chart: &Chart, remarks: &Remarks, output: &mut W) -> io::R
         left: names_room(chart, remarks),
         events: chart.notes.len(),
     };
-    let picture = Picture {
-        chart,
-        remarks,
-        axis,
-    };
     let bottom = row_top(chart.rows.len());
     let width = axis.left.saturating_add(WIDTH + RIGHT);
     draw_head(width, bottom.saturating_add(70), output)?;
     draw_legend(axis, output)?;
-    draw_ticks(chart, axis, bottom, output)?;
-    draw_rows(picture, output)?;
-    draw_events(chart, axis, output)?;
-    draw_below(chart, axis, bottom, output)?;
-    output.write_all(b"</svg>\n")
+    let mut svg = Svg {
+        remarks,
+        axis,
+        bottom,
+        output,
+    };
+    draw_chart(chart, &mut svg)?;
+    draw_below(chart, axis, bottom, svg.output)?;
+    svg.output.write_all(b"</svg>\n")
 }

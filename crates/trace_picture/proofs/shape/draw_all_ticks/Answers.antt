@@ -1,0 +1,6 @@
+use Rattle.trace_picture.specs.Shapes.{tick_at}
+use Rattle.trace_picture.proofs.Drawn.{item-left, more-drawn}
+use Rattle.trace_picture.proofs.shape.draw_all_ticks.Goals as goal
+
+pub loop-event-preserved : goal.loop-event-preserved
+loop-event-preserved g c = more-drawn _ _ _ _ _ _ _ c.loop-event.invariant (item-left tick_at c.args.notes.now c.loop-event.event _ c.loop-event-test.true) c.in_ok-draw_tick.ensures

@@ -1,0 +1,7 @@
+use Rattle.std.proofs.Common.{drop}
+use Rattle.trace_picture.specs.Shapes.{all_at, tick_at}
+use Rattle.trace_picture.proofs.Drawn.{IsDrawnUpTo}
+use Rattle.trace_picture.proofs.shape.draw_all_ticks.Given as goal
+
+abbrev pub invariant-loop-event : goal.invariant-loop-event
+invariant-loop-event g l = IsDrawnUpTo (g.C.Canvas.drawn l.fn.canvas) (g.C.Canvas.drawn l.canvas) (all_at tick_at l.event (drop l.event l.notes)) (all_at tick_at 0 l.notes)
