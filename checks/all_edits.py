@@ -1,13 +1,17 @@
 """Tries every edit of bodies over the libraries that a gate left; see all-edits.sh."""
+import re
 import subprocess
 import sys
 import time
 from concurrent.futures import ThreadPoolExecutor
 
 import base
+import edits
 import since
 
 TOP = base.TOP
+# The edits that the gate tries, a line each: CRATE/NAME.edit.
+GATE = TOP / "checks/wrong-bodies/gate.txt"
 
 
 class Row:
@@ -38,6 +42,46 @@ def try_crate(run, name):
     return row
 
 
+def try_for_gate(run, name, names):
+    """Tries these edits of a crate from nothing: a batch has the functions checked that it turns, and those that they call."""
+    row, begun, sources = Row(name), time.monotonic(), since.texts_of(run.here.files[name])
+    found, bad = since.all_edits(run, name)
+    wanted = [it for it in found if it.name in names]
+    row.count, row.missed = len(names), sorted(set(names) - {it.name for it in wanted})
+    for path, text in bad:
+        if f"{name}/{path.name}" in names:
+            since.say(f"{name}/{path.name}: {text}")
+    low = {it: run.stands[it] for it in run.here.below(name)}
+
+    def told(edit, is_refused, text):
+        since.say(f"{edit.name}: {text}")
+        row.refused += is_refused
+        row.form += "REFUSED FOR ITS FORM" in text
+        row.missed += [] if is_refused else [edit.name]
+
+    with base.room(name) as keeps:
+        def check(texts, batch):
+            turned = sorted({it.removeprefix(f"{name}::") for edit in batch for it in edit.functions})
+            only = [word for it in turned for word in ("--only", it)]
+            with base.room(name) as place:
+                base.write_files({**run.here.files[name], **{it: text.encode() for it, text in texts.items()}}, place)
+                status, said = run.check(name, run.here, low, keeps / "kept", place, flags=["--allow-holes", *only])
+                # a name that fits several functions: then all are checked
+                return said if status != 2 else run.check(name, run.here, low, keeps / "kept", place, flags=["--allow-holes"])[1]
+
+        edits.try_all(name, wanted, sources, check, told)
+    row.seconds = time.monotonic() - begun
+    return row
+
+
+def gate_names():
+    """The edits that the gate tries, by crates."""
+    found = {}
+    for crate in re.findall(r"^(\w+)/", GATE.read_text(encoding="utf-8"), re.M):
+        found[crate] = re.findall(rf"^({crate}/\S+)$", GATE.read_text(encoding="utf-8"), re.M)
+    return found
+
+
 def tell(rows):
     since.say("", f"{'crate':18} {'edits':>6} {'refused':>8} {'form':>5} {'not refused':>12} {'minutes':>8}", *(it.line() for it in rows))
 
@@ -49,7 +93,7 @@ def turned_definitions(names):
 
 
 def main(words):
-    options, names = since.read_words(words, ("--anew", "--definitions", "--help"))
+    options, names = since.read_words(words, ("--anew", "--definitions", "--gate", "--help"))
     if options["help"]:
         return since.tell_head("all-edits.sh")
     run = since.begin([], options)
@@ -57,10 +101,11 @@ def main(words):
     if lost:
         since.refuse(f"there is no crate {lost[0]}")
     run.stand_all()
-    crates = [it for it in run.here.ordered() if since.edit_paths(it) and (not names or it in names)]
+    of_gate = gate_names() if options["gate"] else {}
+    crates = [it for it in run.here.ordered() if since.edit_paths(it) and (not names or it in names) and (not of_gate or it in of_gate)]
     crates.sort(key=lambda it: -len(since.edit_paths(it)) * run.here.work(it))
     with ThreadPoolExecutor(max(1, run.slots.count)) as pool:
-        jobs = [pool.submit(try_crate, run, it) for it in crates]
+        jobs = [pool.submit(try_for_gate, run, it, of_gate[it]) if of_gate else pool.submit(try_crate, run, it) for it in crates]
         try:
             rows = [it.result() for it in jobs]
         except BaseException:

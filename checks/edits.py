@@ -110,12 +110,12 @@ def next_batch(waiting, sources):
 
 
 def try_all(crate, edits, sources, check, tell):
-    """Tries the edits in batches. `check` says what the prover says of the sources; `tell` is given each edit, whether it is
-    refused at what its function ensures, and what to say."""
+    """Tries the edits in batches. `check` says what the prover says of the sources with a batch in them; `tell` is given each
+    edit, whether it is refused at what its function ensures, and what to say."""
     waiting, alone = edits, []
     while waiting or alone:
         batch, texts = next_batch(waiting or alone[:1], sources)
-        said = check(texts)
+        said = check(texts, batch)
         for edit in batch:
             found = {it: open_goals(crate, it, texts, said) for it in sorted(edit.functions)}
             told = [f"{it.removeprefix(crate + '::')}: {', '.join(sorted(goals))}" for it, (_, goals) in found.items() if goals]

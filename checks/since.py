@@ -403,7 +403,7 @@ def try_edits(run, name, found, told=None):
             told[edit.name] = text
         say(f"{edit.name}: {text}")
 
-    def check(texts):
+    def check(texts, _):
         with base.room(name) as place:
             base.linked(kept.incremental, place / "kept")
             base.write_files({**run.here.files[name], **{it: text.encode() for it, text in texts.items()}}, place)
