@@ -528,8 +528,8 @@ def try_all_edits(run):
     """Tries the edits of what changed: how many are refused, the names of the others, how many were refused before, and how
     many are left."""
     refused, missed, before, left = 0, [], 0, 0
-    written = git("diff", "--name-only", run.options["revision"], "--", "crates/*/must-fail", "checks/wrong-bodies").split()
-    written += git("ls-files", "--others", "--exclude-standard", "crates/*/must-fail", "checks/wrong-bodies").split()
+    written = git("diff", "--name-only", run.options["revision"], "--", "*.edit").split()
+    written += git("ls-files", "--others", "--exclude-standard", "--", "*.edit").split()
     for name in run.here.ordered():
         found, bad = edits_to_try(run, name, written)
         left += len(edit_paths(name)) - len(found) - len(bad)
@@ -549,30 +549,36 @@ def try_all_edits(run):
     return refused, missed, before, left
 
 
+def turned_definitions(run):
+    """The crates with a changed file of specs/ for which there are turned definitions."""
+    def differs(name):
+        now, old = run.here.files[name], run.there.files.get(name, {})
+        return any(path.startswith("specs/") and now.get(path) != old.get(path) for path in {*now, *old})
+    return [it for it in run.differs if differs(it) and (TOP / "checks/wrong-bodies/definitions" / it).is_dir()]
+
+
+def over_new_code(run):
+    """The programs and static libraries that link code that changed, and the crates of tests that run it."""
+    reached = [it for it in run.here.crates if set(run.here.below(it)) & set(run.code)]
+    return [it for it in reached if not run.here.makes_library(it)], [it for it in reached if has_tests(run, it)]
+
+
 def tell_left(run, left_edits):
     """What this call took, and what it leaves to the gate."""
     kept = [it for it in run.taken if run.here.makes_library(it)]
     say(f"taken from before (incremental=trusted): the proofs of {len(run.taken)} crates, of {len(kept)} of them as libraries; of the crates proved here, what earlier checks kept")
-    left = ["every proof from nothing"]
-    if run.left:
-        left.append(f"crates above, whose libraries below read otherwise now: {' '.join(run.left)}")
-    if run.unknown:
-        left.append(f"crates of which there is no library, or none that fits: {' '.join(run.unknown)}")
-    if left_edits:
-        left.append(f"{left_edits} edits of functions that didn't change")
-    definitions = sorted(it for it in run.differs if any(path.startswith("specs/") and run.here.files[it].get(path) != run.there.files.get(it, {}).get(path)
-                                                         for path in {*run.here.files[it], *run.there.files.get(it, {})}))
-    turned = [it for it in definitions if (TOP / "checks/wrong-bodies/definitions" / it).is_dir()]
-    if turned and not run.options["definitions"]:
-        left.append(f"turned definitions (by hand: checks/wrong-bodies/run.sh --definitions {' '.join(turned)})")
-    if run.code:
-        above = [it for it in run.here.crates if not run.here.makes_library(it) and set(run.here.below(it)) & set(run.code)]
-        tests = [it for it in run.here.crates if has_tests(run, it) and set(run.here.below(it)) & set(run.code)]
-        if above:
-            left.append(f"programs that link the new code: {' '.join(above)}; what they print")
-        if tests:
-            left.append(f"tests over the new code: {' '.join(tests)} (without proofs: `rt try --test` there)")
-    say("left to the gate: " + "; ".join(left))
+    programs, tests = over_new_code(run)
+    turned = turned_definitions(run) if not run.options["definitions"] else []
+    left = {
+        "every proof from nothing": True,
+        "crates above, whose libraries below read otherwise now": run.left,
+        "crates of which there is no library, or none that fits": run.unknown,
+        f"{left_edits} edits of functions that didn't change": left_edits,
+        f"turned definitions (by hand: checks/wrong-bodies/run.sh --definitions {' '.join(turned)})": bool(turned),
+        "programs that link the new code, and what they print": programs,
+        "tests over the new code (without proofs: `rt try --test` there)": tests,
+    }
+    say("left to the gate: " + "; ".join(f"{it}: {' '.join(names)}" if isinstance(names, list) else it for it, names in left.items() if names))
     if subprocess.run([TOP / "programs/host/build.sh", "--is-current"], capture_output=True, check=False).returncode == 0:
         say("the programs are built of this state: checks/run.sh tries them, in a minute")
 
@@ -661,22 +667,24 @@ def go(run):
     say(f"since {run.options['shown']}: {len(run.differs)} of {len(run.here.crates)} crates differ{': ' if run.differs else ''}{' '.join(run.differs)}"
         + (f"; gone: {' '.join(gone)}" if gone else ""))
     run.lacking = make_what_lacks(run)
-    lost = []
+    lost, is_whole = [], not run.options["proofs"]
     quick = threading.Thread(target=do_quick, args=(run, lost))
-    if not run.options["proofs"]:
+    if is_whole:
         quick.start()
     run.do_all()
-    refused, missed, before, left = 0, [], 0, 0
-    if not (run.options["no-edits"] or run.options["proofs"]):
-        refused, missed, before, left = try_all_edits(run)
-    tests = [it for it in run.proved if has_tests(run, it)] if not (run.options["no-tests"] or run.options["proofs"]) else []
-    for name in tests:
-        if not run_tests(run, name):
-            lost.append(f"tests of {name}")
-    if not run.options["proofs"]:
+    refused, missed, before, left = try_all_edits(run) if is_whole and not run.options["no-edits"] else (0, [], 0, 0)
+    if run.options["definitions"] and turned_definitions(run):
+        words = [TOP / "checks/wrong-bodies/run.sh", "--definitions", *turned_definitions(run)]
+        lost += ["turned definitions"] if subprocess.run(words, check=False).returncode else []
+    tests = [it for it in run.proved if has_tests(run, it)] if is_whole and not run.options["no-tests"] else []
+    lost += [f"tests of {it}" for it in tests if not run_tests(run, it)]
+    if is_whole:
         quick.join()
     tell_left(run, left)
-    lost = [*run.failed, *missed, *lost]
+    return tell_verdict(run, [*run.failed, *missed, *lost], refused, before, tests)
+
+
+def tell_verdict(run, lost, refused, before, tests):
     if lost:
         say(f"failed: {' '.join(lost)}")
     done = [f"{len(run.proved)} crates proved", f"{refused} edits refused" + (f" ({before} of them before)" if before else "")]
