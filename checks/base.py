@@ -153,14 +153,30 @@ def is_of_kit(rlib):
     return re.search(line, text, re.M)[0] == re.search(line, std, re.M)[0]
 
 
+def open_part(text):
+    """What others can read of a file of lemmas beside the lemmas' statements: all but the proofs of those that can't be
+    unfolded, what they use, and comments."""
+    blocks = [it for it in re.split(r"\n(?=\S)", text) if it.strip() and not it.startswith("--")]
+    heads = [re.match(r"((?:(?:pub|abbrev|unfoldable|opaque) )*)([^\s:(){}]+)[^=]* : ", it) for it in blocks]
+    closed = {it[2] for it in heads if it and not re.search("abbrev|unfoldable", it[1])}
+    return "\n".join(it for it in blocks if it.split()[0] not in {*closed, "use", "unfolding"})
+
+
 def modules(rlib):
-    """The modules of a library that other crates can name, each with what a check over it goes by."""
-    held, found = (rlib / "toolchain/checked.a").read_bytes(), {}
+    """The modules of a library that other crates can name, each with what a check over it goes by: the checksums of what it
+    exports and of all that it holds; of a file of lemmas those of the statements, and what else can be unfolded."""
+    held, found, lemmas = (rlib / "toolchain/checked.a").read_bytes(), {}, rlib / "lang/antt/proofs"
     for line in (rlib / "toolchain/checked.json").read_text(encoding="utf-8").splitlines():
         name, at, size = json.loads(line)
-        if not PRIVATE.search(name):
-            head = held[at : at + min(size, 200_000)].partition(b"--@ head")[0]
-            found[name] = " ".join(it.decode() for it in re.findall(rb"^--@ (?:content|exports) (.*)$", head, re.M))
+        if PRIVATE.search(name):
+            continue
+        head = held[at : at + min(size, 200_000)].partition(b"--@ head")[0]
+        exports, content = (re.search(rb"^--@ %s (.*)$" % it, head, re.M) for it in (b"exports", b"content"))
+        file = lemmas / (name.partition("-proofs.")[2].replace(".", "/") + ".antt")
+        if exports and file.is_file():
+            found[name] = f"{exports[1].split()[0].decode()} {sum_of(open_part(file.read_text(encoding='utf-8')))}"
+        else:
+            found[name] = " ".join(it[1].decode() for it in (exports, content) if it)
     return found
 
 

@@ -21,6 +21,7 @@ TOP = base.TOP
 WHO = {"all_edits.py": "all-edits.sh", "try_edits.py": "wrong-bodies/run.sh"}.get(pathlib.Path(sys.argv[0]).name, "since.sh")
 BEGUN = time.monotonic()
 PRINTING = threading.Lock()
+FORM = 2  # of what is written down of a crate: raised when that changes
 
 
 def say(*lines):
@@ -84,7 +85,7 @@ class Slots:
 
 
 def kit_sum():
-    return base.sum_of((base.KIT / "KIT-ID").read_bytes(), (base.KIT / "rlibs/std.rlib/format").read_bytes())
+    return base.sum_of(FORM, (base.KIT / "KIT-ID").read_bytes(), (base.KIT / "rlibs/std.rlib/format").read_bytes())
 
 
 class Run:
@@ -98,7 +99,7 @@ class Run:
         self.kit, self.bases = kit_sum(), {}
         self.stands, self.idents, self.turned = {}, {}, {}  # of each library: where it is, its name, whether its face is another one
         self.proved, self.failed, self.left, self.taken, self.unknown = [], [], [], [], []
-        self.code, self.seconds, self.stamps = [], 0.0, None
+        self.stopped, self.code, self.seconds, self.stamps, self.lacking = [], [], 0.0, None, set()
 
     # ---- the base
 
@@ -181,14 +182,14 @@ class Run:
         checked as the revision has it, which fills its folder out/incremental too."""
         kept = self.kept[name]
         known = kept.read("base.json")
-        if known.get("ident") == self.bases[name]:
+        if known.get("ident") == self.bases[name] and known.get("form") == FORM:
             return known["face"]
         if self.is_whole(name):
             found = base.face(kept.of_base)
         else:
             found = self.build_as_there(name)
         if found:
-            kept.write("base.json", {"ident": self.bases[name], "face": found})
+            kept.write("base.json", {"ident": self.bases[name], "form": FORM, "face": found})
         return found
 
     def build_as_there(self, name):
@@ -274,6 +275,8 @@ class Run:
             if name in self.differs:
                 say(f"{name}: not tried, since {lacking[0]} has no library that stands")
                 (self.failed if set(lacking) & set(self.failed) else self.left).append(name)
+            elif set(self.here.below(name)) & set(self.failed):
+                self.stopped.append(name)
             else:
                 self.unknown.append(name)
             return
@@ -572,6 +575,7 @@ def tell_left(run, left_edits):
     left = {
         "every proof from nothing": True,
         "crates above, whose libraries below read otherwise now": run.left,
+        "crates above what isn't proved": run.stopped,
         "crates of which there is no library, or none that fits": run.unknown,
         f"{left_edits} edits of functions that didn't change": left_edits,
         f"turned definitions (by hand: checks/wrong-bodies/run.sh --definitions {' '.join(turned)})": bool(turned),
