@@ -163,21 +163,18 @@ def open_part(text):
 
 
 def modules(rlib):
-    """The modules of a library that other crates can name, each with what a check over it goes by: the checksums of what it
-    exports and of all that it holds; of a file of lemmas those of the statements, and what else can be unfolded."""
-    held, found, lemmas = (rlib / "toolchain/checked.a").read_bytes(), {}, rlib / "lang/antt/proofs"
-    for line in (rlib / "toolchain/checked.json").read_text(encoding="utf-8").splitlines():
-        name, at, size = json.loads(line)
-        if PRIVATE.search(name):
-            continue
-        head = held[at : at + min(size, 200_000)].partition(b"--@ head")[0]
-        exports, content = (re.search(rb"^--@ %s (.*)$" % it, head, re.M) for it in (b"exports", b"content"))
-        file = lemmas / (name.partition("-proofs.")[2].replace(".", "/") + ".antt")
-        if exports and file.is_file():
-            found[name] = f"{exports[1].split()[0].decode()} {sum_of(open_part(file.read_text(encoding='utf-8')))}"
-        else:
-            found[name] = " ".join(it[1].decode() for it in (exports, content) if it)
-    return found
+    """The modules of a library that other crates can name, each with a checksum of what they read of it: those that the
+    checker makes, the definitions, and the lemmas."""
+    found = {}
+    for line in (rlib / "toolchain/made.json").read_text(encoding="utf-8").splitlines():
+        name, _, _, held, _ = json.loads(line)
+        found[name.replace("/", ".")] = held
+    root = rlib / "lang/antt"
+    for path in root.rglob("*.antt"):
+        text, name = path.read_text(encoding="utf-8"), str(path.relative_to(root)).removesuffix(".antt").replace("/", ".")
+        is_lemmas = name.startswith("proofs.")
+        found[name] = sum_of(open_part(text) if is_lemmas else re.sub(r"(?m)^ *--.*\n|^\n", "", text))
+    return {it: held for it, held in found.items() if not PRIVATE.search(it)}
 
 
 def files_sum(folder):
@@ -186,8 +183,8 @@ def files_sum(folder):
 
 
 def face(rlib):
-    """What crates above are checked against, of a library with all its modules: the Rust interface, and the modules that
-    they can name. Apart from that its code, which programs and tests are made of."""
+    """What crates above are checked against, of a library: the Rust interface, and the modules that they can name. Apart from
+    that its code, which programs and tests are made of."""
     return {
         "interface": files_sum(rlib / "interface"),
         "below": files_sum(rlib / "below") if (rlib / "below").exists() else "",

@@ -21,7 +21,7 @@ TOP = base.TOP
 WHO = {"all_edits.py": "all-edits.sh", "try_edits.py": "wrong-bodies/run.sh"}.get(pathlib.Path(sys.argv[0]).name, "since.sh")
 BEGUN = time.monotonic()
 PRINTING = threading.Lock()
-FORM = 2  # of what is written down of a crate: raised when that changes
+FORM = 3  # of what is written down of a crate: raised when that changes
 
 
 def say(*lines):
@@ -134,12 +134,8 @@ class Run:
         is_good = self.options.get("trust") or base.files_of(home) == files and base.is_younger(rlib, home)
         if is_good and place == TOP:
             note.write_text(json.dumps(told), encoding="utf-8")
-        # (of a crate that differs, the code is compared when it is checked as the revision has it)
+        # (what differs is proved here, and only compared with this library, whatever code that is of)
         return is_good or name in self.differs
-
-    def is_whole(self, name):
-        """Whether the base's library has all its modules."""
-        return name in self.bases and not base.made_over(self.kept[name].of_base)
 
     def take_as_it_is(self, name):
         """Whether nothing has to be proved of a crate, and if so, which of its libraries stands."""
@@ -177,41 +173,14 @@ class Run:
         self.seconds += seconds
         return status, said
 
-    def face_of_base(self, name):
-        """What crates above are checked against, of the base's library. One of statements alone doesn't tell: the crate is
-        checked as the revision has it, which fills its folder out/incremental too."""
-        kept = self.kept[name]
-        known = kept.read("base.json")
-        if known.get("ident") == self.bases[name] and known.get("form") == FORM:
-            return known["face"]
-        if self.is_whole(name):
-            found = base.face(kept.of_base)
-        else:
-            found = self.build_as_there(name)
-        if found:
-            kept.write("base.json", {"ident": self.bases[name], "form": FORM, "face": found})
-        return found
-
-    def build_as_there(self, name):
-        kept = self.kept[name]
-        if not kept.has_work():
-            say(f"{name}: nothing is kept of its checks, so the first is from nothing: about {lasted(self.there.work(name))} of one processor, once")
-        with base.room(name) as place:
-            base.write_files(self.there.files[name], place)
-            libraries = {it: self.kept[it].of_base for it in self.there.below(name)}
-            status, said = self.check(name, self.there, libraries, kept.incremental, place, place / f"{name}.rlib")
-            if not base.is_proved(status, said):
-                return None
-            found = base.face(place / f"{name}.rlib")
-        code = base.sum_of((kept.of_base / "toolchain/mir.json").read_bytes())
-        return found if found["code"] == code and found["interface"] == base.files_sum(kept.of_base / "interface") else None
-
     def prove(self, name):
         """Proves a crate as it is, and finds out whether what crates above are checked against is as before."""
         kept, begun = self.kept[name], time.monotonic()
         low = {it: self.stands[it] for it in self.here.below(name)}
         is_reached = any(self.idents[it] != self.bases.get(it) for it in low)
-        before = self.face_of_base(name) if name in self.bases and not is_reached else None
+        before = base.face(kept.of_base) if name in self.bases and not is_reached else None
+        if not kept.has_work():
+            say(f"{name}: nothing is kept of its checks, so this one is from nothing: about {lasted(self.here.work(name))} of one processor")
         kept.incremental.mkdir(parents=True, exist_ok=True)
         with base.room(name) as place:
             base.write_files(self.here.files[name], place)
@@ -661,7 +630,7 @@ def prepare(run, names):
 
 def fill(run, name):
     begun = time.monotonic()
-    is_well = bool(run.face_of_base(name)) if name in run.bases else begin_edits(run, name, len(edit_paths(name)))
+    is_well = begin_edits(run, name, len(edit_paths(name)))
     say(f"{name}: {'prepared' if is_well else 'NOT PREPARED'} in {lasted(time.monotonic() - begun)}")
     return is_well
 
