@@ -215,10 +215,21 @@ class Run:
             rlib.rename(kept.own)
         self.stand(name, kept.own, True)
         self.note(name, "own", face=new, own=base.ident(kept.own))
-        if not before:
+        if name not in self.differs and name not in self.lacking:
             return ""
-        names = [it.partition(".")[2] or it for it in base.turned(before, new)]
-        return f": for the crates above {len(names)} modules differ ({', '.join(names[:3])}{', ..' if len(names) > 3 else ''})" if names else ": its Rust interface differs"
+        names = base.turned(before, new) if before else []
+        what = f"{len(names)} modules differ ({', '.join(names[:3])}{', ..' if len(names) > 3 else ''})" if names else "its Rust interface differs" if before else "there is no library of before to compare it with"
+        return f": {what}; {self.tell_above(name)}"
+
+    def tell_above(self, name):
+        """What the crates above cost, which read what changed."""
+        above = self.here.above(name)
+        if not above or self.options["alone"]:
+            return "the crates above are left to the gate" if above else "no crate stands on it"
+        new = [it for it in above if not self.kept[it].has_work()]
+        work = sum(self.here.work(it) for it in new)
+        cost = f", {len(new)} of them from nothing, about {lasted(work)} of one processor (--alone leaves them to the gate)" if new else ""
+        return f"{len(above)} crates above are checked over it{cost}"
 
     def note(self, name, stands, **more):
         low = {it: self.idents[it] for it in self.here.below(name)}
@@ -639,6 +650,8 @@ def go(run):
     gone = [it for it in run.there.crates if it not in run.here.crates]
     say(f"since {run.options['shown']}: {len(run.differs)} of {len(run.here.crates)} crates differ{': ' if run.differs else ''}{' '.join(run.differs)}"
         + (f"; gone: {' '.join(gone)}" if gone else ""))
+    if not run.bases and not any(it.read("record.json") for it in run.kept.values()):
+        refuse(f"there are no libraries of {run.options['shown']}'s sources: {HOW_TO_BEGIN}")
     run.lacking = make_what_lacks(run)
     lost, is_whole = [], not run.options["proofs"]
     quick = threading.Thread(target=do_quick, args=(run, lost))
