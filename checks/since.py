@@ -144,11 +144,16 @@ class Run:
             if name in self.bases or not self.here.makes_library(name):
                 return self.stand(name, kept.of_base if name in self.bases else None, False)
         record = kept.read("record.json")
-        if record.get("sources") == self.sums[name] and record.get("kit") == self.kit and record.get("below") == {it: self.idents[it] for it in low}:
+        if self.is_record_of(record, name, low):
             rlib = {"base": kept.of_base, "own": kept.own}.get(record["stands"])
             if rlib is None or base.ident(rlib) == record["ident"]:
                 return self.stand(name, rlib, record["stands"] == "own")
         return False
+
+    def is_record_of(self, record, name, low):
+        """Whether a record is of a proof of these sources, over the libraries that stand."""
+        told = {"sources": self.sums[name], "kit": self.kit, "below": {it: self.idents[it] for it in low}}
+        return all(record.get(it) == value for it, value in told.items())
 
     def stand(self, name, rlib, is_turned):
         self.stands[name], self.turned[name] = rlib, is_turned
@@ -160,17 +165,17 @@ class Run:
     def check(self, name, tree, libraries, kept, folder, to=None, flags=()):
         """Checks a crate, and builds its library if a place for it is given."""
         wanted = 1 if kept.is_dir() and any(kept.iterdir()) else self.slots.count
+        flags = [*flags, *(["-o", to] if to else [])]
         jobs = self.slots.take(wanted)
         try:
-            words = [base.KIT / "bin/rattle", "build" if to else "check", *base.words_for(tree, name, libraries, jobs, kept)]
-            status, said, seconds = base.call([*words, *flags, *(["-o", to] if to else [])], folder)
-            if status == -signal.SIGKILL and jobs > 1:
-                words = [base.KIT / "bin/rattle", "build" if to else "check", *base.words_for(tree, name, libraries, 1, kept)]
-                status, said, more = base.call([*words, *flags, *(["-o", to] if to else [])], folder)
-                seconds += more
+            for count in [jobs, 1]:  # once more by one job, if it was killed, most likely for memory
+                words = base.words_for(tree, name, libraries, count, kept)
+                status, said, seconds = base.call([base.KIT / "bin/rattle", "build" if to else "check", *words, *flags], folder)
+                self.seconds += seconds
+                if status != -signal.SIGKILL:
+                    break
         finally:
             self.slots.give(jobs)
-        self.seconds += seconds
         return status, said
 
     def prove(self, name):
@@ -218,7 +223,10 @@ class Run:
         if name not in self.differs and name not in self.lacking:
             return ""
         names = base.turned(before, new) if before else []
-        what = f"{len(names)} modules differ ({', '.join(names[:3])}{', ..' if len(names) > 3 else ''})" if names else "its Rust interface differs" if before else "there is no library of before to compare it with"
+        if names:
+            what = f"{len(names)} modules differ ({', '.join(names[:3])}{', ..' if len(names) > 3 else ''})"
+        else:
+            what = "its Rust interface differs" if before else "there is no library of before to compare it with"
         return f": {what}; {self.tell_above(name)}"
 
     def tell_above(self, name):
@@ -435,9 +443,10 @@ def run_tests(run, name):
 def quick_checks(run):
     """What looks at the whole repository in seconds: its name, and the words that do it."""
     found = [(it, ["python3", "-B", f"checks/{it}"]) for it in ("links.py", "lemmas.py", "closure.py", "cases.py")]
-    written = git("diff", "--name-only", run.options["revision"])
-    if re.search(r"\.sh$|^(bin|xv|\.ci)\b", written, re.M):
-        found.append(("shell.sh", ["checks/shell.sh"]))
+    written = git("diff", "--name-only", run.options["revision"]).split("\n")
+    scripts = [it for it in written if (TOP / it).is_file() and (TOP / it).read_bytes()[:9] in (b"#!/bin/sh", b"#!/bin/ba")]
+    if scripts:
+        found.append(("shell.sh", ["checks/shell.sh", *scripts]))
     for name in run.differs:
         old = run.there.files.get(name, {})
         files = [f"crates/{name}/{it}" for it, text in run.here.files[name].items() if old.get(it) != text and it.endswith((".rt", ".antt"))]
@@ -491,17 +500,20 @@ def revision_of(names):
     return git("rev-parse", "HEAD") or refuse("this is no clone by git: it has no revision to begin from")
 
 
-HOW_TO_BEGIN = "run `./xv --build` or .ci/run once, before you change something (up to an hour), or name a clone in which the gate has passed by --base"
+HOW_TO_BEGIN = ("run `./xv --build` or .ci/run once, before you change something (up to an hour), "
+                "or name a clone in which the gate has passed by --base")
 
 
 def make_what_lacks(run):
     """The crates below those that differ whose libraries lack: few are made, and for many there is advice."""
     needed = {low for it in run.differs for low in run.here.below(it)}
-    lacking = [it for it in run.here.ordered() if it in needed and it not in run.differs and it not in run.bases and not run.kept[it].read("record.json")]
+    is_there = lambda name: name in run.differs or name in run.bases or run.kept[name].read("record.json")
+    lacking = [it for it in run.here.ordered() if it in needed and not is_there(it)]
     work = sum(run.here.work(it) for it in lacking)
     if lacking and work > 900:
         some = " ".join(lacking[:6]) + (" .." if len(lacking) > 6 else "")
-        refuse(f"there are no libraries of {run.options['shown']}'s sources of {len(lacking)} crates below what differs ({some}), some {work // 60} minutes of one processor: {HOW_TO_BEGIN}")
+        refuse(f"of {len(lacking)} crates below what differs there are no libraries of {run.options['shown']}'s sources ({some}), "
+               f"some {work // 60} minutes of one processor: {HOW_TO_BEGIN}")
     if lacking:
         say(f"libraries that lack are made first: {' '.join(lacking)}, about {lasted(work)} of one processor")
     return set(lacking)
@@ -549,7 +561,8 @@ def over_new_code(run):
 def tell_left(run, left_edits):
     """What this call took, and what it leaves to the gate."""
     kept = [it for it in run.taken if run.here.makes_library(it)]
-    say(f"taken from before (incremental=trusted): the proofs of {len(run.taken)} crates, of {len(kept)} of them as libraries; of the crates proved here, what earlier checks kept")
+    say(f"taken from before (incremental=trusted): the proofs of {len(run.taken)} crates, of {len(kept)} of them as libraries; "
+        "of the crates proved here, what earlier checks kept")
     programs, tests = over_new_code(run)
     turned = turned_definitions(run) if not run.options["definitions"] else []
     left = {
@@ -562,7 +575,8 @@ def tell_left(run, left_edits):
         "programs that link the new code, and what they print": programs,
         "tests over the new code (without proofs: `rt try --test` there)": tests,
     }
-    say("left to the gate: " + "; ".join(f"{it}: {' '.join(names)}" if isinstance(names, list) else it for it, names in left.items() if names))
+    told = [f"{it}: {' '.join(names)}" if isinstance(names, list) else it for it, names in left.items() if names]
+    say("left to the gate: " + "; ".join(told))
     if subprocess.run([TOP / "programs/host/build.sh", "--is-current"], capture_output=True, check=False).returncode == 0:
         say("the programs are built of this state: checks/run.sh tries them, in a minute")
 
@@ -626,7 +640,7 @@ def prepare(run, names):
         refuse(f"there is no crate {lost[0]}" if lost else f"{' '.join(run.differs)}: what differs is not to be prepared: `git stash` first")
     if not names:
         work = sum(run.here.work(it) for it in run.here.crates)
-        say(f"rt all check: about {work // 60} minutes of one processor if nothing is kept, less what is; Ctrl-C stops it, and the next call goes on")
+        say(f"rt all check: about {work // 60} minutes of one processor if nothing is kept; Ctrl-C stops it, and the next call goes on")
         return subprocess.run(["rt", "all", "check", "--jobs", str(run.slots.count)], cwd=TOP, check=False).returncode
     run.stand_all()
     with ThreadPoolExecutor(len(names)) as pool:
@@ -648,8 +662,8 @@ def fill(run, name):
 
 def go(run):
     gone = [it for it in run.there.crates if it not in run.here.crates]
-    say(f"since {run.options['shown']}: {len(run.differs)} of {len(run.here.crates)} crates differ{': ' if run.differs else ''}{' '.join(run.differs)}"
-        + (f"; gone: {' '.join(gone)}" if gone else ""))
+    told = [f"{len(run.differs)} of {len(run.here.crates)} crates differ", *([" ".join(run.differs)] if run.differs else [])]
+    say(f"since {run.options['shown']}: {': '.join(told)}" + (f"; gone: {' '.join(gone)}" if gone else ""))
     if not run.bases and not any(it.read("record.json") for it in run.kept.values()):
         refuse(f"there are no libraries of {run.options['shown']}'s sources: {HOW_TO_BEGIN}")
     run.lacking = make_what_lacks(run)
