@@ -1,6 +1,6 @@
 // --gdb: serves GDB; or, with --commands PATH, writes commands for GDB, by which it knows the symbols of all FILEs
 // and starts the machine. programs/host/modes.sh does the same natively.
-import { closeSync, existsSync, openSync, readFileSync, readSync, statSync, writeFileSync } from "node:fs";
+import { existsSync, readFileSync, statSync, writeFileSync } from "node:fs";
 import { fileURLToPath } from "node:url";
 import { module_of, run } from "./program.mjs";
 import { name_of } from "./refusals.mjs";
@@ -16,17 +16,10 @@ const quoted = (word) => `'${word.replaceAll("'", "'\\''")}'`;
 
 /** Whether a FILE is a program: a source, or an ELF file by its first bytes. */
 function is_program(file) {
-  if (file.endsWith(".s")) return true;
-  const head = Buffer.alloc(ELF.length);
-  let fd = -1;
   try {
-    if (!statSync(file).isFile()) return false;
-    fd = openSync(file, "r");
-    return readSync(fd, head, 0, head.length, 0) === ELF.length && head.toString("latin1") === ELF;
+    return file.endsWith(".s") || (statSync(file).isFile() && readFileSync(file, "latin1").startsWith(ELF));
   } catch {
     return false;
-  } finally {
-    if (fd >= 0) closeSync(fd);
   }
 }
 
