@@ -115,14 +115,14 @@ export class Player {
    * cut is a future in its place. False if there is no cut.
    */
   take_back() {
-    const { run, plan } = this, future = this.futures.pop();
+    const { run, plan } = this, future = this.futures.at(-1);
     if (!future) return false;
     const typed = run.end > future.at ? [this.future_from(future.at)] : [];
     plan.keys = [];
     run.go(future.at);
     run.cut();
     run.send_spans(spans_of(future.text));
-    this.futures.push(...typed);
+    this.futures = [...this.futures.slice(0, -1), ...typed];
     plan.find();
     run.go(future.at);
     return true;

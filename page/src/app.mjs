@@ -13,6 +13,7 @@ export const app = {
   names: new LastNames(), // the program that each process of the run ran last, by its place among the files
   text: new Uint8Array(0), // the bytes that the console has shown
   faults: [], // the faults of the run
+  cut_off: [], // the futures that keys have cut off, with their events
   kills: [], // the processes of the run that are gone since they were killed
   work: { name: "", files: [], gone: [], breaks: [] }, // the work that is open (works.mjs)
   get files() { return this.work.files; }, // {name, text} or {name, bytes}

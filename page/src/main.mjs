@@ -26,6 +26,7 @@ import * as translate from "./translate.mjs";
 import * as manual from "./manual.mjs";
 import * as slides from "./slides.mjs";
 import * as first_minute from "./first_minute.mjs";
+import * as your_runs from "./your_runs.mjs";
 import { problem } from "./messages.mjs";
 import { is_booted, is_embedded, short_place } from "./place_links.mjs";
 import { calls_in_words } from "../../anywhere/machine/event_words.mjs";
@@ -58,6 +59,7 @@ function take_view(view) {
   take_text(view.text);
   if (view.faults) app.faults = view.faults;
   if (view.kills) app.kills = view.kills;
+  if (view.cut_off) app.cut_off = view.cut_off;
   is_whole ||= view.whole !== undefined;
   // What only a whole view has is that of the last one.
   const whole = view.whole ?? app.view?.whole;
@@ -182,6 +184,7 @@ const WAYS = [
 /** Boots the first machine, by the first way that leads to one. */
 async function first_machine() {
   look();
+  await session.begin();
   for (const way of WAYS) {
     try { if (await way()) break; } catch (error) { problem(`Something has gone wrong: ${error.message}`); }
   }
@@ -193,6 +196,7 @@ async function first_machine() {
 const PARTS = {
   messages, terminal, editor, works, time, breaks, processes, instruction, c_source, pages, descriptors, why, programs,
   sharing, lessons, session, happened, missing_stretches, translate, manual, slides, first_minute,
+  your_runs,
 };
 
 function begin() {

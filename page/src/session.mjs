@@ -1,9 +1,13 @@
-// What the page shows is kept, so that a reload, or another day, finds it: the work, the run with its keys and its place, tabs, speed. The
-// works themselves are kept by works.mjs, whenever they are changed.
-import { $, app, ask, on, say } from "./app.mjs";
+// What the page shows is kept, so that a reload, or another day, finds it: each run as a record of its own, with its
+// work, keys, place, and the futures that keys have cut off; tabs, speed. The works themselves are kept by works.mjs,
+// whenever they are changed. A run in which something was typed is never written over: not by a link, by a reload, or
+// by another tab.
+import { $, app, ask, on, say, tell } from "./app.mjs";
 import { grouped } from "../../anywhere/machine/number_words.mjs";
-import { keep, keep_here, kept, kept_here } from "./browser_storage.mjs";
-import { flush } from "./works.mjs";
+import {
+  all_runs, change_run, delete_run, keep_here, keep_run, kept_here, kept_state, load, new_id, on_state,
+} from "./browser_storage.mjs";
+import { flush, title_of, unpacked_file } from "./works.mjs";
 import { keys_in } from "../../anywhere/machine/events.mjs";
 import { play_again, run_now } from "./sharing.mjs";
 import * as editor from "./editor.mjs";
@@ -13,24 +17,61 @@ import { is_booted, is_slide } from "./place_links.mjs";
 import { problem } from "./messages.mjs";
 import { shown_of } from "./outside.mjs";
 
-const SETTLE = 1000; // ms after a change, until it is kept
-const TABS = ["tab-programs", "tab-lessons", "tab-instruction", "tab-pages", "tab-translate", "tab-opened", "tab-happened", "tab-why"];
-let timer = 0, is_restored = false;
+const SETTLE = 600; // ms after a change, until it is kept
+const MOST_HERE = 1 << 20; // letters that a tab keeps for itself as it goes
+const TABS = [
+  "tab-programs", "tab-lessons", "tab-instruction", "tab-pages", "tab-translate", "tab-opened", "tab-happened",
+  "tab-why",
+];
+const owner = new_id(); // of the runs that this tab goes on with
+// The run that is shown; is_own: something was typed in it; of_link: a link has led to it.
+let current = { id: new_id(), is_own: false, of_link: false };
+let timer = 0, is_restored = false, is_opening = false;
 
-/** What is kept: `run` is null if it is too long to be played again; then `length` tells how long it was. */
-function now() {
-  return { work: app.work.name, file: editor.opened()?.name, run: run_now(), length: app.line.end, tabs: TABS.filter((it) => $(it).getAttribute("aria-selected") === "true"), speed: $("speed").value, lesson: lessons.kept_lesson() };
+/** What is shown, as it is kept: `run` is null if it is too long to be played again; then `length` tells its length. */
+function shown_now() {
+  const { work } = app.booted, file = work === app.work.name ? editor.opened()?.name : undefined;
+  return {
+    work, title: title_of(work), file, run: run_now(true), length: app.line.end,
+    tabs: TABS.filter((it) => $(it).getAttribute("aria-selected") === "true"), speed: $("speed").value,
+    lesson: lessons.kept_lesson(),
+  };
 }
 
-/** Keeps it; without the run, if there is no room for that. */
+/** The record of the run that is shown. */
+function record_now() {
+  const { id, is_own, of_link } = current;
+  return { ...shown_now(), id, owner, is_own, of_link, when: Date.now() };
+}
+
+let keeping = Promise.resolve(); // what is kept is kept one after another
+
+/** Keeps it as it is now. */
 function keep_now() {
   clearTimeout(timer);
   timer = 0;
-  if (!is_restored || !app.view || is_slide()) return;
+  if (!is_restored || !app.view || is_slide()) return keeping;
   flush();
-  const told = now();
-  keep_here("now", told);
-  if (!keep("now", told, true)) keep("now", { ...told, run: null });
+  if (is_opening) { keep_soon(); return keeping; }
+  const run = current, record = record_now();
+  keeping = keeping.then(() => keep_record(run, record));
+  return keeping;
+}
+
+/** Keeps a record of a run. If another tab has gone on with the run, what is here is a run of its own from now on. */
+async function keep_record(run, record) {
+  const { id } = run, kept_as = await keep_run({ ...record, id });
+  run.id = kept_as;
+  if (run === current) keep_here("run", { id: kept_as });
+  if (kept_as !== id) say("Another tab goes on with this run too: each tab keeps its own from here on.");
+}
+
+/** The page goes: what the database may have no time for any more, the tab keeps for itself. */
+function keep_as_it_goes() {
+  keep_now();
+  if (!is_restored || !app.view || is_slide() || is_opening) return;
+  const record = record_now(), is_short = (record.run?.events.length ?? 0) < MOST_HERE;
+  keep_here("last", is_short ? record : null);
 }
 
 /** Keeps it soon: when the machine waits or stands, since a long record takes some milliseconds. */
@@ -46,27 +87,149 @@ function show_tabs(tabs) {
   for (const it of tabs) if (TABS.includes(it)) globalThis.show_tab(it.slice(4));
 }
 
-/** Shows what was kept; false if there is nothing, or nothing that can be read. */
-export async function restore() {
-  const told = kept_here("now") ?? kept("now");
-  if (told === null) return false;
-  try { return await restored(shown_of(told)); } catch (error) {
-    problem(`What the browser kept of the last time can't be read: ${error.message}. Your sources stand in the list of examples.`);
-    return false;
-  }
+// ---- what was here last time
+
+let not_kept_since = 0;
+
+/** Reads what the browser has kept. */
+export async function begin() {
+  not_kept_since = await load();
+  tell("read");
+  on_state(show_state);
+  show_state(kept_state());
 }
 
-async function restored(told) {
-  if (!programs.open_work(told.work, undefined, told.file)) return false;
-  if ([...$("speed").options].some((it) => it.value === told.speed)) { $("speed").value = told.speed; ask("settings", { speed: Number(told.speed) }); }
-  show_tabs(told.tabs);
-  lessons.open_kept(told.lesson);
-  if (told.run && (await play_again(told.run))) say(`Here is what you had: event ${grouped(told.run.at)} of ${grouped(told.run.end)}.`);
-  else {
-    if (!(await is_booted(() => programs.boot()))) return false;
-    if (told.length > 0) say(told.run ? "Your sources are here. The run begins anew: this page is another one than that which made it." : `Your sources are here. The run begins anew: it was too long to be kept, with ${grouped(told.length)} events.`);
+/** The records of which one may be shown, in this order: after a reload this tab's own, else the last shown. */
+async function candidates() {
+  const here = kept_here("run")?.id, last = kept_here("last"), all = await all_runs();
+  const newest = all.map((it) => (last && last.id === it.id && last.when > it.when ? last : it));
+  if (last && !all.some((it) => it.id === last.id)) newest.push(last);
+  const own = newest.filter((it) => it.id === here), shown = newest.filter((it) => it.is_own || !it.of_link);
+  const is_reload = performance.getEntriesByType("navigation")[0]?.type !== "navigate";
+  return is_reload ? [...own, ...shown] : [...shown, ...own];
+}
+
+/** Shows what was kept; false if there is nothing, or nothing that can be read. */
+export async function restore() {
+  for (const record of (await candidates()).slice(0, 3)) {
+    try { if (await open_record(record, true)) return true; } catch (error) {
+      const words = "A run that the browser has kept can't be read, and stays as it is";
+      problem(`${words}: ${error.message}. Your sources stand in the list of examples.`);
+    }
   }
+  return false;
+}
+
+const words_of_place = ({ at, end }) => `event ${grouped(at)} of ${grouped(end)}`;
+
+/** The files that a run has itself. */
+const files_in = (run) => (run?.files ?? []).flatMap(({ file }) => (file ? unpacked_file(file) ?? [] : []));
+
+/** Opens the work of a record, and plays its run; false if no machine is booted. */
+async function open_record(record, is_first) {
+  const told = shown_of(record), { run } = told;
+  if (!programs.open_work(told.work, undefined, told.file)) programs.set_files(files_in(run), {}, told.work);
+  if ([...$("speed").options].some((it) => it.value === told.speed)) {
+    $("speed").value = told.speed;
+    ask("settings", { speed: Number(told.speed) });
+  }
+  if (is_first) {
+    show_tabs(told.tabs);
+    lessons.open_kept(told.lesson);
+  }
+  is_opening = true;
+  try {
+    if (run && (await play_again(run))) {
+      go_on_with(record);
+      say(`Here is ${not_kept_since ? "what was kept" : "what you had"}: ${words_of_place(run)}.`);
+      tell_lost();
+      return true;
+    }
+  } finally {
+    is_opening = false;
+  }
+  if (!is_first) return false;
+  if (!(await is_booted(() => programs.boot()))) return false;
+  tell_begun_anew(told);
   return true;
+}
+
+/** What is typed from now on is of this record's run. */
+function go_on_with({ id, is_own, of_link }) {
+  current = { id, is_own: is_own === true, of_link: of_link === true };
+  keep_here("run", { id });
+  change_run(id, { owner });
+}
+
+/** If not all of the last time was kept, that is said. */
+function tell_lost() {
+  if (!not_kept_since) return;
+  const since = new Date(not_kept_since).toLocaleTimeString("en");
+  const why = "its store was full, or it refused";
+  problem(`What you did after ${since} was not kept by the browser: ${why}. What was kept before is here.`);
+  not_kept_since = 0;
+}
+
+function tell_begun_anew({ run, length }) {
+  const begun = "Your sources are here. The run begins anew";
+  const other = "this page is another one than that which made it";
+  if (run) say(`${begun}: ${other}, or its files have changed. It stays among your runs.`);
+  else if (length > 0) say(`${begun}: it was too long to be kept, with ${grouped(length)} events.`);
+  tell_lost();
+}
+
+// ---- your runs
+
+const MARKS = {
+  true: ["✓ kept", "All that you do here is kept by the browser"],
+  false: ["⚠ not kept", "Not all is kept: a click says what to do"],
+};
+
+/** The lasting mark. */
+function show_state({ is_kept, why, since }) {
+  const [words, title] = MARKS[is_kept], mark = $("kept");
+  if (mark.textContent === words) return;
+  Object.assign(mark, { textContent: words, title });
+  mark.classList.toggle("not-kept", !is_kept);
+  if (is_kept) return;
+  const from = new Date(since).toLocaleTimeString("en");
+  const todo = "Take runs away (Your runs), or save all of it by Share, as a file";
+  problem(`The browser keeps nothing of what you do here since ${from}: ${why}. ${todo}.`);
+}
+
+/** The runs that are listed: those in which something was typed, or that have a name, and the one that is shown. */
+export async function listed_runs() {
+  await keep_now();
+  return (await all_runs()).filter((it) => it.is_own || it.name || it.id === current.id);
+}
+export const is_current = ({ id }) => id === current.id;
+
+/** Opens a run of the list; that which is left stays in it. */
+export async function open_run(record) {
+  await keep_now();
+  leave();
+  const before = app.work;
+  let why = "this page is another one than that which made it, or its files are gone";
+  try { if (await open_record(record, false)) return true; } catch (error) { why = error.message; }
+  problem(`The run can't be played again: ${why}.`);
+  if (app.work !== before) programs.open_again(before);
+  return false;
+}
+
+export const name_run = (record, name) => change_run(record.id, { name });
+
+/** Takes a run away for good. */
+export async function take_run_away(record) {
+  await delete_run(record.id);
+  if (is_current(record)) current = { id: new_id(), is_own: false, of_link: current.of_link };
+  keep_soon();
+}
+
+/** A machine was booted: a run begins, unless one was opened. A run in which nothing was typed makes room for it. */
+function new_run() {
+  if (is_opening) return;
+  const of_link = document.documentElement.dataset.place === "coming";
+  current = { id: current.is_own ? new_id() : current.id, is_own: false, of_link };
 }
 
 // ---- the run before
@@ -77,34 +240,40 @@ let before = null; // the run that the last boot has ended, if keys were typed i
 function leave() {
   if (!keys_in(app.events.all()).length) return;
   const run = run_now(true);
-  if (run) before = { work: app.booted.work, run: { ...run, plays: false } };
+  if (run) before = { work: app.booted.work, run: { ...run, plays: false }, record: current };
   offer();
 }
 
 function offer() {
   const button = $("run-before");
   button.hidden = !before;
-  if (before) button.title = `Back to the run before: ${before.work}, event ${grouped(before.run.at)} of ${grouped(before.run.end)}`;
+  if (before) button.title = `Back to the run before: ${before.work}, ${words_of_place(before.run)}`;
 }
 
 /** Goes back to the run before; that which is left is the run before then. */
 async function back_to_run_before() {
-  const { work, run } = before;
+  const { work, run, record } = before;
   before = null;
   leave();
   programs.open_work(work);
-  if (!(await play_again(run))) say("The run before can't be played again.");
+  is_opening = true;
+  const is_there = await play_again(run);
+  is_opening = false;
+  if (is_there) go_on_with(record); else say("The run before can't be played again.");
   offer();
 }
 
 export function start() {
   $("run-before").addEventListener("click", back_to_run_before);
-  on("leave", leave);
+  on("leave", () => { keep_now(); leave(); });
+  on("booted", new_run);
+  on("typed", () => { current.is_own = true; });
   on("view", () => { is_restored = true; });
-  for (const it of ["booted", "typed", "stops", "work", "tab", "touched", "edited", "opened", "lesson"]) on(it, keep_soon);
+  const changes = ["booted", "typed", "stops", "work", "tab", "touched", "edited", "opened", "lesson"];
+  for (const it of changes) on(it, keep_soon);
   let at = -1;
   on("panels", () => { if (!app.view.playing && app.view.at !== at) { at = app.view.at; keep_soon(); } });
   $("speed").addEventListener("change", keep_soon);
-  addEventListener("pagehide", keep_now);
+  addEventListener("pagehide", keep_as_it_goes);
   document.addEventListener("visibilitychange", () => { if (document.hidden) keep_now(); });
 }

@@ -27,12 +27,21 @@ export function run_now(is_whole = false) {
     const place = app.files.indexOf(from);
     return place >= 0 && from.text === text && !is_whole ? { name, place } : { name, file: packed_file(text !== undefined ? { name: from.name, text } : from) };
   });
-  return { built: DATA.built, files, frames: booted.config.frames, how: booted.how, events: events.all(), end: view.end, stretches: view.stretches, at: view.at, keys: view.waiting_keys ?? [], plays: view.playing };
+  return {
+    built: DATA.built, files, frames: booted.config.frames, how: booted.how, events: events.all(), end: view.end,
+    stretches: view.stretches, at: view.at, keys: view.waiting_keys ?? [], futures: app.cut_off, plays: view.playing,
+  };
+}
+
+/** The file of the list that is the same as one that was kept; or else that one. */
+function same_file(kept) {
+  const is_same = (it) => (kept.text === undefined ? it.built_in && kept.built_in : it.text === kept.text);
+  return app.files.find((it) => it.name === kept.name && is_same(it)) ?? unpacked_file(kept);
 }
 
 /** The files of the list that a kept run names: {name, from} of each. */
 const files_of_run = (run) => run.files.map(({ name, place, file }) => (
-  { name, from: file === undefined ? app.files[place] : unpacked_file(file) }
+  { name, from: file === undefined ? app.files[place] : same_file(file) }
 ));
 
 /** Plays a kept run again, on the files of the work that is open; false if it can't be played. */
@@ -43,7 +52,8 @@ export async function play_again(run) {
   if (!files) return false;
   named.forEach((it, k) => { files[k].name = it.name; });
   const replayed = once("replayed", "refused"), spans = spans_of(run.events), config = { frames: run.frames, trace: 0 };
-  programs.begin("replay", { files, config, how: run.how, spans, at: run.at, keys: run.keys, play: run.plays });
+  const { how, at, keys, futures, plays: play } = run;
+  programs.begin("replay", { files, config, how, spans, at, keys, futures, play });
   return (await replayed).name === "replayed";
 }
 
@@ -148,6 +158,7 @@ export async function follow(hash, in_its_place) {
     await arrive(words);
     return true;
   };
+  document.documentElement.dataset.place = "coming";
   const is_there = await attempt("The link", action, in_its_place);
   if (is_there) {
     note_slide(hash);

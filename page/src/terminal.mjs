@@ -83,7 +83,7 @@ export function type(bytes) {
 }
 
 function key(event) {
-  if (event.key === "Escape") { $("play").focus(); return; }
+  if (event.key === "Escape") { event.preventDefault(); $("after-terminal").focus(); return; }
   if (event.metaKey || event.altKey) return;
   const selected = String(getSelection()).length > 0;
   if (event.ctrlKey) {

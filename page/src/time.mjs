@@ -4,6 +4,7 @@ import { grouped } from "../../anywhere/machine/number_words.mjs";
 import { KIND } from "../../anywhere/machine/machine.mjs";
 import { call_name } from "../../anywhere/machine/calls.mjs";
 import { stuck, stuck_words } from "./stuck.mjs";
+import { keep, kept } from "./browser_storage.mjs";
 import { type } from "./terminal.mjs";
 import { step_line } from "./c_source.mjs";
 
@@ -203,9 +204,11 @@ function tell_slider() {
 
 const STEPS = { s: "step", e: "event", c: "call", t: "turn" };
 const LINE_STEPS = { l: "over", i: "into", o: "out" };
+const TAKES_KEYS = "#screen, textarea, input, select, [contenteditable], [role=application], [role=listbox], dialog";
 function key(event) {
   const { target } = event;
-  if (event.ctrlKey || event.metaKey || event.altKey || target.closest("#screen, textarea, input, select, [role=application], dialog")) return;
+  if (!$("letters").checked || event.defaultPrevented || event.isComposing) return;
+  if (event.ctrlKey || event.metaKey || event.altKey || target.closest?.(TAKES_KEYS)) return;
   if (event.key === " " && !target.closest("button, summary, [role=tab]")) { event.preventDefault(); toggle(); return; }
   const what = STEPS[event.key.toLowerCase()];
   if (what) { event.preventDefault(); step(what, event.shiftKey); }
@@ -248,6 +251,8 @@ export function start() {
   $("zoom-all").addEventListener("click", () => { window_.whole = true; tell("zoom"); });
   start_slider();
   addEventListener("keydown", key);
+  on("read", () => { $("letters").checked = kept("letters") !== "off"; });
+  $("letters").addEventListener("change", () => keep("letters", $("letters").checked ? "on" : "off"));
   on("view", () => {
     const { from, to } = range(), { at } = app.view;
     // The window follows the place.
@@ -257,6 +262,7 @@ export function start() {
   });
   on("panels", () => { tell_slider(); tell_stuck(); tell_futures(); });
   on("zoom", () => { if (app.view) show_slider(); });
+  on("replayed", () => { futures = Infinity; });
   on("play", () => ask("play"));
   on("booted", () => {
     Object.assign(go, { busy: false, wanted: -1 });

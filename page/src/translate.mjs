@@ -1,6 +1,6 @@
 // Translate: the bits of an address, the three entries of the page table that it leads to, and the physical address or what refuses it
 // (RISC-V Privileged ISA, "Sv39: Page-Based 39-bit Virtual-Memory System", "Virtual Address Translation Process"); and the last trap.
-import { $, app, ask, element, on, write } from "./app.mjs";
+import { $, app, ask, element, on } from "./app.mjs";
 import { grouped, hex } from "../../anywhere/machine/number_words.mjs";
 import { KIND } from "../../anywhere/machine/machine.mjs";
 import { call_name } from "../../anywhere/machine/calls.mjs";

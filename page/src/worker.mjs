@@ -155,6 +155,8 @@ function view() {
     const { killed } = run;
     if (killed.length !== wanted.killed) told.kills = kills_told(run);
     wanted.killed = killed.length;
+    if (player.futures !== wanted.futures) told.cut_off = player.futures;
+    wanted.futures = player.futures;
     const took = performance.now() - began;
     next_whole = began + took + Math.max(WHOLE, WHOLE_REST * took);
   }
@@ -400,11 +402,12 @@ const obey = {
     postMessage({ record: { config: run.config, files, spans: run.events.spans() } });
   },
   /** Plays a record: its events, one by one. Then it goes to a place of it, and plays on, if that is wanted. */
-  replay({ spans, keys = [], at = null, play: plays = false, ...asked }) {
+  replay({ spans, keys = [], futures = [], at = null, play: plays = false, ...asked }) {
     playing = false;
     no_more();
     if (!boot(asked)) return;
     player.play_spans(spans, keys);
+    player.futures = futures;
     if (at !== null) run.go(at);
     postMessage({ replayed: { end: run.end, stretches: run.line.length, shown: run.shown.length } });
     if (plays) begin_play();

@@ -1,7 +1,7 @@
 // The works: each has the files of an example, of a lesson or of a link, with what was changed of them, the machine's settings and break
 // points. Once something of a work is changed, the browser keeps it under its name.
 import { app, base64, on, say, tell } from "./app.mjs";
-import { forget, keep, kept, names_kept, on_other_tab } from "./browser_storage.mjs";
+import { forget, keep, kept, names_kept, on_conflict } from "./browser_storage.mjs";
 import { problem } from "./messages.mjs";
 import { entry, work_of_kept } from "./outside.mjs";
 
@@ -172,6 +172,6 @@ function part_from_other_tab(name) {
 }
 
 export function start() {
-  on_other_tab(part_from_other_tab);
+  on_conflict(part_from_other_tab);
   on("edited", () => touch());
 }

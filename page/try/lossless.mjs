@@ -2,7 +2,7 @@
 // does, and looks at what the page shows then. With names only these checks are made. The status is 1 if something isn't as it should be.
 import { mkdirSync } from "node:fs";
 import { pathToFileURL } from "node:url";
-import { boot, button, choose, comes, drop, edit, example, files, is_booted, message, pause, source, text_of, type } from "./hand.mjs";
+import { boot, button, choose, comes, drop, edit, example, files, message, pause, source, text_of, type } from "./hand.mjs";
 const { open } = await import(process.env.BROWSER === "firefox" ? "./firefox.mjs" : "./browser.mjs");
 
 const [page_file, folder, ...names] = process.argv.slice(2), url = pathToFileURL(page_file).href;
@@ -43,15 +43,99 @@ async function work(page) {
   holds((await page.eval("page.app.files.find((it) => it.name === 'init.s').text")).includes("mine") && (await message(page)).includes("already"), "a new source under a name that is there is refused");
 }
 
+/** Does something with a store of the browser's database, as another tab does: `it` is the store. */
+const in_store = (page, name, action) => page.eval(`new Promise((done, fail) => {
+  const request = indexedDB.open('nektavoly', 1);
+  request.onerror = () => fail(request.error);
+  request.onsuccess = () => {
+    const asked = request.result.transaction(['${name}'], 'readwrite'), it = asked.objectStore('${name}');
+    let told;
+    asked.oncomplete = () => { request.result.close(); done(told); };
+    const all = it.getAll();
+    all.onsuccess = () => { told = (${action})(all.result, it); };
+  };
+})`);
+const kept_runs = (page) => in_store(page, "runs", "(all) => all.map((it) => ({ id: it.id, work: it.work, name: it.name, length: it.length, at: it.run?.at, futures: it.run?.futures.length }))");
+
 async function two_tabs(page) {
   await example(page, "hello");
   await edit(page, "hi\\n", "mine\\n");
-  await page.sleep(600);
-  const key = await page.eval("Object.keys(localStorage).find((it) => it.endsWith('work hello')) ?? ''");
-  await page.eval(`(() => { const other = localStorage.getItem('${key}')?.replace('mine', 'theirs') ?? '{}'; localStorage.setItem('${key}', other); dispatchEvent(new StorageEvent('storage', { key: '${key}', newValue: other })); })()`);
+  await page.sleep(900);
+  await in_store(page, "values", "(all, it) => { const one = all.find((it) => it.name === 'work hello'), text = JSON.stringify(one.value).replace('mine', 'theirs'); it.put({ ...one, value: JSON.parse(text), version: 'of another tab' }); }");
   await edit(page, "mine", "still mine");
-  await page.sleep(600);
-  holds(await page.eval(`Object.values(localStorage).some((it) => it.includes('theirs')) && Object.values(localStorage).some((it) => it.includes('still mine'))`), "two tabs with one example keep what both have changed");
+  await page.sleep(1500);
+  const texts = await in_store(page, "values", "(all) => all.map((it) => it.name + JSON.stringify(it.value))");
+  holds(texts.some((it) => it.startsWith("work hello{") && it.includes("theirs")) && texts.some((it) => it.startsWith("work hello 2{") && it.includes("still mine")), "two tabs with one example keep what both have changed");
+  holds((await message(page)).includes("is now kept as hello 2"), `which is said: ${await message(page)}`);
+  await example(page, "shell");
+  await page.until("document.getElementById('screen').textContent.includes('$ ')");
+  await type(page, "echo one\n");
+  await page.until("/one\\s+one/.test(document.getElementById('screen').textContent)");
+  await pause(page);
+  await page.sleep(1500);
+  await in_store(page, "runs", "(all, it) => { for (const one of all) it.put({ ...one, owner: 'another tab' }); }");
+  const [before] = await kept_runs(page);
+  await type(page, "echo two\n");
+  await page.until("/two\\s+two/.test(document.getElementById('screen').textContent)");
+  await pause(page);
+  await page.sleep(1500);
+  const runs = await kept_runs(page), there = runs.find((it) => it.id === before.id);
+  holds(runs.length === 2 && there.length === before.length && runs.some((it) => it.id !== before.id && it.length > before.length), `two tabs with one run keep both: ${runs.map((it) => it.length).join(", ")} events`);
+}
+
+/** A run in which something was typed survives links and other examples, and is listed; its futures too. */
+async function runs(page) {
+  await page.until("document.getElementById('screen').textContent.includes('$ ')");
+  await type(page, "echo one two | wc\n");
+  await page.until("document.getElementById('screen').textContent.includes('1 2 8')");
+  await pause(page);
+  await page.sleep(1500);
+  const end = await page.eval("page.app.line.end");
+  await page.go(`${url}?${Math.random()}#example=fork&at=fork`);
+  await comes(page, "document.documentElement.dataset.place === 'there'");
+  await reload(page);
+  holds(await comes(page, `page.app.booted?.work === 'shell' && page.app.line.end === ${end}`), "after a link the run of the last visit is there again");
+  await page.eval("page.ask('go', { place: 3000 })");
+  await page.until("page.app.view?.at === 3000");
+  await type(page, "x");
+  await page.sleep(500);
+  await pause(page);
+  await page.sleep(1500);
+  await reload(page);
+  await comes(page, "page.app.view?.futures?.length === 1");
+  await page.click("#take-back");
+  holds(await comes(page, `page.app.line.end === ${end} && page.app.view?.at === 3000`), "a future that was cut off before a reload is taken back after it");
+  await example(page, "hello");
+  await example(page, "shell");
+  await page.until("document.getElementById('screen').textContent.includes('$ ')");
+  await type(page, "ls\n");
+  await page.sleep(1500);
+  await pause(page);
+  await page.eval("window.prompt = () => 'my first'; window.confirm = () => true");
+  const listed = () => page.eval("[...document.querySelectorAll('#runs tbody tr')].map((it) => it.textContent)");
+  await page.click("#your-runs");
+  await comes(page, "document.querySelectorAll('#runs tbody tr').length === 2");
+  const two = await listed();
+  holds(two.length === 2 && two.some((it) => it.includes("shown now")) && two.every((it) => /shell.*events.*202\d/.test(it)), `your runs: ${two.join("; ")}`);
+  await page.picture(`${folder}/your-runs.png`);
+  await page.eval("[...document.querySelectorAll('#runs tbody tr')].find((it) => !it.textContent.includes('shown now')).querySelector('[aria-label^=Name]').click()");
+  holds(await comes(page, "document.getElementById('runs').textContent.includes('my first')"), "a run has a name");
+  await page.eval("[...document.querySelectorAll('#runs tbody tr')].find((it) => it.textContent.includes('my first')).querySelector('[aria-label^=Open]').click()");
+  holds(await comes(page, `page.app.line.end === ${end}`), "and is opened");
+  await page.sleep(1500);
+  await page.click("#your-runs");
+  await comes(page, "document.querySelectorAll('#runs tbody tr').length === 2");
+  await page.eval("[...document.querySelectorAll('#runs tbody tr')].find((it) => !it.textContent.includes('my first')).querySelector('[aria-label^=Take]').click()");
+  holds(await comes(page, "document.querySelectorAll('#runs tbody tr').length === 1"), "and another is taken away");
+  await page.eval("document.getElementById('dialog').close()");
+}
+
+/** What localStorage had of an earlier page is taken over, once. */
+async function taken_over(page) {
+  await page.eval("(() => { indexedDB.deleteDatabase('nektavoly'); const put = (name, value) => localStorage.setItem('nektavoly ' + name, JSON.stringify(value)); put('work hello', { title: 'hello', example: 'hello', how: {}, files: [{ name: 'init.s', text: '# of an earlier page\\n  ecall\\n', changed: true }], machine: { frames: 4096, order: 'live', quantum: 1000, keys: '' }, breaks: [], gone: [] }); put('now', { work: 'hello', run: null, length: 5, tabs: ['tab-opened'], speed: '0', lesson: { number: -1, answers: {} } }); })()");
+  await page.go(`${url}?${Math.random()}`);
+  holds((await comes(page, "document.getElementById('source').value.includes('of an earlier page')")) && (await page.eval("!document.getElementById('opened').hidden")), "what localStorage had is taken over");
+  holds(await page.eval("!Object.keys(localStorage).some((it) => it.startsWith('nektavoly work'))"), "and stands there no more");
 }
 
 async function run_kept(page) {
@@ -97,10 +181,18 @@ async function chosen_ended(page) {
 async function bad_storage(page) {
   await example(page, "hello");
   await page.sleep(1600);
-  await page.eval("(() => { Storage.prototype.setItem = () => {}; for (const it of [localStorage, sessionStorage]) for (const name of Object.keys(it)) if (name.endsWith(' now')) Object.getPrototypeOf(it).removeItem.call(it, name); })()");
-  await page.eval("(() => { const frame = document.createElement('iframe'); document.body.append(frame); const put = frame.contentWindow.Storage.prototype.setItem; for (const it of [localStorage, sessionStorage]) put.call(it, 'nektavoly now', JSON.stringify({ work: 'hello', run: { built: page.app.booted && PAGE_DATA.built, files: 7, events: 5 } })); })()");
+  const values = ["null", "5", "'x'", "[]", "{}", "{ files: 7, events: 5 }", "{ built: PAGE_DATA.built, files: 7, events: 5 }", "{ built: PAGE_DATA.built, files: [], events: 'Rzzzzzzzzz' }"];
+  for (const run of values) {
+    await in_store(page, "runs", `(all, it) => { it.clear(); it.put({ id: 'bad', owner: '', name: '', when: 1e15, is_own: true, work: 'hello', tabs: 5, lesson: 5, speed: {}, length: 'x', run: ${run} }); }`);
+    await page.eval("sessionStorage.clear()");
+    await page.go(`${url}?${Math.random()}`);
+    holds(await comes(page, "page.app.view && page.app.booted"), `a run that can't be read, ${run}: a machine stands; ${(await page.eval("page.problems()")).join(" ").slice(0, 80)}`);
+  }
+  await in_store(page, "runs", "(all, it) => it.clear()");
+  await in_store(page, "values", "(all, it) => { it.put({ name: 'work shell', version: '1', value: { files: 7 } }); it.put({ name: 'work __proto__', version: '1', value: 5 }); }");
+  await page.eval("sessionStorage.clear()");
   await page.go(`${url}?${Math.random()}`);
-  holds(await comes(page, "document.getElementById('screen').textContent.includes('$ ')"), "storage that can't be read doesn't keep the page from its shell");
+  holds(await comes(page, "document.getElementById('screen').textContent.includes('$ ')"), "works that can't be read don't keep the page from its shell");
 }
 
 async function saved(page) {
@@ -122,14 +214,26 @@ async function lesson(page) {
 }
 
 async function no_storage(page) {
-  await page.eval("Storage.prototype.setItem = () => { throw new Error('full'); }");
-  await example(page, "hello");
-  await edit(page, "hi", "ho");
-  holds(await comes(page, "document.getElementById('status').textContent.includes('keeps nothing')", 4000), "that the browser keeps nothing is said");
+  await type(page, "echo kept\n");
+  await page.until("/kept\\s+kept/.test(document.getElementById('screen').textContent)");
+  await page.sleep(1500);
+  const end = await page.eval("page.app.line.end");
+  await page.eval("IDBObjectStore.prototype.put = () => { throw new DOMException('full', 'QuotaExceededError'); }; Storage.prototype.setItem = ((put) => function (name, value) { if (value.length > 60) throw new DOMException('full', 'QuotaExceededError'); put.call(this, name, value); })(Storage.prototype.setItem)");
+  await type(page, "echo lost\n");
+  await page.until("/lost\\s+lost/.test(document.getElementById('screen').textContent)");
+  holds(await comes(page, "document.getElementById('kept').textContent.includes('not kept')"), "that the browser keeps nothing is said by a lasting mark");
   await page.key("Escape");
-  await edit(page, "ho", "hu");
-  await page.sleep(1800);
-  holds((await message(page)) === "" && (await source(page)).includes("hu"), "it is said once, and the page goes on");
+  await page.key("x");
+  await page.click("#theme");
+  const words = await page.eval("page.problems().join(' ')");
+  holds(words.includes("full") && words.includes("Share"), `and in the list of messages, with what to do: ${words}`);
+  await page.picture(`${folder}/not-kept.png`);
+  await page.sleep(1000);
+  await page.go(`${url}?${Math.random()}`);
+  await comes(page, "page.app.view && page.problems().length");
+  const after = await page.eval("page.problems().join(' ')"), length = await page.eval("page.app.line.end");
+  holds(length >= end - 200 && !(await text_of(page, "screen")).includes("lost") && after.includes("was not kept"), `after a reload it is told truthfully: ${after}`);
+  holds(await comes(page, "document.getElementById('kept').textContent.includes('✓')"), "and all is kept again");
 }
 
 // ---- what is shown
@@ -403,7 +507,7 @@ async function contrast(page) {
   }
 }
 
-const CHECKS = { work, two_tabs, run_kept, run_before, bad_storage, saved, lesson, ended, chosen_ended, only_this_boot, large, bytes, stops, share, deadlock, refusals, keys, rest, contrast, no_storage };
+const CHECKS = { work, two_tabs, run_kept, runs, taken_over, run_before, bad_storage, saved, lesson, ended, chosen_ended, only_this_boot, large, bytes, stops, share, deadlock, refusals, keys, rest, contrast, no_storage };
 for (const [name, check] of Object.entries(CHECKS)) {
   if (names.length && !names.includes(name)) continue;
   const page = await open(url, { width: 1400, height: 950 });

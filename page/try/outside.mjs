@@ -122,11 +122,6 @@ async function files(page) {
 
 // ---- what the page begins with
 
-const KEPT = [
-  "null", "5", "\"x\"", "[]", "{}", "{\"work\":5}", "{\"work\":\"constructor\"}", "{\"work\":\"__proto__\"}", "{\"work\":\"hello\",\"run\":5}",
-  "{\"work\":\"hello\",\"tabs\":5,\"lesson\":{\"answers\":5,\"number\":\"x\"},\"speed\":{}}", "not JSON",
-];
-
 async function begins(page) {
   for (const link of ["example=constructor", "example=fork&frames=16&tab=zzz", "run=AAAA", `run=${await packed(page, {})}`, "tab=zzz", "pid=99"]) {
     await page.go(`${url}?${Math.random()}#${link}`);
