@@ -25,7 +25,9 @@ export const app = {
 const listeners = new Map();
 let part = ""; // the part of the page that is being started, or that hears: what it listens to then is its own
 
-/** Starts a part of the page: if it fails to hear what is told later, that is its own failure, and the others hear it. */
+/**
+ * Starts a part of the page: if it fails to hear what is told later, that is its own failure, and the others hear it.
+ */
 export function start_part(name, start) {
   part = name;
   start();
@@ -114,7 +116,10 @@ const watch = new ResizeObserver((changes) => {
   for (const { target } of changes) sizes.set(target, null);
   requestAnimationFrame(() => tell("resized"));
 });
-/** The size of a canvas on the screen. It is asked for when it has changed alone: to tell it, the browser lays out the page. */
+/**
+ * The size of a canvas on the screen. It is asked for when it has changed alone: to tell it, the browser lays out the
+ * page.
+ */
 function size_of(canvas) {
   if (!sizes.has(canvas)) watch.observe(canvas);
   if (!sizes.get(canvas)) sizes.set(canvas, { width: canvas.clientWidth, height: canvas.clientHeight });
@@ -135,8 +140,9 @@ export function fresh(canvas) {
 }
 
 /**
- * Draws at once, unless the last drawing took long: then only after twice its time, so that the page stays smooth however long the
- * run is. `apart` tells how many milliseconds lie between two drawings at least. The last call is always followed by a drawing.
+ * Draws at once, unless the last drawing took long: then only after twice its time, so that the page stays smooth
+ * however long the run is. `apart` tells how many milliseconds lie between two drawings at least. The last call is
+ * always followed by a drawing.
  */
 export function in_time(draw, apart = () => 0) {
   let next = 0, waits = 0;

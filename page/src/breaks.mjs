@@ -1,5 +1,5 @@
-// Break points: those at lines stand with their files, and the others, at labels, addresses, calls and stores, with the work. Each belongs
-// to a program, and counts while the machine has it.
+// Break points: those at lines stand with their files, and the others, at labels, addresses, calls and stores, with the
+// work. Each belongs to a program, and counts while the machine has it.
 import { $, app, ask, element, on, say, tell } from "./app.mjs";
 import { is_source } from "../../anywhere/machine/file_kinds.mjs";
 import { nearest } from "../../anywhere/machine/line_stops.mjs";

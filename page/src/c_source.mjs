@@ -1,5 +1,5 @@
-// The source of a program in C: its text with the line that is next, break points beside the lines, the calls that led there, and steps
-// by lines.
+// The source of a program in C: its text with the line that is next, break points beside the lines, the calls that led
+// there, and steps by lines.
 import { $, app, ask, element, on, program_name, say, write } from "./app.mjs";
 import { function_at, line_at, name_at } from "../../anywhere/machine/source_places.mjs";
 import { program_of, symbols_of } from "./instruction.mjs";

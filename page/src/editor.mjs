@@ -1,5 +1,6 @@
-// The editor of a source: lines with numbers, words coloured, the refused line marked, the line of the pc, and break points
-// beside the lines. Only the lines that are seen are coloured and numbered, so a key costs the same in a long source.
+// The editor of a source: lines with numbers, words coloured, the refused line marked, the line of the pc, and break
+// points beside the lines. Only the lines that are seen are coloured and numbered, so a key costs the same in a long
+// source.
 import { $, app, ask, on, say, tell } from "./app.mjs";
 import { line_at, places_of } from "../../anywhere/machine/source_places.mjs";
 import { is_elf, is_source } from "../../anywhere/machine/file_kinds.mjs";
@@ -71,7 +72,10 @@ function measure() {
   Object.assign(style, { height, minWidth: width });
 }
 
-/** Whether a line may have a break point. Which lines have instructions is known once the source is assembled: until then it is left open. */
+/**
+ * Whether a line may have a break point. Which lines have instructions is known once the source is assembled: until
+ * then it is left open.
+ */
 const may_stop = (line) => is_source(state.file) && !state.mistake && (state.coded === null || state.coded.has(line));
 
 const row_class = (line) => `row${line === state.pc ? " pc" : ""}${line === state.mistake?.line ? " bad" : ""}`;
@@ -149,7 +153,9 @@ function take_places(places) {
 
 // ---- break points at lines: each stands with its file, and goes with the text of its line
 
-/** Sets a break point at a line, or takes it away; false if the line has no instruction, or the source isn't assembled. */
+/**
+ * Sets a break point at a line, or takes it away; false if the line has no instruction, or the source isn't assembled.
+ */
 function toggle_break(line) {
   const { file, lines } = state, stops = stops_of(file);
   const is_there = stops.some((it) => it.line === line);

@@ -1,4 +1,5 @@
-// The first minute: three things to type, each a button too, the first program to change, and a tour of five steps that can be skipped.
+// The first minute: three things to type, each a button too, the first program to change, and a tour of five steps that
+// can be skipped.
 import { $, app, element, on, say } from "./app.mjs";
 import { keep, kept } from "./browser_storage.mjs";
 import { type } from "./terminal.mjs";

@@ -1,5 +1,6 @@
-// What happened: the events of the run, round the place, with what was asked and answered, who slept and who woke. The worker finds them in
-// its record, with their kinds, processes and answers; the rest is asked of it for the events that are shown, once the machine stands.
+// What happened: the events of the run, round the place, with what was asked and answered, who slept and who woke. The
+// worker finds them in its record, with their kinds, processes and answers; the rest is asked of it for the events that
+// are shown, once the machine stands.
 import { $, app, ask, color_of, element, in_time, on, once, program_name, say, write } from "./app.mjs";
 import { grouped } from "../../anywhere/machine/number_words.mjs";
 import { KIND } from "../../anywhere/machine/machine.mjs";

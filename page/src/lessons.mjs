@@ -1,4 +1,5 @@
-// Lessons: a text, a program, and questions. What is right is not written here: the machine runs the program, and tells.
+// Lessons: a text, a program, and questions. What is right is not written here: the machine runs the program, and
+// tells.
 import { $, app, ask, element, on, once, tell } from "./app.mjs";
 import { KIND } from "../../anywhere/machine/machine.mjs";
 import { help_of } from "./manual.mjs";
@@ -9,7 +10,10 @@ const DATA = globalThis.PAGE_DATA;
 
 // ---- the machine as a judge
 
-/** Boots files, those of the lesson's copy if no others are given, with some of the machine's settings changed; null, or the refusal. */
+/**
+ * Boots files, those of the lesson's copy if no others are given, with some of the machine's settings changed; null, or
+ * the refusal.
+ */
 async function boot(changes = {}, files = app.files) {
   const heard = once("booted", "refused");
   await programs.boot({ play: false, files, machine: { ...app.work.machine, ...changes } });
@@ -19,7 +23,10 @@ async function boot(changes = {}, files = app.files) {
   return null;
 }
 
-/** The lesson's program as it was shipped: a question about it is not about what was changed. What wasn't changed is the file of the list. */
+/**
+ * The lesson's program as it was shipped: a question about it is not about what was changed. What wasn't changed is the
+ * file of the list.
+ */
 const shipped = (lesson) => shipped_files(lesson.example).map((it) => app.files.find((own) => own.name === it.name && own.text === it.text) ?? it);
 const boot_shipped = (lesson, changes = {}) => boot({ ...machine_of(lesson.how), ...changes }, shipped(lesson));
 
@@ -75,9 +82,9 @@ const is_number = (truth) => (given) => numbers(given).length === 1 && numbers(g
 const is_list = (truth) => (given) => numbers(given).join(" ") === truth.join(" ");
 
 /**
- * A question's `judge` answers {right, words, tried, place}: whether the answer is right, by what the machine did; words that are told
- * only if it is; what came of what was tried, for an answer that isn't; and the event to look at. It is called after the lesson's
- * program has run to its end, unless `alone`.
+ * A question's `judge` answers {right, words, tried, place}: whether the answer is right, by what the machine did;
+ * words that are told only if it is; what came of what was tried, for an answer that isn't; and the event to look at.
+ * It is called after the lesson's program has run to its end, unless `alone`.
  */
 const LESSONS = [
   {

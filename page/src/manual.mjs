@@ -1,4 +1,5 @@
-// The manual inside the page: its pages as HTML (build/manual.py makes them), the help of a panel, and links that lead to both.
+// The manual inside the page: its pages as HTML (build/manual.py makes them), the help of a panel, and links that lead
+// to both.
 import { $, app, element, on } from "./app.mjs";
 import { words_of } from "./outside.mjs";
 import { unpacked } from "./packed_texts.mjs";

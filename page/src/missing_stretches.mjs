@@ -1,5 +1,5 @@
-// What the page wants of a long record, of which it has only so much: all stretches round the place where the machine stands, and of the part
-// that is shown large. The worker has them, or makes them again.
+// What the page wants of a long record, of which it has only so much: all stretches round the place where the machine
+// stands, and of the part that is shown large. The worker has them, or makes them again.
 import { app, ask, on } from "./app.mjs";
 import { range, window_ } from "./time.mjs";
 

@@ -1,4 +1,5 @@
-// The page table of a process, three levels as a tree (RISC-V Privileged ISA, "Sv39"), and the map of all frames of RAM.
+// The page table of a process, three levels as a tree (RISC-V Privileged ISA, "Sv39"), and the map of all frames of
+// RAM.
 import { $, app, ask, color_of, element, fresh, on, style_of, tell, write } from "./app.mjs";
 import { hex } from "../../anywhere/machine/number_words.mjs";
 

@@ -1,5 +1,6 @@
-// A link to a place: what it names behind its #, the way there, and the link that leads to what is shown now. A place is an example, a
-// lesson or a run, an event of it, a process and a panel; `?embed` and `view=lecture` say how it is shown.
+// A link to a place: what it names behind its #, the way there, and the link that leads to what is shown now. A place
+// is an example, a lesson or a run, an event of it, a process and a panel; `?embed` and `view=lecture` say how it is
+// shown.
 import { $, app, ask, once } from "./app.mjs";
 import { grouped } from "../../anywhere/machine/number_words.mjs";
 import { CALL, WHAT } from "../../anywhere/machine/event_search.mjs";
@@ -41,7 +42,9 @@ export function read_link(hash) {
   return words;
 }
 
-/** The machine's settings that a link names, over those of the example; a place is one in rounds, the same each time. */
+/**
+ * The machine's settings that a link names, over those of the example; a place is one in rounds, the same each time.
+ */
 function how_of(example, { frames, rounds, keys, at }) {
   const how = { ...example_of(example) };
   const typed = keys === undefined ? how.keys : new TextDecoder().decode(programs.keys_of(keys));
@@ -129,7 +132,10 @@ export function seen_now() {
   return String(words);
 }
 
-/** A short link to what is shown: if its run is one of an example as it was shipped, in rounds, whose keys were typed at the start. Else null. */
+/**
+ * A short link to what is shown: if its run is one of an example as it was shipped, in rounds, whose keys were typed at
+ * the start. Else null.
+ */
 export function short_place() {
   const { work, booted, view } = app, { example, machine } = work;
   const name = example ?? Object.keys(DATA.examples).find((it) => work.name === `${it}, as a link has it`);

@@ -88,7 +88,10 @@ function fitting(all, most, at) {
   return all.filter((it) => distance(it) < limit || (distance(it) === limit && room-- > 0));
 }
 
-/** The last stretch of a bar that begins with a stretch of a process: the next one may begin so many events behind the one before. */
+/**
+ * The last stretch of a bar that begins with a stretch of a process: the next one may begin so many events behind the
+ * one before.
+ */
 function end_of_bar(own, first, apart) {
   const { line } = app;
   for (let last = first; ; ) {
@@ -101,7 +104,10 @@ function end_of_bar(own, first, apart) {
   }
 }
 
-/** The bars of a process, and lines while it sleeps. Stretches that stand less than a pixel apart are one bar: so a long run is drawn as fast as a short one. */
+/**
+ * The bars of a process, and lines while it sleeps. Stretches that stand less than a pixel apart are one bar: so a long
+ * run is drawn as fast as a short one.
+ */
 function draw_bars(draw, pid, { from, to, scale, x_of, bar }, top) {
   const { line } = app, own = line.work_of.get(pid) ?? [];
   // The stretch before the first one tells whether it sleeps at the beginning of the part that is shown.

@@ -1,4 +1,5 @@
-// The files of the machine: the list of a work's files, examples by name, files that are opened or dropped, the machine's settings; boot.
+// The files of the machine: the list of a work's files, examples by name, files that are opened or dropped, the
+// machine's settings; boot.
 import { $, app, ask, element, on, say, tell } from "./app.mjs";
 import { file_of_bytes, file_of_source, name_first } from "../../anywhere/machine/program_files.mjs";
 import { is_table } from "../../anywhere/machine/line_tables.mjs";
@@ -107,7 +108,10 @@ function show_work() {
   tell("work", work);
 }
 
-/** Opens the work of a name, with the file that was shown last; false where there is none. `fresh` tells what it is if nothing of it is kept. */
+/**
+ * Opens the work of a name, with the file that was shown last; false where there is none. `fresh` tells what it is if
+ * nothing of it is kept.
+ */
 export function open_work(name, fresh, shown) {
   const work = work_of(name, fresh);
   if (!work) return false;
@@ -187,7 +191,10 @@ const of_bytes = (name, bytes, from) => {
 /** What belongs to a program and is no file of the machine: the table of its lines. */
 const stands_beside = (file) => file.name.endsWith(".lines") && is_table(file.text);
 
-/** The file of the machine that a file of the list is: {name, bytes, from, text, symbols}. `mistake`: what is wrong with its source. */
+/**
+ * The file of the machine that a file of the list is: {name, bytes, from, text, symbols}. `mistake`: what is wrong with
+ * its source.
+ */
 export async function made_of(file) {
   if (file.text === undefined) return of_bytes(file.name, bytes_of_file(file), file);
   if (!is_source(file)) return of_bytes(file.name, new TextEncoder().encode(file.text), file);
@@ -255,7 +262,9 @@ export async function made_of_all(list) {
   return files;
 }
 
-/** Assembles the sources, and boots a machine of all files: of the work's, or of others. Tells whether it was asked for. */
+/**
+ * Assembles the sources, and boots a machine of all files: of the work's, or of others. Tells whether it was asked for.
+ */
 export async function boot({ play = true, files = app.files, machine = app.work.machine } = {}) {
   const made = await made_of_all(files);
   if (made) tell("leave");

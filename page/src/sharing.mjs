@@ -18,7 +18,10 @@ const MOST_STRETCHES = 1000000;
 
 // ---- the run that the page has, as a value that can be kept
 
-/** The run of the machine, up to where its record goes: its files, settings and events, and the place; null if there is none, or it is too long. `is_whole`: with all its files, also those of the list. */
+/**
+ * The run of the machine, up to where its record goes: its files, settings and events, and the place; null if there is
+ * none, or it is too long. `is_whole`: with all its files, also those of the list.
+ */
 export function run_now(is_whole = false) {
   const { booted, view, events } = app;
   if (!booted || !view || view.end > MOST_EVENTS || view.stretches > MOST_STRETCHES) return null;
@@ -68,7 +71,10 @@ async function packed(value) {
   return base64.to(bytes).replace(/\+/g, "-").replace(/\//g, "_").replace(/=+$/, "");
 }
 
-/** What a link has: the sources, the names of the built-in programs, the machine, break points, and the run with its keys and its place. */
+/**
+ * What a link has: the sources, the names of the built-in programs, the machine, break points, and the run with its
+ * keys and its place.
+ */
 function shared() {
   const { work } = app, { frames, order, quantum, keys } = work.machine;
   const files = work.files.map((file) => (file.text !== undefined ? [file.name, file.text] : file.built_in ? [file.name] : [file.name, null, base64.to(bytes_of_file(file))]));
@@ -88,7 +94,10 @@ async function name_of(text) {
   return name;
 }
 
-/** The files of a work that are those of what was shared; it throws if the page hasn't a program of its own that is named. */
+/**
+ * The files of a work that are those of what was shared; it throws if the page hasn't a program of its own that is
+ * named.
+ */
 function files_of_shared({ files }) {
   const missing = files.find((it) => it.built_in && !unpacked_file(it));
   if (missing) throw new Error(`it wants the program ${missing.name}, which this page hasn't`);
@@ -110,7 +119,10 @@ async function open(packed_text) {
   return is_there;
 }
 
-/** Does what a link or a file leads to. If it leads nowhere, what was open before is open again, and that is said: false. */
+/**
+ * Does what a link or a file leads to. If it leads nowhere, what was open before is open again, and that is said:
+ * false.
+ */
 async function attempt(what, action, in_its_place) {
   const before = app.work;
   let why = "no machine is booted of it";

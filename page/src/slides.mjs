@@ -1,10 +1,13 @@
-// Slides: a place for the point of each lecture of the course (docs/COURSE.md), by the link that leads there, and the view for a lecture:
-// large letters, arrow keys, and nothing else.
+// Slides: a place for the point of each lecture of the course (docs/COURSE.md), by the link that leads there, and the
+// view for a lecture: large letters, arrow keys, and nothing else.
 import { $, app, ask, element, on, write } from "./app.mjs";
 import { event_words, step, toggle } from "./time.mjs";
 import { is_lecture, set_view } from "./place_links.mjs";
 
-/** What each slide shows, and the link that leads there. (\x10 is Ctrl-P, which the console passes over: while it comes, the shell prompts.) */
+/**
+ * What each slide shows, and the link that leads there. (\x10 is Ctrl-P, which the console passes over: while it comes,
+ * the shell prompts.)
+ */
 export const SLIDES = [
   ["A call is one instruction: ecall, and the kernel answers in a0", "example=trace&rounds=6&at=uptime&tab=instruction"],
   ["fork answers twice: the child's pid in the parent, 0 in the child", "example=fork&rounds=1000&at=fork&tab=instruction&pid=2"],

@@ -62,7 +62,10 @@ function draw() {
   shown.drawn = true;
 }
 
-/** Tells readers of the screen the whole lines that came, the last ones if they are many: when the machine waits, or stands. */
+/**
+ * Tells readers of the screen the whole lines that came, the last ones if they are many: when the machine waits, or
+ * stands.
+ */
 function tell_lines() {
   const { view } = app;
   // Back in the run there are fewer.

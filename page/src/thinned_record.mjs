@@ -1,6 +1,7 @@
-// The record as the page has it: the last stretches, and those of the parts that are looked at; of the rest only so many that a picture of
-// the whole run has all that can be seen. The worker has the others. There are lists of the stretches of each process, and of those that a
-// picture marks, which finds the next one that it has room for by halving such a list: so it takes the same time however many there are.
+// The record as the page has it: the last stretches, and those of the parts that are looked at; of the rest only so
+// many that a picture of the whole run has all that can be seen. The worker has the others. There are lists of the
+// stretches of each process, and of those that a picture marks, which finds the next one that it has room for by
+// halving such a list: so it takes the same time however many there are.
 import { KIND } from "../../anywhere/machine/machine.mjs";
 import { COLUMNS, Timeline } from "../../anywhere/machine/timeline.mjs";
 import { Lives } from "../../anywhere/machine/process_lives.mjs";
@@ -106,9 +107,9 @@ export class ThinnedRecord extends Timeline {
   }
 
   /**
-   * Which of some stretches are left: those of the parts, and those that are as long as a grain; of a grain the first call, else the first
-   * instructions, else the first; and of a cell the first of each kind and of each process, and the last of a process, if it falls asleep there
-   * and the one before that is left does not, or the other way round.
+   * Which of some stretches are left: those of the parts, and those that are as long as a grain; of a grain the first
+   * call, else the first instructions, else the first; and of a cell the first of each kind and of each process, and
+   * the last of a process, if it falls asleep there and the one before that is left does not, or the other way round.
    */
   left(some) {
     const { at, pid, kind, cell, grain } = this, count = this.lives.most + 1, cells = new Int32Array(count).fill(-1), last = new Int32Array(count).fill(-1), held = new Int32Array(count);
@@ -133,7 +134,9 @@ export class ThinnedRecord extends Timeline {
     return some.filter((k) => is_left[k]);
   }
 
-  /** Takes all stretches of a part of which some are here; the part of this name before is thinned out with the next. */
+  /**
+   * Takes all stretches of a part of which some are here; the part of this name before is thinned out with the next.
+   */
   take_part(name, part) {
     const { start: from, end: to } = part;
     this.parts.delete(name);

@@ -1,5 +1,6 @@
-// Translate: the bits of an address, the three entries of the page table that it leads to, and the physical address or what refuses it
-// (RISC-V Privileged ISA, "Sv39: Page-Based 39-bit Virtual-Memory System", "Virtual Address Translation Process"); and the last trap.
+// Translate: the bits of an address, the three entries of the page table that it leads to, and the physical address or
+// what refuses it (RISC-V Privileged ISA, "Sv39: Page-Based 39-bit Virtual-Memory System", "Virtual Address Translation
+// Process"); and the last trap.
 import { $, app, ask, element, on } from "./app.mjs";
 import { grouped, hex } from "../../anywhere/machine/number_words.mjs";
 import { KIND } from "../../anywhere/machine/machine.mjs";
@@ -22,7 +23,10 @@ const ACCESS = { fetch: { bit: X, name: "X", cause: 12 }, load: { bit: R, name: 
 const entry_of = (frame, flags) => ((FIRST + BigInt(frame)) << 10n) | BigInt(flags);
 const physical = (frame) => (FIRST + BigInt(frame)) * PAGE;
 
-/** The three steps of the walk: {level, index, table, at, entry, flags, frame}; the last one has no entry if V is 0 there. */
+/**
+ * The three steps of the walk: {level, index, table, at, entry, flags, frame}; the last one has no entry if V is 0
+ * there.
+ */
 function steps_of({ page, way, rights, frame }) {
   const indexes = [Math.floor(page / 262144) % 512, Math.floor(page / 512) % 512, page % 512];
   const tables = [way.root, way.middle, way.last], leads = [way.middle, way.last, null], found = [];

@@ -1,5 +1,5 @@
-// Why: each fault and each kill of the run, who sleeps on what and who could wake it, and who has ended without being waited for, in the
-// words of the proved report (crates/xv_report).
+// Why: each fault and each kill of the run, who sleeps on what and who could wake it, and who has ended without being
+// waited for, in the words of the proved report (crates/xv_report).
 import { $, app, ask, element, on, tell, write } from "./app.mjs";
 import { grouped, hex } from "../../anywhere/machine/number_words.mjs";
 import { last_event } from "./happened.mjs";
@@ -9,7 +9,9 @@ import * as editor from "./editor.mjs";
 
 let drawn = "";
 
-/** Goes to a place, at which a process of this program is next, and opens its source, in which its line is marked then. */
+/**
+ * Goes to a place, at which a process of this program is next, and opens its source, in which its line is marked then.
+ */
 function go_and_show(place, program) {
   ask("go", { place });
   $("follow").checked = true;
@@ -41,7 +43,10 @@ async function see_sleep({ pid, program }) {
 const texts = new Map(); // the reports of faults and kills, by their places
 let texts_of = "", asked = new Set();
 
-/** The report of a fault or a kill, with what is known of its program's source: asked for once; till then as the view has it, without lines. */
+/**
+ * The report of a fault or a kill, with what is known of its program's source: asked for once; till then as the view
+ * has it, without lines.
+ */
 function report_of({ at, told }) {
   const key = `${app.booted.id} ${app.view.edits}`;
   if (texts_of !== key) { texts_of = key; texts.clear(); asked = new Set(); }
@@ -66,7 +71,10 @@ function kill_told(it) {
     element("p", {}, element("button", { onclick: () => go_and_show(it.call, it.told.program) }, "Go to the call"), " ", element("span", { class: "dim" }, `event ${grouped(it.at)}`)));
 }
 
-/** A sleeper in the words of the report: in which call it sleeps and on what, and who could wake it; or one that nobody has waited for. */
+/**
+ * A sleeper in the words of the report: in which call it sleeps and on what, and who could wake it; or one that nobody
+ * has waited for.
+ */
 function sleeper_told(it) {
   const { wait } = it, [, words, more = ""] = /^(.*?)(?:[:;] (.*))?$/.exec(wait ?? "");
   return element("div", { class: "sleeper" }, element("div", {}, element("b", {}, words)), more ? element("div", {}, more) : null, it.lives ? element("button", { onclick: () => see_sleep(it) }, "Go to the call") : null);

@@ -1,5 +1,5 @@
-// The works: each has the files of an example, of a lesson or of a link, with what was changed of them, the machine's settings and break
-// points. Once something of a work is changed, the browser keeps it under its name.
+// The works: each has the files of an example, of a lesson or of a link, with what was changed of them, the machine's
+// settings and break points. Once something of a work is changed, the browser keeps it under its name.
 import { app, base64, on, say, tell } from "./app.mjs";
 import { forget, keep, kept, names_kept, on_conflict } from "./browser_storage.mjs";
 import { problem } from "./messages.mjs";
@@ -155,7 +155,9 @@ export function ship_anew() {
   forget(`work ${work.name}`);
 }
 
-/** Another tab has changed the work that is open here too: from now on the one of this tab is kept under another name. */
+/**
+ * Another tab has changed the work that is open here too: from now on the one of this tab is kept under another name.
+ */
 function part_from_other_tab(name) {
   const { work } = app;
   if (name !== `work ${work.name}` || !work.is_touched) return;

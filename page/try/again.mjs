@@ -1,6 +1,7 @@
-// again.mjs MODULE.wasm PROGRAMS-FOLDER: whether what the page no longer holds of a run is made again as it was: the blocks of the worker's
-// record; the sums of instructions; the events' text; how many bytes are shown at a place; and of the page's own record the parts that it
-// asks for, with the lives of the processes. It keeps a whole record beside, as plain lists. The status is 1 if something differs.
+// again.mjs MODULE.wasm PROGRAMS-FOLDER: whether what the page no longer holds of a run is made again as it was: the
+// blocks of the worker's record; the sums of instructions; the events' text; how many bytes are shown at a place; and
+// of the page's own record the parts that it asks for, with the lives of the processes. It keeps a whole record beside,
+// as plain lists. The status is 1 if something differs.
 import { readFileSync } from "node:fs";
 import { KIND, Machine } from "../../anywhere/machine/machine.mjs";
 import { call_name } from "../../anywhere/machine/calls.mjs";

@@ -1,6 +1,7 @@
-// asked.mjs PAGE.html FOLDER [NAME..]: whether links lead to the places that they name, and what is told of events, addresses and traps is
-// so; the first minute, and the manual inside the page. It takes pictures: desktop and phone, light and dark. With names only these
-// checks are made. The status is 1 if something isn't as it should be. With BROWSER=firefox in Firefox.
+// asked.mjs PAGE.html FOLDER [NAME..]: whether links lead to the places that they name, and what is told of events,
+// addresses and traps is so; the first minute, and the manual inside the page. It takes pictures: desktop and phone,
+// light and dark. With names only these checks are made. The status is 1 if something isn't as it should be. With
+// BROWSER=firefox in Firefox.
 import { mkdirSync, readFileSync } from "node:fs";
 import { pathToFileURL } from "node:url";
 import { boot, comes, example, files, message, pause, source, text_of, type } from "./hand.mjs";
@@ -31,7 +32,10 @@ const EXIT = "  li a0, 7\n  li a7, 2\n  ecall\n";
 
 // ---- links
 
-/** What each of the twelve slides must show: the place, if no program in C is in it, the panel, and words that stand there. */
+/**
+ * What each of the twelve slides must show: the place, if no program in C is in it, the panel, and words that stand
+ * there.
+ */
 const SLIDES = [
   [80, "instruction", /uptime answers 2/], [3, "instruction", /Process 2/], [null, "opened", /the write end of the pipe/], [49, "why", /nobody can go on/i],
   [1, "pages", /51 pages of 51/], [1, "translate", /Bit U refuses/], [3, "why", /which is no multiple of/], [5, "pages", /3 pages of/],
@@ -221,8 +225,7 @@ async function reverse(page) {
   await comes(page, "document.getElementById('status').textContent.includes('about to fault')");
   const told = await message(page);
   await page.eval("show_tab('instruction')");
-  await page.sleep(500);
-  holds((await page.eval("document.querySelector('#code .pc').textContent")).includes("lw a0, 2(sp)") && told.includes("about to fault"), `back to the last fault: ${told}`);
+  holds((await comes(page, "document.querySelector('#code .pc')?.textContent.includes('lw a0, 2(sp)')")) && told.includes("about to fault"), `back to the last fault: ${told}`);
   await page.click("#back-break");
   await comes(page, "document.getElementById('status').textContent.includes('no break points')");
   holds((await message(page)).includes("There are no break points"), "without break points that is said");
@@ -260,16 +263,16 @@ async function translate(page) {
   await page.sleep(500);
   holds((await shown(page)) === "translate" && (await page.eval("document.getElementById('translated-address').value")) === "sp", "a click on a register translates it");
   await follow(page, "example=shell&at=asleep.2&tab=translate");
-  await page.sleep(500);
+  await comes(page, "document.getElementById('translate-told').textContent.includes('The trapframe is frame')");
   const trap = await translated(page);
   holds(/scause\s*8\s*Environment call/.test(trap) && /sepc\s*0x/.test(trap) && /stval\s*0x0/.test(trap) && trap.includes("The trapframe is frame"), "the trap of a call: scause, sepc, stval and the trapframe");
   await files(page, [{ name: "init.s", text: `  li t0, 0x5008\n  sd t0, 0(t0)\n${EXIT}` }], "{ rounds: true, quantum: 1000 }");
   await boot(page);
   await page.until("page.app.view?.facts.halted");
   await page.eval("show_tab('why')");
-  await page.sleep(400);
+  await why_tells(page, "Translate its address");
   await page.eval("[...document.querySelectorAll('#why-told button')].find((it) => it.textContent === 'Translate its address').click()");
-  await page.sleep(900);
+  await comes(page, "document.getElementById('translate-told').textContent.includes('cause 15')");
   const fault = await translated(page);
   holds((await page.eval("document.getElementById('translated-address').value")) === "0x5008" && fault.includes("Bit V refuses") && fault.includes("cause 15"), "the address of a fault that happened");
   await page.eval("page.ask('step', { what: 'step', back: false })");

@@ -1,5 +1,5 @@
-// back.mjs MODULE.wasm PROGRAMS-FOLDER: goes to and fro in a run, as the page does by copies of the module's memory, and compares
-// each place with what the proved `back_to` gives there, and with how the machine stood there on the way.
+// back.mjs MODULE.wasm PROGRAMS-FOLDER: goes to and fro in a run, as the page does by copies of the module's memory,
+// and compares each place with what the proved `back_to` gives there, and with how the machine stood there on the way.
 import { readFileSync } from "node:fs";
 import { EVENT, Machine } from "../../anywhere/machine/machine.mjs";
 import { Plan } from "../../anywhere/machine/plan.mjs";
@@ -14,7 +14,10 @@ const random = (below) => Math.floor(((seed = (Math.imul(seed, 1103515245) + 123
 const holds = (is, what) => { if (!is) { console.log(`not so: ${what}`); bad++; } };
 
 const CLOSE = 20000, NONE = 1e12;
-/** Boots, and types. Copies along the run are close together, so they are many, and are thinned out; or there is none but the first. */
+/**
+ * Boots, and types. Copies along the run are close together, so they are many, and are thinned out; or there is none
+ * but the first.
+ */
 function boot(keys, spacing) {
   run.boot(config, files);
   run.copies.begin(spacing);
@@ -42,7 +45,10 @@ function told(machine, bytes = 20000) {
   return JSON.stringify(all, (_, it) => (typeof it === "bigint" ? String(it) : it));
 }
 
-/** Sends the events of the record to the other machine, and calls what is to be called at each of these places, which go up. */
+/**
+ * Sends the events of the record to the other machine, and calls what is to be called at each of these places, which go
+ * up.
+ */
 function on_the_way(places, call) {
   let at = 0, next = 0;
   const stops = () => { while (next < places.length && places[next] === at) call(places[next++]); };

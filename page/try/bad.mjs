@@ -44,7 +44,8 @@ machine.calls.xv_page_boot(machine.session, machine.programs, 512, 0, machine.to
 is(machine.view().getUint32(machine.at, true), 3, "boot without programs");
 is(JSON.stringify(machine.facts()), before, "the machine behind it");
 
-// Numbers that name nothing: of each kind the first behind the last that there is, and those that a byte or 32 bits would cut to one that there is.
+// Numbers that name nothing: of each kind the first behind the last that there is, and those that a byte or 32 bits
+// would cut to one that there is.
 const NOTHING = "nothing is of this number";
 const calls = {
   "event": (kind) => machine.event(kind),

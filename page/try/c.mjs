@@ -1,7 +1,7 @@
-// c.mjs PAGE.html FOLDER [NAME..]: programs in C, as one who reads their source would try them: lines, calls, steps by lines and back, break
-// points at lines, a dropped program with the table of its lines; the reports of Why; and how fast the machine runs beside break points.
-// It takes pictures: desktop and phone, light and dark. With names only these checks are made. The status is 1 if something isn't as
-// it should be. With BROWSER=firefox in Firefox.
+// c.mjs PAGE.html FOLDER [NAME..]: programs in C, as one who reads their source would try them: lines, calls, steps by
+// lines and back, break points at lines, a dropped program with the table of its lines; the reports of Why; and how
+// fast the machine runs beside break points. It takes pictures: desktop and phone, light and dark. With names only
+// these checks are made. The status is 1 if something isn't as it should be. With BROWSER=firefox in Firefox.
 import { spawnSync } from "node:child_process";
 import { mkdirSync, mkdtempSync, readFileSync, rmSync, writeFileSync } from "node:fs";
 import { tmpdir } from "node:os";

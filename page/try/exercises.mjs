@@ -7,7 +7,8 @@ async function press(page, button) {
   const before = await at(page);
   await page.click(button);
   await page.until(`page.app.view?.at !== ${before} && !page.app.view?.playing`);
-  await page.sleep(60);
+  // (Two frames later it is drawn, however busy the host is.)
+  await page.eval("new Promise((done) => requestAnimationFrame(() => requestAnimationFrame(() => done(true))))");
 }
 const call = (page) => press(page, "[data-step=call]");
 

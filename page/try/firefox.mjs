@@ -1,4 +1,5 @@
-// A page in a headless Firefox, driven by its Marionette protocol, with the same calls as browser.mjs: open, type, press, evaluate, picture.
+// A page in a headless Firefox, driven by its Marionette protocol, with the same calls as browser.mjs: open, type,
+// press, evaluate, picture.
 import { spawn } from "node:child_process";
 import { mkdtempSync, readFileSync, rmSync, writeFileSync } from "node:fs";
 import { connect } from "node:net";

@@ -1,7 +1,8 @@
-// flat.mjs PAGE.html [COMMANDS]: whether the page's memory stays flat. It types so many commands (1200: one each 3 seconds, for an hour) into
-// the shell in Chromium as fast as the machine goes on, with 30 ticks for each, and tells after each tenth how much memory there is behind a
-// collection of garbage: of the page's JavaScript and of its worker's, with their arrays but without the copies, which have a bound of their
-// own; and of the module. The status is 1 if the page's or the worker's grows by more than a bound after the second tenth.
+// flat.mjs PAGE.html [COMMANDS]: whether the page's memory stays flat. It types so many commands (1200: one each 3
+// seconds, for an hour) into the shell in Chromium as fast as the machine goes on, with 30 ticks for each, and tells
+// after each tenth how much memory there is behind a collection of garbage: of the page's JavaScript and of its
+// worker's, with their arrays but without the copies, which have a bound of their own; and of the module. The status is
+// 1 if the page's or the worker's grows by more than a bound after the second tenth.
 import { pathToFileURL } from "node:url";
 import { open } from "./browser.mjs";
 

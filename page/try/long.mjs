@@ -1,6 +1,7 @@
-// long.mjs PAGE.html MINUTES [SECONDS]: attends to the shell in Chromium for so long, a command every so many seconds (3), and tells each half
-// minute how much memory there is: the JavaScript of the page and of its worker behind a collection of garbage, the module's memory, the
-// copies, all that the host gave the page's process, and how long the record is. It ends with the status 1 if the module's memory or the copies don't stay within their bounds.
+// long.mjs PAGE.html MINUTES [SECONDS]: attends to the shell in Chromium for so long, a command every so many seconds
+// (3), and tells each half minute how much memory there is: the JavaScript of the page and of its worker behind a
+// collection of garbage, the module's memory, the copies, all that the host gave the page's process, and how long the
+// record is. It ends with the status 1 if the module's memory or the copies don't stay within their bounds.
 import { pathToFileURL } from "node:url";
 import { open } from "./browser.mjs";
 

@@ -1,5 +1,5 @@
-// look.mjs PAGE.html FOLDER [NAME..]: tries the page in Chromium as a student would, and takes pictures of each panel into FOLDER. It
-// ends with the status 1 where something isn't as it should be. With names only these parts are tried.
+// look.mjs PAGE.html FOLDER [NAME..]: tries the page in Chromium as a student would, and takes pictures of each panel
+// into FOLDER. It ends with the status 1 where something isn't as it should be. With names only these parts are tried.
 import { mkdirSync } from "node:fs";
 import { pathToFileURL } from "node:url";
 import { full, sieve } from "./exercises.mjs";
@@ -73,7 +73,10 @@ async function programs(page) {
 
 const message = (page) => page.eval("(() => { const it = document.getElementById('status'), box = it.getBoundingClientRect(); return box.height > 10 && box.left >= 0 && box.right <= innerWidth && box.top >= 0 && box.bottom <= innerHeight ? it.textContent : ''; })()");
 
-/** A file is asked for by a button, a message is seen and goes, a form of memory and a break point are chosen, all by keys. */
+/**
+ * A file is asked for by a button, a message is seen and goes, a form of memory and a break point are chosen, all by
+ * keys.
+ */
 async function keys(page) {
   await page.eval("window.is_asked = 0; document.getElementById('file').addEventListener('click', (event) => { event.preventDefault(); window.is_asked++; })");
   for (const button of ["#open-file", "#files button:last-child"]) { await page.eval(`document.querySelector('${button}').focus()`); await page.key("Enter"); }
@@ -150,7 +153,8 @@ async function share(page) {
   await other.close();
 }
 
-// What a student answers to each question; an edit of the source, where a program is to be mended; null where it is left out.
+// What a student answers to each question; an edit of the source, where a program is to be mended; null where it is
+// left out.
 const CLOSES = ["  li s0, 0\n", "  lw a0, -12(sp)\n  li a7, 21\n  ecall\n  li s0, 0\n"];
 const CHAIN = ["  ecall\n  ecall\n  ecall\n  li s0, 1\n", "  li s1, 7\nfork:\n  li a7, 1\n  ecall\n  bne a0, x0, parent\n  addi s1, s1, -1\n  bne s1, x0, fork\nparent:\n  li s0, 1\n"];
 const LESSONS = [["2", "-1", "its load faults", "10"], ["8", "5", "8", CHAIN], ["1", "5", CLOSES], ["51", "55", "55"], ["1 2 3 1 2 3", null, null], ["7", "2 1 2 2 3", "17"]];

@@ -1,5 +1,6 @@
-// lossless.mjs PAGE.html FOLDER [NAME..]: whether on the page nothing is lost, and nothing wrong is shown: each check does what a student
-// does, and looks at what the page shows then. With names only these checks are made. The status is 1 if something isn't as it should be.
+// lossless.mjs PAGE.html FOLDER [NAME..]: whether on the page nothing is lost, and nothing wrong is shown: each check
+// does what a student does, and looks at what the page shows then. With names only these checks are made. The status is
+// 1 if something isn't as it should be.
 import { mkdirSync } from "node:fs";
 import { pathToFileURL } from "node:url";
 import { boot, button, choose, comes, drop, edit, example, files, message, pause, source, text_of, type } from "./hand.mjs";

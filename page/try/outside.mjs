@@ -1,6 +1,6 @@
-// outside.mjs PAGE.html FOLDER [NAME..]: a hundred bad links, files, records, tables and kept values: after each of them
-// a machine stands, what was wrong is said in the list of messages, and the page has no error. With names only these
-// parts are tried. The status is 1 if something isn't as it should be.
+// outside.mjs PAGE.html FOLDER [NAME..]: a hundred bad links, files, records, tables and kept values: after each of
+// them a machine stands, what was wrong is said in the list of messages, and the page has no error. With names only
+// these parts are tried. The status is 1 if something isn't as it should be.
 import { mkdirSync } from "node:fs";
 import { pathToFileURL } from "node:url";
 import { comes, drop, example, is_booted, type } from "./hand.mjs";

@@ -1,5 +1,6 @@
-// seek.mjs MODULE.wasm PROGRAMS: whether the searches back in a run find what going through it event by event finds: the last store to an
-// address, and the last stop of a break point; and whether a link's place is reached at the same event each time. The status is 1 if not.
+// seek.mjs MODULE.wasm PROGRAMS: whether the searches back in a run find what going through it event by event finds:
+// the last store to an address, and the last stop of a break point; and whether a link's place is reached at the same
+// event each time. The status is 1 if not.
 import { readFileSync } from "node:fs";
 import { Machine, EVENT, KIND } from "../../anywhere/machine/machine.mjs";
 import { call_name } from "../../anywhere/machine/calls.mjs";
@@ -34,7 +35,10 @@ function next_store(pid) {
   return kind === KIND.CALL ? stored_by(call_name(run.line.number(k)), call_of(machine, pid).words, run.line.value(k)) : null;
 }
 
-/** All stores of a process by instructions and by the calls that store, one by one: {place, from, count}; and the places at which it is at a pc. */
+/**
+ * All stores of a process by instructions and by the calls that store, one by one: {place, from, count}; and the places
+ * at which it is at a pc.
+ */
 function gone_through(pid, pc) {
   const stores = [], stops = [];
   run.go(0);

@@ -1,6 +1,7 @@
-// why.mjs MODULE.wasm PROGRAMS REPORTS: whether the page's module tells the very words of xv_why: of each program of the folder REPORTS
-// (checks/why) the report of its faults and kills, of who sleeps and who hasn't been waited for, as they are stored beside it. Those in C
-// are left out if there is no compiler of the version with which they were stored. The status is 1 if a report is another.
+// why.mjs MODULE.wasm PROGRAMS REPORTS: whether the page's module tells the very words of xv_why: of each program of
+// the folder REPORTS (checks/why) the report of its faults and kills, of who sleeps and who hasn't been waited for, as
+// they are stored beside it. Those in C are left out if there is no compiler of the version with which they were
+// stored. The status is 1 if a report is another.
 import { spawnSync } from "node:child_process";
 import { copyFileSync, mkdtempSync, readFileSync, readdirSync, rmSync } from "node:fs";
 import { tmpdir } from "node:os";
