@@ -1,12 +1,11 @@
 -- Another's step wakes nobody who sleeps for ticks.
-use Rattle.std.proofs.Common.{ℕ, ◌∙◌, ◌≡◌, ◌≢◌, ◌||◌, ap, Bool, false, inl, inr, refl, Some, subst, sym, true}
+use Rattle.std.proofs.Common.{ℕ, ◌∙◌, ◌≡◌, ◌≢◌, ◌||◌, ap, Bool, false, inl, inr, refl, Some, sym, true}
 use Rattle.std.proofs.lemmas.Option.{same_Some}
 use Rattle.std.specs.FinSet.{contains}
 use Rattle.std.specs.Prelude.{pos}
 use Rattle.proc_table.specs.declared.process.Call.{Call}
 unfoldable use Rattle.kernel_spec.specs.others.Quiet.{seen}
-use Rattle.kernel_spec.specs.runs.Moments.{IsStepOf}
-use Rattle.kernel_spec.specs.runs.Run.{Outcome, Run, Step_of, StepOf, Ticked, World}
+use Rattle.kernel_spec.specs.runs.Run.{Step_of, StepOf, Ticked, World}
 unfoldable use Rattle.kernel_spec.specs.rows.Calls.{row_of}
 use Rattle.kernel_spec.specs.steps.Own.{Answer, Own}
 use Rattle.kernel_spec.specs.steps.Step.{own}

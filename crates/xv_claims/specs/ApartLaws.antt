@@ -1,6 +1,7 @@
 -- What is so of processes that have nothing in common.
-use Rattle.std.specs.Prelude.{◌≡◌, ◌≢◌, ℕ, List, Some}
+use Rattle.std.specs.Prelude.{◌≡◌, ◌≢◌, ℕ, List, Some, IsSome}
 use Rattle.kernel_spec.specs.views.View.{View, view}
+use Rattle.kernel_spec.specs.views.WellFormed.{AreShown}
 use Rattle.kernel_spec.specs.steps.Step.{own}
 use Rattle.kernel_spec.specs.runs.Run.{World, Event, Run, Outcome, Happens}
 use Rattle.kernel_spec.specs.runs.Moments.{IsStepOf, Moment, AllBoth}
@@ -14,6 +15,12 @@ ApartSeesChannels =
     (w t : World) (p q : ℕ) (o : Outcome) (v u : View) → Happens w Run o t → IsStepOf p w Run → p ≢ q → view w.state p ≡ Some v → view w.state q ≡ Some u
     → AreApart w.state p q → Spares w.state p (own v) q
     → view t.state q ≡ Some (with_channels (channels_left v (own v)) u)
+
+-- Two live processes that have nothing in common have nothing in common after any event: none comes to an open file or a pipe that another is on, but by being born
+abbrev pub ApartLasts : Type 0
+ApartLasts =
+    (w t : World) (p q : ℕ) (e : Event) (o : Outcome) → Promised w e o t → AreShown w.state → p ≢ q → IsSome (view w.state p) → IsSome (view w.state q)
+    → AreApart w.state p q → AreApart t.state p q
 
 -- Who sleeps for ticks (call 13) isn't woken by another's step that doesn't mark it: of the clock's wake-ups a step makes none
 abbrev pub OnlyTicksWake : Type 0

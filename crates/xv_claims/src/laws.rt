@@ -1,6 +1,6 @@
 //! The laws that a reader meets first, each as a clause of a function with an empty body.
 ghost use Rattle.xv_claims.specs.ToldLaws.{OutcomesAreDetermined, TellsOutcomes};
-ghost use Rattle.xv_claims.specs.ApartLaws.{ApartSeesChannels, ApartWorlds, OnlyTicksWake};
+ghost use Rattle.xv_claims.specs.ApartLaws.{ApartLasts, ApartSeesChannels, ApartWorlds, OnlyTicksWake};
 
 /// What can be seen of a machine.
 pub fn outcomes_of()
@@ -17,7 +17,10 @@ pub fn apart_processes()
     // A step of one changes for the other the channels, and nothing else.
     ensures apart_sees_channels { ApartSeesChannels }
 
-    // And it wakes nobody who sleeps for ticks.
+    // They have nothing in common after any event.
+    ensures apart_lasts { ApartLasts }
+
+    // A step wakes nobody who sleeps for ticks.
     ensures only_ticks_wake { OnlyTicksWake }
 
     // Two worlds that show a process the same, and the same channels as each of its steps begins, can't be told

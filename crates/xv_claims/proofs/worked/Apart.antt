@@ -1,8 +1,8 @@
 -- Worked cases of processes that have nothing in common, and of what is left between them.
-use Rattle.std.proofs.Common.{[], ℕ, ◌∙◌, ◌∷◌, ◌≡◌, ◌≢◌, ◌||◌, ap, false, inl, inr, None, Option, refl, Some, sym, true}
+use Rattle.std.proofs.Common.{[], ℕ, ◌∙◌, ◌∷◌, ◌≡◌, ◌≢◌, ◌||◌, ap, false, inl, inr, None, Option, refl, Some, sym, true, subst}
 use Rattle.std.proofs.lemmas.Option.{same_Some}
 use Rattle.std.specs.FinMap.{get}
-use Rattle.std.specs.Prelude.{is_some, pos}
+use Rattle.std.specs.Prelude.{is_some, IsSome, MatchOption, pos}
 use Rattle.console_core.specs.Lists.{Console}
 use Rattle.pipe_core.specs.Pipe.{Pipe}
 use Rattle.rv64i_core.specs.Registers.{Registers}
@@ -10,11 +10,12 @@ use Rattle.xk_base.specs.Image.{Image}
 use Rattle.file_table.specs.declared.open_file.End.{End}
 use Rattle.proc_table.specs.declared.process.Call.{Call}
 unfoldable use Rattle.kernel_spec.specs.waking.Ready.{ready}
+use Rattle.kernel_spec.specs.views.WellFormed.{AreShown}
 use Rattle.kernel_spec.specs.waking.Turns.{Sleeps}
 use Rattle.kernel_spec.specs.waking.Wakes.{NoReadySleeper, Promised}
 use Rattle.kernel_spec.specs.others.Quiet.{file_at, is_same, pipe_at, seen_children, seen_shown}
 use Rattle.kernel_spec.specs.runs.Moments.{IsStepOf, Moment}
-use Rattle.kernel_spec.specs.runs.Run.{Happens, Outcome, Run, Tick, Ticked, World}
+use Rattle.kernel_spec.specs.runs.Run.{FilesAfter, Happens, Outcome, Run, Tick, Ticked, World}
 use Rattle.kernel_spec.specs.steps.Own.{Answer, Exited, gone_with, Own, Stepped}
 use Rattle.kernel_spec.specs.steps.Step.{own}
 use Rattle.kernel_spec.specs.views.Processes.{Alive, Child, Live, Running, Status, Zombie}
@@ -22,7 +23,7 @@ use Rattle.kernel_spec.specs.views.State.{State}
 use Rattle.kernel_spec.specs.views.View.{Descriptor, Descriptors, child_of, Shown_file, Shown_pipe, View, view}
 use Rattle.kernel_spec.specs.views.Words.{is_this}
 use Rattle.kernel_spec.proofs.Common.{none_is_same}
-use Rattle.xv_claims.specs.ApartLaws.{ApartWorlds, OnlyTicksWake}
+use Rattle.xv_claims.specs.ApartLaws.{ApartLasts, ApartWorlds, OnlyTicksWake}
 use Rattle.xv_claims.specs.Apart.{AreApart, Channels, channels, channels_left, IsCutApart, IsOfApart, SameButChannels, Spares, with_channels}
 
 -- ---- the channels
@@ -172,7 +173,8 @@ module _ (law : ApartWorlds) (v w x y : World) (a b n m : View) (o q : Outcome) 
     (step_v : Happens v Run o x) (step_w : Happens w Run q y) (his_v : IsStepOf 2 v Run) (his_w : IsStepOf 2 w Run) (after_v : view x.state 2 ≡ Some n) (after_w : view y.state 2 ≡ Some m) where
   one_answer : channels a ≡ channels b → (o ≡ q) × (Some n ≡ Some m)
   one_answer same =
-      let moments = law 2 v w x y ((Run, o) ∷ []) ((Run, q) ∷ []) (record { before = a; outcome = o; after = Some n } ∷ []) (record { before = b; outcome = q; after = Some m } ∷ []) a b see_v see_w alike
+      let moments = law 2 v w x y ((Run, o) ∷ []) ((Run, q) ∷ [])
+      (record { before = a; outcome = o; after = Some n } ∷ []) (record { before = b; outcome = q; after = Some m } ∷ []) a b see_v see_w alike
       (one_moment v x a n o step_v his_v see_v after_v) (one_moment w y b m q step_w his_w see_w after_w) (same, tt) in
       (ap (λ (z : Moment). z.outcome) moments.0, ap (λ (z : Moment). z.after) moments.0)
 
@@ -184,8 +186,27 @@ unfolding ready
 marked_is_ready x = refl
 
 -- process 2, which sleeps for 5 ticks, sleeps on after a step of process 3
-sleeps_on : OnlyTicksWake → (w t : World) (o : Outcome) (v u : View) (c : Call) → Promised w Run o t → IsStepOf 3 w Run → view w.state 3 ≡ Some v → view w.state 2 ≡ Some u → NoReadySleeper w → Sleeps w.turns 2
+sleeps_on : OnlyTicksWake → (w t : World) (o : Outcome) (v u : View) (c : Call) → Promised w Run o t → IsStepOf 3 w Run → view w.state 3 ≡ Some v → view w.state 2 ≡ Some u
+    → NoReadySleeper w → Sleeps w.turns 2
     → u.call ≡ Some (record c { number = pos 13; a0 = 5 }) → (own v).marked ≡ None → Sleeps t.turns 2
 sleeps_on law w t o v u c promised his see_v see_u none asleep call marks =
     law w t 3 2 o v u promised his (λ e. (let no : ⊥ = cc in no)) see_v see_u none asleep (record c { number = pos 13; a0 = 5 }, call, refl)
     (λ e. (let both : ◌≡◌ {A = Option ℕ} None (Some 2) = sym marks ∙ e in let no : ⊥ = cc in no))
+
+-- ---- who is apart stays so
+
+-- over two events, between which both live
+still_apart : ApartLasts → (w m t : World) (o q : Outcome) → Promised w Tick o m → Promised m Run q t → AreShown w.state → IsSome (view w.state 2) → IsSome (view w.state 3)
+    → IsSome (view m.state 2) → IsSome (view m.state 3) → AreApart w.state 2 3 → AreApart t.state 2 3
+still_apart law w m t o q tick run shown two three two_on three_on apart =
+    law m t 2 3 Run q run (tick.3 shown) other two_on three_on (law w m 2 3 Tick o tick shown other two three apart)
+  where
+    other : ◌≢◌ {A = ℕ} 2 3
+    other e = cc
+
+-- but not from who is born by the event, and so both have to live before: it is on its parent's open files
+newborn_shares : (s t : State) (o : Own) (c : View) → FilesAfter s 2 o t → o.child ≡ Some c → file_at s 2 0 ≡ Some 5 → file_at t 2 0 ≡ Some 5 → AreApart t 2 c.pid → ⊥
+newborn_shares s t o c after made before now apart =
+    let its : file_at t c.pid 0 ≡ file_at s 2 0 = subst (λ (x : Option View). MatchOption x (Unit {0}) (λ c. (d : ℕ) → file_at t c.pid d ≡ file_at s 2 d)) made after.newborn 0 in
+    let no : false ≡ true = sym (apart.files 0 0) ∙ (λ i. is_same ((its ∙ before) i) (now i)) in
+    let bad : ⊥ = cc in bad
