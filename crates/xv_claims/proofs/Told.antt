@@ -2,7 +2,8 @@
 use Rattle.std.proofs.Common.{[], ℕ, zero, suc, ◌*◌, ◌+◌, ◌-◌, ◌<◌, ◌≤◌, ◌^◌, ◌∙◌, ◌∷◌, ◌++◌, ◌≡◌, ap, ap₂, arith, Bool, false, get_or, inl, inr}
 use Rattle.std.proofs.Common.{length, List, map, None, Option, refl, Some, subst, sym}
 use Rattle.std.proofs.lemmas.Bool.{cases_eq, cases_lt}
-use Rattle.std.proofs.lemmas.List.{length-map}
+use Rattle.std.proofs.lemmas.Grind.{flat_map-append}
+use Rattle.std.proofs.lemmas.List.{length-map, map-append}
 use Rattle.std.proofs.lemmas.Option.{none-some, same_Some}
 use Rattle.std.specs.FinMap.{get, keys, len, len-entries, entries, entries_sorted, is_sorted}
 use Rattle.std.specs.FinMap.Entries.{below_all}
@@ -24,9 +25,11 @@ use Rattle.kernel_spec.specs.views.WellFormed.{cost, over_all}
 unfoldable use Rattle.kernel_spec.specs.views.WellFormed.{sum_below}
 use Rattle.kernel_spec.specs.views.Words.{count_if}
 use Rattle.kernel_spec.specs.runs.Alike.{AreAlike}
-use Rattle.kernel_spec.specs.runs.Run.{Event, Outcome, World}
+use Rattle.kernel_spec.specs.runs.Run.{bytes_out, Event, out, Outcome, World}
+use Rattle.kernel_spec.specs.waking.Wakes.{IsPromised}
 use Rattle.kernel_spec.specs.runs.Rounds.{events}
-use Rattle.kernel_spec.proofs.Common.{is_some-view}
+use Rattle.kernel_spec.proofs.Common.{is_some-view, same_first, same_rest}
+use Rattle.kernel_spec.proofs.runs.Boot.{promised_runs_split}
 use Rattle.kernel_spec.proofs.runs.Replays.{replay_is_the_same}
 use Rattle.kernel_spec.proofs.steps.MapsAfterChange.{first, second}
 use Rattle.kernel_spec.proofs.turns.KeepsSlots.{is_listed, not_listed}
@@ -38,8 +41,8 @@ use Rattle.xv_machine.specs.FrameUses.{IsOwned, IsUsed, page_frame_in}
 use Rattle.xv_machine.specs.Meaning.{Meaning, Owned}
 use Rattle.xv_machine.specs.Notes.{notes_of}
 use Rattle.xv_machine.specs.Sound.{frames_of, HasFrames, IsSoundMachine}
-use Rattle.xv_claims.specs.Told.{count_used, has_page, has_part, HaveUse, told_of}
-use Rattle.xv_claims.specs.ToldLaws.{OutcomesAreDetermined, TellsOutcomes}
+use Rattle.xv_claims.specs.Told.{count_used, has_page, has_part, HaveUse, Told, told_of}
+use Rattle.xv_claims.specs.ToldLaws.{OutcomesAreDetermined, OutcomesGoOn, TellsOutcomes}
 
 -- ---- what is read off a live process is read off its view
 
@@ -152,6 +155,37 @@ pub outcomes_are_determined : OutcomesAreDetermined
 outcomes_are_determined frames trace programs wanted one two (v, boot, (t, es, run, those, is)) (w, again, (u, fs, run_too, those_too, is_too)) =
     let both = replay_is_the_same frames trace programs v w t u es fs boot again run run_too (those ∙ sym those_too) in
     is ∙ same_told t u both.1 frames trace es fs both.0 ∙ sym is_too
+
+-- ---- what the first events give
+
+-- a list of events in two parts
+record Parted (list : List (Event × Outcome)) (es fs : List Event) : Type 0 where
+  front : List (Event × Outcome)
+  back : List (Event × Outcome)
+  is : list ≡ front ++ back
+  fronts : events front ≡ es
+  backs : events back ≡ fs
+
+parted : (list : List (Event × Outcome)) (es fs : List Event) → events list ≡ es ++ fs → Parted list es fs
+parted list [] fs same = record { front = []; back = list; is = refl; fronts = refl; backs = same }
+parted [] (e ∷ es) fs same = let no : ⊥ = cc in absurd no
+parted (x ∷ list) (e ∷ es) fs same =
+    let more = parted list es fs (same_rest x.0 e (events list) (es ++ fs) same) in
+    let first_event : x.0 ≡ e = same_first x.0 e (events list) (es ++ fs) same in
+    record { front = x ∷ more.front; back = more.back; is = ap (λ (xs : List (Event × Outcome)). x ∷ xs) more.is; fronts = λ i. first_event i ∷ more.fronts i; backs = more.backs }
+
+pub outcomes_go_on : OutcomesGoOn
+outcomes_go_on frames trace programs es fs told (w, boot, (t, list, run, those, is)) =
+    let parts = parted list es fs those in
+    let both = promised_runs_split w t parts.front parts.back (subst (λ (xs : List (Event × Outcome)). IsPromised w xs t) parts.is run) in
+    let before : Told = told_of frames trace parts.front both.0 in (
+      before,
+      map (λ e. e.1) parts.back,
+      out parts.back,
+      (w, boot, (both.0, parts.front, both.1, parts.fronts, refl)),
+      ap (λ (x : Told). x.outcomes) is ∙ ap (λ (xs : List (Event × Outcome)). map (λ e. e.1) xs) parts.is ∙ map-append (λ (e : Event × Outcome). e.1) parts.front parts.back,
+      ap (λ (x : Told). x.bytes) is ∙ ap out parts.is ∙ flat_map-append (λ (e : Event × Outcome). bytes_out e.1) parts.front parts.back,
+    )
 
 -- ---- lists in which each stands once
 

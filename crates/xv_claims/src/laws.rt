@@ -1,5 +1,5 @@
 //! The laws that a reader meets first, each as a clause of a function with an empty body.
-ghost use Rattle.xv_claims.specs.ToldLaws.{OutcomesAreDetermined, TellsOutcomes};
+ghost use Rattle.xv_claims.specs.ToldLaws.{OutcomesAreDetermined, OutcomesGoOn, TellsOutcomes};
 ghost use Rattle.xv_claims.specs.ApartLaws.{ApartLasts, ApartSeesChannels, ApartWorlds, OnlyTicksWake};
 
 /// What can be seen of a machine.
@@ -10,6 +10,9 @@ pub fn outcomes_of()
 
     // And they give one answer.
     ensures outcomes_are_determined { OutcomesAreDetermined }
+
+    // It goes on event by event: nothing of it depends on a later event.
+    ensures outcomes_go_on { OutcomesGoOn }
 {}
 
 /// Two processes that have nothing in common.

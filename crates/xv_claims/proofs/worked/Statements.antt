@@ -1,5 +1,5 @@
 -- Worked cases of statements: each is used on what boots and events give, so a premise that nobody produces, and a claim that is weaker, are refused here.
-use Rattle.std.proofs.Common.{[], ℕ, ◌%◌, ◌+◌, ◌<◌, ◌∙◌, ◌∷◌, ◌≡◌, ◌≢◌, ◌⊎◌, ap, Bool, false, List, None, Ok, Option, refl, Some, subst, sym}
+use Rattle.std.proofs.Common.{[], ℕ, ◌%◌, ◌+◌, ◌<◌, ◌∙◌, ◌∷◌, ◌++◌, ◌≡◌, ◌≢◌, ◌⊎◌, ap, Bool, false, List, None, Ok, Option, refl, Some, subst, sym}
 use Rattle.std.proofs.Common.{true}
 use Rattle.kernel_spec.specs.laws.Worlds.{OthersKeep}
 use Rattle.kernel_spec.specs.runs.First.{first}
@@ -20,7 +20,7 @@ use Rattle.xv_machine.specs.Sound.{IsSoundMachine}
 use Rattle.xv_claims.specs.Apart.{AreApart, channels_left, Spares, with_channels}
 use Rattle.xv_claims.specs.ApartLaws.{ApartSeesChannels}
 use Rattle.xv_claims.specs.Told.{HasTold, OutcomesOf, Told}
-use Rattle.xv_claims.specs.ToldLaws.{OutcomesAreDetermined, TellsOutcomes}
+use Rattle.xv_claims.specs.ToldLaws.{OutcomesAreDetermined, OutcomesGoOn, TellsOutcomes}
 
 -- ---- the same descriptors, but for what is shared
 
@@ -118,3 +118,8 @@ module _ (boots_reach : BootReaches) (reaches_on : ReachesOn) (events_go : Event
   both_outcomes one_answer told is law =
       let t = told_so law in
       ap (λ (x : Told). x.outcomes) (one_answer 64 8 programs (Run ∷ Run ∷ []) told t.0 is t.1) ∙ t.2.outcomes
+
+-- what two Runs give begins with what the first of them gives
+one_first : OutcomesGoOn → (programs : List ProgramFile) (told : Told) → OutcomesOf 64 8 programs (Run ∷ Run ∷ []) told
+    → (before : Told) × OutcomesOf 64 8 programs (Run ∷ []) before × ((later : List Outcome) × (told.outcomes ≡ before.outcomes ++ later))
+one_first law programs told is = let b = law 64 8 programs (Run ∷ []) (Run ∷ []) told is in (b.0, b.3, (b.1, b.4))

@@ -6,3 +6,6 @@ returns-clause-tells_outcomes c = in-told.tells_outcomes
 
 pub returns-clause-outcomes_are_determined : goal.returns-clause-outcomes_are_determined
 returns-clause-outcomes_are_determined c = in-told.outcomes_are_determined
+
+pub returns-clause-outcomes_go_on : goal.returns-clause-outcomes_go_on
+returns-clause-outcomes_go_on c = in-told.outcomes_go_on
