@@ -10,7 +10,7 @@ import { as_taken, own_words } from "./words.mjs";
 
 const NAME = "xv --cc", REFUSED = 1, NOTHING_RUNS = 125;
 // The module takes no path for an absolute one. So those of the library, and absolute ones, have a head of their own.
-const OBJECT = "object.o", LIBRARY = "@library/", ABSOLUTE = "@";
+const OBJECT = "object.o", LIBRARY = "%library/", ABSOLUTE = "%";
 const USAGE = `usage: xv --cc FILE.c.. [-o NAME] [-I FOLDER] [-D NAME[=TEXT]] [-U NAME] [-Wall] [-Werror] [-w]
 
 Compiles programs in C for the machine, and links them: docs/manual/c-programs.md. Without -o the program's name is the first FILE's,
@@ -74,7 +74,7 @@ function file_at(path) {
 }
 
 /** A message with paths as they are here. */
-const without_heads = (message) => message.replace(/(^|from )(@[^:]*)(?=:)/g, (_, before, path) => before + from_module(path));
+const without_heads = (message) => message.replace(/(^|from )(%[^:]*)(?=:)/g, (_, before, path) => before + from_module(path));
 
 /** Below a message its line of the source, and marks below the word that it names. */
 function with_line(message) {

@@ -146,7 +146,7 @@ function write_segment(view, at, flags, offset, address, in_file, in_memory) {
 }
 
 /** The file of a program: an ELF header, one or two segments, and their bytes (ELF-64 Object File Format, "ELF Header", "Program Headers"). */
-function file_of(layout) {
+function file_of(layout, entry) {
   const has_data = layout.end > layout.begin, count = has_data ? 2 : 1;
   const text_at = HEADER_BYTES + count * SEGMENT_BYTES, data_at = aligned(text_at + layout.read_end, 8);
   const data_bytes = layout.data_end - layout.begin;
@@ -154,6 +154,7 @@ function file_of(layout) {
   bytes.set([0x7f, 0x45, 0x4c, 0x46, 2, 1, 1]);
   [2, 243].forEach((number, index) => view.setUint16(16 + 2 * index, number, true));
   view.setUint32(20, 1, true);
+  view.setBigUint64(24, BigInt(entry), true);
   view.setBigUint64(32, BigInt(HEADER_BYTES), true);
   [HEADER_BYTES, SEGMENT_BYTES, count].forEach((number, index) => view.setUint16(52 + 2 * index, number, true));
   write_segment(view, HEADER_BYTES, READ_EXECUTE, text_at, 0, layout.read_end, layout.read_end);
@@ -174,5 +175,5 @@ export function link(program, library) {
   const layout = laid_out(reached(globals), objects, globals);
   for (const section of [...layout.text, ...layout.data]) relocate_section(section, globals, layout.table);
   layout.executed.forEach(check_words);
-  return { file: file_of(layout), layout, globals, objects: own };
+  return { file: file_of(layout, address_of(globals.get(START))), layout, globals, objects: own };
 }

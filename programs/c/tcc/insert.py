@@ -5,7 +5,10 @@
   extension M.
 - There are no registers for fractions: what needs one is a mistake of the source, and no instruction of the extensions F and D is
   written.
-- A constant of a pointer's type has 64 bits.
+- A constant of a pointer's type has 64 bits, a structure that goes in registers is loaded at a multiple of eight, and a signed character
+  that becomes an unsigned short number loses its sign.
+- What would be compiled wrongly else, or to a load that the machine refuses, is refused: packed structures, bit fields of long, arrays whose
+  length isn't a constant.
 """
 import pathlib
 import re
@@ -50,32 +53,81 @@ CALL = '''    {
     }
 '''
 
-# Behind what (a pattern) which text is inserted, in riscv64-gen.c.
-BEHIND = [
-    (r"#define TREG_SP 18\n(?=\nST_DATA)", FRACTIONS),
-    (r"ST_FUNC void load\(int r, SValue \*sv\)\n\{\n(?:    int .*\n)+", '''    refuse_fractions(sv->type.t);
+# A structure goes in registers as whole ones of eight bytes, which the machine loads at multiples of eight alone.
+COPY = '''    for (i = 0; i < nb_args; i++) {
+        CType its = vtop[1 + i - nb_args].type;
+        size = type_size(&its, &align);
+        if ((its.t & VT_BTYPE) != VT_STRUCT || size > 2 * XLEN || align >= XLEN || size <= align)
+            continue;
+        loc = (loc - 2 * XLEN) & -XLEN;
+        vrotb(nb_args - i);
+        vset(&its, VT_LOCAL | VT_LVAL, loc);
+        vswap();
+        vstore();
+        vpop();
+        vset(&its, VT_LOCAL | VT_LVAL, loc);
+        vrott(nb_args - i);
+    }
+'''
+
+# A signed character that lies in memory is loaded with its sign, and an unsigned short number has none.
+NARROW = '''            if (ds == 2 && ss == 1 && (dbt & VT_UNSIGNED) && !(sbt & VT_UNSIGNED)) {
+                gv(RC_INT);
+                vtop->type.t = VT_INT;
+                vpushi(0xffff);
+                gen_op('&');
+                goto done;
+            }
+'''
+
+# What is refused, since it would be compiled wrongly, or so that the machine's hart refuses it.
+PACKED = '''            tcc_error("packed structures aren't there: a load at an address that is no multiple of its size is a fault");
+'''
+LONG_FIELDS = '''                        if ((type1.t & VT_BTYPE) == VT_LLONG)
+                            tcc_error("bit fields of long aren't there: take int");
+'''
+VARIABLE = '''                tcc_error("arrays whose length isn't a constant aren't there: take malloc");
+'''
+PACK = '''        tcc_error("#pragma pack isn't there: a load at an address that is no multiple of its size is a fault");
+'''
+
+# By file, behind what (a pattern) which text is inserted.
+BEHIND = {
+    "riscv64-gen.c": [
+        (r"#define TREG_SP 18\n(?=\nST_DATA)", FRACTIONS),
+        (r"ST_FUNC void load\(int r, SValue \*sv\)\n\{\n(?:    int .*\n)+", '''    refuse_fractions(sv->type.t);
     if (bt == VT_PTR)
         bt = VT_LLONG;
 '''),
-    (r"ST_FUNC void store\(int r, SValue \*sv\)\n\{\n(?:    int .*\n)+", "    refuse_fractions(sv->type.t);\n"),
-    (r"static void reg_pass_rec\(.*\)\n\{\n", "    refuse_fractions(type->t);\n"),
-    (r"ST_FUNC void gen_opf\(int op\)\n\{\n(?:    int .*\n)+", "    refuse_fractions(VT_DOUBLE);\n"),
-    (r"ST_FUNC void gen_cvt_itof\(int t\)\n\{\n", "    refuse_fractions(VT_DOUBLE);\n"),
-    (r"ST_FUNC void gen_cvt_ftoi\(int t\)\n\{\n", "    refuse_fractions(VT_DOUBLE);\n"),
-    (r"ST_FUNC void gen_cvt_ftof\(int dt\)\n\{\n", "    refuse_fractions(VT_DOUBLE);\n"),
-    (r"(?=    gv2\(RC_INT, RC_INT\);\n    a = ireg\(vtop\[-1\])", CALL),
-]
+        (r"ST_FUNC void store\(int r, SValue \*sv\)\n\{\n(?:    int .*\n)+", "    refuse_fractions(sv->type.t);\n"),
+        (r"static void reg_pass_rec\(.*\)\n\{\n", "    refuse_fractions(type->t);\n"),
+        (r"ST_FUNC void gen_opf\(int op\)\n\{\n(?:    int .*\n)+", "    refuse_fractions(VT_DOUBLE);\n"),
+        (r"ST_FUNC void gen_cvt_itof\(int t\)\n\{\n", "    refuse_fractions(VT_DOUBLE);\n"),
+        (r"ST_FUNC void gen_cvt_ftoi\(int t\)\n\{\n", "    refuse_fractions(VT_DOUBLE);\n"),
+        (r"ST_FUNC void gen_cvt_ftof\(int dt\)\n\{\n", "    refuse_fractions(VT_DOUBLE);\n"),
+        (r"(?=    gv2\(RC_INT, RC_INT\);\n    a = ireg\(vtop\[-1\])", CALL),
+        (r"(?=    areg\[0\] = 0; /\* int arg regs \*/\n)", COPY),
+        (r"    \*regsize = 8;\n", "    *ret_align = XLEN;\n"),
+    ],
+    "tccgen.c": [
+        (r"(?=            /\* ss <= 4 here \*/\n)", NARROW),
+        (r"        case TOK_PACKED2:\n", PACKED),
+        (r"                        bit_size = expr_const\(\);\n", LONG_FIELDS),
+        (r"                    tcc_error\(\"size of variable length array should be an integer\"\);\n", VARIABLE),
+    ],
+    "tccpp.c": [(r"    \} else if \(tok == TOK_pack\) \{\n", PACK)],
+}
 
 
-def main():
-    path = pathlib.Path(sys.argv[1]) / "riscv64-gen.c"
-    text = path.read_text()
-    for pattern, ours in BEHIND:
+def insert(path, places):
+    text = path.read_text(encoding="latin-1")
+    for pattern, ours in places:
         found = list(re.finditer(pattern, text))
         if len(found) != 1:
             sys.exit(f"insert.py: {path} has {len(found)} places in which {pattern!r} fits")
         text = text[:found[0].end()] + ours + text[found[0].end():]
-    path.write_text(text)
+    path.write_text(text, encoding="latin-1")
 
 
-main()
+for name, places in BEHIND.items():
+    insert(pathlib.Path(sys.argv[1]) / name, places)
