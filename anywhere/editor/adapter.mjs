@@ -192,9 +192,10 @@ export class Adapter {
   }
 
   on_setFunctionBreakpoints({ breakpoints = [] }) {
-    return this.points_of("function", breakpoints.map((it) => (
-      { ...it, places: this.own.programs.places_of_name(it.name), words: `no program has a function or label ${it.name}` }
-    )));
+    return this.points_of("function", breakpoints.map((it) => {
+      const places = this.own.programs.places_of_name(it.name);
+      return { ...it, places, words: `no program has a function or label ${it.name}` };
+    }));
   }
 
   on_setInstructionBreakpoints({ breakpoints = [] }) {
@@ -303,8 +304,8 @@ export class Adapter {
   registers(pid) {
     const values = this.own.machine.registers(pid) ?? [];
     return [...values].map((value, k) => {
-      const address = hex(value);
-      return { name: REGISTERS[k], value: address, type: number(value), memoryReference: address, variablesReference: 0 };
+      const told = { name: REGISTERS[k], value: hex(value), type: number(value) };
+      return { ...told, memoryReference: hex(value), variablesReference: 0 };
     });
   }
 
@@ -326,7 +327,8 @@ export class Adapter {
   on_readMemory({ memoryReference, offset = 0, count }) {
     const address = BigInt.asUintN(64, BigInt(memoryReference) + BigInt(offset)), most = Math.min(count, MOST_READ);
     const bytes = this.own.machine.peek(this.own.pid, address, most);
-    return { address: hex(address), data: Buffer.from(bytes).toString("base64"), unreadableBytes: count - bytes.length };
+    const data = Buffer.from(bytes).toString("base64");
+    return { address: hex(address), data, unreadableBytes: count - bytes.length };
   }
 
   on_disassemble({ memoryReference, offset = 0, instructionOffset = 0, instructionCount }) {
@@ -339,7 +341,8 @@ export class Adapter {
   /** The instruction at an address of the process that is looked at. */
   instruction(address) {
     const { machine, run, pid, programs } = this.own, word = word_at(machine, pid, address);
-    const { source, line } = programs.place(run.program_of(pid), address), where = source ? { location: source, line } : {};
+    const { source, line } = programs.place(run.program_of(pid), address);
+    const where = source ? { location: source, line } : {};
     const text = word === null ? null : machine.instruction(word, address);
     if (text) return { address: hex(address), instruction: text, ...where };
     const instruction = word === null ? "no memory" : `.word ${hex(word)}`;

@@ -1,5 +1,5 @@
-// What a person asks for in a debug console, or by a pointer over a word: registers, labels, memory; keys that are typed,
-// and another place of the run.
+// What a person asks for in a debug console, or by a pointer over a word: registers, labels, memory; keys that are
+// typed, and another place of the run.
 import { hex, number } from "../machine/number_words.mjs";
 import { REGISTERS } from "../machine/registers.mjs";
 
@@ -14,9 +14,11 @@ function named(session, pid, word) {
   const place = REGISTERS.indexOf(word.replace(/^\$/, ""));
   if (place >= 0) {
     const value = session.machine.register(pid, place);
-    return value === null ? { text: `process ${pid} doesn't live` } : { address: value, text: `${hex(value)} (${number(value)})` };
+    if (value === null) return { text: `process ${pid} doesn't live` };
+    return { address: value, text: `${hex(value)} (${number(value)})` };
   }
-  if (/^(0x[0-9a-f]+|\d+)$/i.test(word)) return { address: BigInt(word), text: `${hex(BigInt(word))} (${BigInt(word)})` };
+  const address = /^(0x[0-9a-f]+|\d+)$/i.test(word) ? BigInt(word) : undefined;
+  if (address !== undefined) return { address, text: `${hex(address)} (${address})` };
   const program = session.run.program_of(pid), found = session.programs.places_of_name(word);
   const own = found.find((it) => it.program === program) ?? found[0];
   return own && { address: own.address, text: `${hex(own.address)} in ${session.programs.files[own.program].name}` };
@@ -29,7 +31,10 @@ function memory_text(session, pid, address, count) {
   return `${[...bytes].map((it) => it.toString(16).padStart(2, "0")).join(" ")}  ${letters}`;
 }
 
-/** What a text asks for: {text, address?, then?}; undefined if it is nothing that is known. `may_do`: it may change the run. */
+/**
+ * What a text asks for: {text, address?, then?}; undefined if it is nothing that is known. `may_do`: it may change the
+ * run.
+ */
 export function evaluated(session, pid, text, may_do = false) {
   const [word = "", ...rest] = text.trim().split(/\s+/), tail = text.trim().slice(word.length + 1);
   if (word === "x" && rest.length) {

@@ -5,7 +5,7 @@ import { hex } from "../machine/number_words.mjs";
 
 const KINDS = ["", "console", "a program's file", "a pipe's read end", "a pipe's write end"];
 const LETTERS = [[2, "R"], [4, "W"], [8, "X"], [16, "U"]];
-const MOST_PAGES = 1000;
+const PAGE_BYTES = 4096n, MOST_PAGES = 1000;
 
 const plain = (name, value, more = {}) => ({ name, value: String(value), variablesReference: 0, ...more });
 
@@ -31,19 +31,23 @@ export function kernel_variables(session, pid, handle) {
   const { machine, run, programs } = session, process = machine.process(pid);
   if (!process) return [plain("process", `${pid} is gone`)];
   const { frames } = run.config, facts = machine.facts();
-  const { descriptors } = files_of(machine, [process]), pages = () => pages_of(machine, pid, frames).found.slice(0, MOST_PAGES);
+  const { descriptors } = files_of(machine, [process]);
+  const pages = () => pages_of(machine, pid, frames).found.slice(0, MOST_PAGES);
   const told_of = (it) => plain(String(it.fd), descriptor_words(machine, programs, it));
   const page_of = ({ page, rights, frame }) => {
     const letters = LETTERS.map(([bit, letter]) => (rights & bit ? letter : "-")).join("");
-    return plain(hex(BigInt(page) * 4096n), `${letters} in frame ${frame}`, { memoryReference: hex(BigInt(page) * 4096n) });
+    const address = hex(BigInt(page) * PAGE_BYTES);
+    return plain(address, `${letters} in frame ${frame}`, { memoryReference: address });
   };
+  const list = (name, value, tell) => ({ name, value, variablesReference: handle(tell) });
   const wait = process.asleep ? [plain("waits", (machine.wait_text(pid) ?? "").split("\n")[0])] : [];
   return [
     plain("state", state_words(session, pid)), ...wait,
     plain("program", programs.files[run.program_of(pid)]?.name ?? ""), plain("parent", process.parent || "none"),
     plain("killed", process.marked ? "yes: it ends at its next step" : "no"),
-    { name: "descriptors", value: `${descriptors.length} in use`, variablesReference: handle(() => descriptors.map(told_of)) },
-    { name: "pages", value: `${machine.size(pid) ?? 0n} bytes`, variablesReference: handle(() => pages().map(page_of)) },
-    plain("free frames", `${facts.free} of ${frames}`), plain("clock", facts.clock), plain("event", `${run.at} of ${run.end}`),
+    list("descriptors", `${descriptors.length} in use`, () => descriptors.map(told_of)),
+    list("pages", `${machine.size(pid) ?? 0n} bytes`, () => pages().map(page_of)),
+    plain("free frames", `${facts.free} of ${frames}`), plain("clock", facts.clock),
+    plain("event", `${run.at} of ${run.end}`),
   ];
 }

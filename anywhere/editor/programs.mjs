@@ -3,7 +3,7 @@ import { existsSync, readFileSync, readdirSync, statSync } from "node:fs";
 import { basename, dirname, join, resolve } from "node:path";
 import { fileURLToPath } from "node:url";
 import { is_elf } from "../machine/file_kinds.mjs";
-import { files_refused } from "../machine/file_refusals.mjs";
+import { MOST_FILES, files_refused } from "../machine/file_refusals.mjs";
 import { last_before } from "../machine/ordered.mjs";
 import { file_of_bytes, file_of_source, name_first } from "../machine/program_files.mjs";
 import { function_at, line_at, name_at } from "../machine/source_places.mjs";
@@ -11,8 +11,7 @@ import { function_at, line_at, name_at } from "../machine/source_places.mjs";
 const TOP = fileURLToPath(new URL("../../", import.meta.url));
 // Where sources and tables of the shell's own programs lie.
 const OWN_SOURCES = ["programs/c/src", "programs/c/lib"].map((it) => TOP + it), OWN_TABLES = `${TOP}programs/c/tables`;
-const TABLE = ".lines", BESIDE = [TABLE, ".debug", ".o"];
-const MOST_FILES = 64;
+const TABLE = ".lines", NO_PROGRAMS = [TABLE, ".debug", ".o", ".c", ".h", ".md"]; // ends of names
 
 const read_if_there = (path) => (existsSync(path) && statSync(path).isFile() ? readFileSync(path, "utf8") : "");
 
@@ -21,7 +20,7 @@ function paths_of(word, base) {
   const path = resolve(base, word);
   if (!existsSync(path)) throw new Error(`${path}: there is no such file`);
   if (!statSync(path).isDirectory()) return [path];
-  const is_left_out = (name) => name.startsWith(".") || [...BESIDE, ".c", ".h", ".md"].some((end) => name.endsWith(end));
+  const is_left_out = (name) => name.startsWith(".") || NO_PROGRAMS.some((end) => name.endsWith(end));
   return readdirSync(path).filter((name) => !is_left_out(name)).sort().map((name) => join(path, name))
     .filter((it) => statSync(it).isFile());
 }
@@ -90,7 +89,8 @@ export class Programs {
       if (symbols.lines.length && own === wanted) {
         return symbols.lines.filter((it) => it.line === line).map((it) => ({ program, address: it.start }));
       }
-      const rows = symbols.table?.lines ?? [], is_own = (row) => row.file === name && this.source_path(name, own) === wanted;
+      const rows = symbols.table?.lines ?? [];
+      const is_own = (row) => row.file === name && this.source_path(name, own) === wanted;
       const begins = (row, k) => row.number === line && is_own(row) && rows[k - 1]?.line !== row.line;
       return rows.filter(begins).map((row) => ({ program, address: row.address }));
     });

@@ -1,10 +1,10 @@
-// Messages of the Debug Adapter Protocol on two streams: each is a text of JSON after a head that tells its length in bytes
-// (the protocol's "Base Protocol").
+// Messages of the Debug Adapter Protocol on two streams: each is a text of JSON after a head that tells its length in
+// bytes (the protocol's "Base Protocol").
 
 const END_OF_HEAD = "\r\n\r\n";
 const MOST_BYTES = 64 * 1024 * 1024; // of one message
 
-/** Takes bytes as they come, and tells each whole message. A head without a length, or a text that is no JSON, is an error. */
+/** Takes bytes as they come, and tells each whole message. A head without a length, or a text without JSON, is an error. */
 export class Reader {
   constructor(tell) {
     this.tell = tell;

@@ -1,5 +1,6 @@
 // A machine that is debugged: it goes on in slices, up to break points, faults, calls and ends, and back; by lines and by
-// instructions. Whoever has it is told where it stops: `told.stopped(reason, text)`, `told.output(text)`, `told.ended(status)`.
+// instructions. Whoever has it is told where it stops, what the console shows, and the end: `told.stopped(reason, text)`,
+// `told.output(text)`, `told.ended(status)`.
 import { seek } from "../machine/backward_search.mjs";
 import { call_name } from "../machine/calls.mjs";
 import { fault_in_words } from "../machine/end_reports.mjs";
@@ -11,7 +12,7 @@ import { Run } from "../machine/run.mjs";
 import { Programs } from "./programs.mjs";
 
 const SLICE = 40; // ms of play between two looks at the messages
-const PIECE = 200000, PIECE_WITH_STOPS = 100000; // Runs
+const MOST_RUNS = 200000, MOST_RUNS_TO_STOP = 100000; // of one piece of play
 const TICK = 100; // ms: a tick of a terminal is a tenth of a second
 const MOST_STEPS = 300; // of others, until a process makes its own
 const REGISTER_PC = 0;
@@ -130,7 +131,7 @@ export class Session {
   piece() {
     const { run, player } = this, known = run.faults.length;
     this.tick_if_due();
-    const ahead = this.fault_ahead(), most = this.breaks.length ? PIECE_WITH_STOPS : PIECE;
+    const ahead = this.fault_ahead(), most = this.breaks.length ? MOST_RUNS_TO_STOP : MOST_RUNS;
     if (ahead?.at === run.at) return this.stop_before(ahead);
     const words = player.piece(ahead ? Math.min(most, ahead.at - run.at) : most, !this.is_live);
     if (ahead?.at === run.at) return this.stop_before(ahead);
@@ -141,7 +142,7 @@ export class Session {
     return undefined;
   }
 
-  /** Whether nothing happens any more without a key: no process may run, none sleeps until a tick, and no byte waits. */
+  /** Whether nothing happens any more without a key: nobody may run, or sleeps until a tick, and no byte waits. */
   is_still() {
     const { machine, run, player: { plan } } = this;
     if (run.is_past || !plan.is_idle || plan.keys.length || machine.has_output()) return false;
@@ -152,7 +153,8 @@ export class Session {
   /** The next fault that the record has already; not the one before which the machine stood when it went on. */
   fault_ahead() {
     const { run, passed } = this;
-    return this.stops_at_faults && run.is_past ? run.faults.find((it) => it.at >= run.at && it.at !== passed) : undefined;
+    if (!this.stops_at_faults || !run.is_past) return undefined;
+    return run.faults.find((it) => it.at >= run.at && it.at !== passed);
   }
 
   stop_before(fault) {
@@ -173,8 +175,8 @@ export class Session {
   /** Whether a break point that is met here holds: one without a condition, or whose condition is so. */
   is_met() {
     const { run } = this, pid = run.current, program = run.program_of(pid), pc = pid ? this.pc(pid) : null;
-    const may = this.breaks.filter((it) => it.kind !== "address" || (it.address === pc && (it.program ?? program) === program));
-    const asked = may.filter((it) => it.kind === "address");
+    const is_here = (it) => it.kind === "address" && it.address === pc && (it.program ?? program) === program;
+    const asked = this.breaks.filter(is_here);
     return !asked.length || asked.some((it) => it.holds(this, pid));
   }
 

@@ -2,7 +2,8 @@
 import { bytes_words, grouped } from "./number_words.mjs";
 
 export const MOST_BYTES = 1048576; // of a file
-const MOST_LETTERS = 14, MOST_FILES = 64;
+export const MOST_FILES = 64;
+const MOST_LETTERS = 14;
 const LEAST_FRAMES = 16, MOST_FRAMES = 32768;
 
 /** Why files, {name, from: {name}, bytes}, are no machine's; null if nothing speaks against them. */

@@ -47,7 +47,8 @@ export class Client {
 
   /** The answer to a request; an error with its words if it is refused. */
   async ask(command, args = {}) {
-    const seq = this.writer.count + 1, answer = this.until(command, (it) => it.type === "response" && it.request_seq === seq);
+    const seq = this.writer.count + 1, is_answer = (it) => it.type === "response" && it.request_seq === seq;
+    const answer = this.until(command, is_answer);
     this.writer.send({ type: "request", command, arguments: args });
     const { success, message, body } = await answer;
     if (!success) throw new Error(message);

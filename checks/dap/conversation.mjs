@@ -46,7 +46,8 @@ async function refusals() {
   ];
   const tried = [...wrong.map((it) => ["launch", it]), ["threads", {}], ["attach", {}], ["sing", {}]];
   for (const [command, words] of tried) {
-    await client.ask(command, words).then(() => say(command, "is taken"), ({ message }) => say(`${command}:`, message.replace(process.cwd(), ".")));
+    const told = ({ message }) => say(`${command}:`, message.replace(process.cwd(), "."));
+    await client.ask(command, words).then(() => say(command, "is taken"), told);
   }
   await left(client);
 }
@@ -64,7 +65,8 @@ async function pipeline() {
   for (const how of ["next", "next", "stepBack", "stepOut", "stepBack", "stepIn"]) {
     await stopped(client, how, await client.stop_after(how, { threadId: pid }));
   }
-  await stopped(client, "one instruction", await client.stop_after("next", { threadId: pid, granularity: "instruction" }));
+  const by_instruction = { threadId: pid, granularity: "instruction" };
+  await stopped(client, "one instruction", await client.stop_after("next", by_instruction));
   await variables(client, pid, "Registers", ["pc", "sp", "a0"]);
   await stopped(client, "to the first again", await client.stop_after("continue", { threadId: pid }));
   await stopped(client, "back to the beginning", await client.stop_after("reverseContinue", { threadId: pid }));
