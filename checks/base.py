@@ -5,6 +5,7 @@ libraries it was made, by checksums, and fits no others. `rt all check` leaves t
 checks/since.sh in out/since. What a check found out of each function is in out/incremental.
 """
 import contextlib
+import functools
 import hashlib
 import importlib.util
 import io
@@ -15,6 +16,7 @@ import re
 import shutil
 import signal
 import subprocess
+import sys
 import tarfile
 import tempfile
 import threading
@@ -226,30 +228,37 @@ def has_texts(rlib, files):
 
 # ---- checks
 
-RUNNING, STOPPED = set(), threading.Event()
+STOPPED = threading.Event()
 
 
-def stop_all(*_):
+@functools.lru_cache(maxsize=None)
+def guard():
+    """A process that ends all that this one began, by their group, as soon as this one is gone, however it ended."""
+    ours, _ = os.pipe()  # the other end closes when this process ends
+    how = {"stdin": ours, "stdout": subprocess.DEVNULL, "stderr": subprocess.DEVNULL, "preexec_fn": os.setpgrp}
+    return subprocess.Popen(["sh", "-c", "read _; kill -9 0"], **how)
+
+
+def stop_all():
     """Ends the checks that this process began."""
     STOPPED.set()
-    for it in list(RUNNING):
-        with contextlib.suppress(OSError):
-            os.killpg(it.pid, signal.SIGKILL)
+    with contextlib.suppress(OSError):
+        os.killpg(guard().pid, signal.SIGKILL)
+
+
+JOIN = "import os, sys; os.setpgid(0, int(sys.argv[1])); os.execvp(sys.argv[2], sys.argv[2:])"
 
 
 def call(words, folder):
     """Runs a command to its end: its status, what it says, and the seconds of one processor that it took."""
     if STOPPED.is_set():
         raise KeyboardInterrupt
-    how = {"stdin": subprocess.DEVNULL, "stdout": subprocess.PIPE, "stderr": subprocess.STDOUT, "start_new_session": True}
-    with subprocess.Popen([str(it) for it in words], cwd=folder, **how) as ran:
-        RUNNING.add(ran)
-        try:
-            said = ran.stdout.read().decode(errors="replace")
-            _, status, used = os.wait4(ran.pid, 0)
-            ran.returncode = os.waitstatus_to_exitcode(status)
-        finally:
-            RUNNING.discard(ran)
+    words = [sys.executable, "-ISc", JOIN, str(guard().pid), *(str(it) for it in words)]
+    how = {"stdin": subprocess.DEVNULL, "stdout": subprocess.PIPE, "stderr": subprocess.STDOUT}
+    with subprocess.Popen(words, cwd=folder, **how) as ran:
+        said = ran.stdout.read().decode(errors="replace")
+        _, status, used = os.wait4(ran.pid, 0)
+        ran.returncode = os.waitstatus_to_exitcode(status)
     if STOPPED.is_set():
         raise KeyboardInterrupt
     return ran.returncode, said, used.ru_utime + used.ru_stime

@@ -1,4 +1,5 @@
 """Proves what differs from a revision, over libraries that a gate left; see since.sh."""
+import contextlib
 import fcntl
 import json
 import os
@@ -438,6 +439,15 @@ def run_tests(run, name):
     return status == 0
 
 
+def try_tests(run, name):
+    """Runs the tests of a crate without proofs, all code below as it is now."""
+    status, said, seconds = base.call(["rt", "try", "--test"], TOP / "crates" / name)
+    run.seconds += seconds
+    told = re.search(r"^test result: .*", said, re.M)
+    say(f"{name}, without proofs: {told[0] if told else 'no test result'}", *(f"  {it}" for it in said.strip().split("\n")[-12:] if status))
+    return status == 0
+
+
 # ---- the quick checks
 
 def quick_checks(run):
@@ -456,6 +466,11 @@ def quick_checks(run):
 
 
 def do_quick(run, failed):
+    with contextlib.suppress(KeyboardInterrupt):
+        try_quick(run, failed)
+
+
+def try_quick(run, failed):
     for name, words in quick_checks(run):
         status, said, _ = base.call(words, TOP)
         last = (said.strip().split("\n") or [""])[-1]
@@ -468,7 +483,7 @@ def do_quick(run, failed):
 
 # ---- the call
 
-FLAGS = ("--alone", "--no-edits", "--no-tests", "--proofs", "--definitions", "--prepare", "--trust", "--help")
+FLAGS = ("--alone", "--no-edits", "--no-tests", "--try-tests", "--proofs", "--definitions", "--prepare", "--trust", "--help")
 
 
 def read_words(words, flags):
@@ -573,7 +588,7 @@ def tell_left(run, left_edits):
         f"{left_edits} edits of functions that didn't change": left_edits,
         f"turned definitions (by hand: checks/wrong-bodies/run.sh --definitions {' '.join(turned)})": bool(turned),
         "programs that link the new code, and what they print": programs,
-        "tests over the new code (without proofs: `rt try --test` there)": tests,
+        "tests over the new code (--try-tests runs them without proofs)": tests if not run.options["try-tests"] else [],
     }
     told = [f"{it}: {' '.join(names)}" if isinstance(names, list) else it for it, names in left.items() if names]
     say("left to the gate: " + "; ".join(told))
@@ -604,6 +619,7 @@ def begin(names, options):
     if not base.KIT:
         refuse("there is no rt on the PATH: it is the command of the Rattle kit")
     signal.signal(signal.SIGTERM, lambda *_: sys.exit(143))
+    base.guard()
     held = os.open(TOP / "crates", os.O_RDONLY)
     try:
         fcntl.flock(held, fcntl.LOCK_EX | fcntl.LOCK_NB)
@@ -678,6 +694,10 @@ def go(run):
         lost += ["turned definitions"] if subprocess.run(words, check=False).returncode else []
     tests = [it for it in run.proved if has_tests(run, it)] if is_whole and not run.options["no-tests"] else []
     lost += [f"tests of {it}" for it in tests if not run_tests(run, it)]
+    if run.options["try-tests"]:
+        tried = [it for it in over_new_code(run)[1] if it not in tests]
+        lost += [f"tests of {it}" for it in tried if not try_tests(run, it)]
+        tests += tried
     if is_whole:
         quick.join()
     tell_left(run, left)

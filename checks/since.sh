@@ -8,6 +8,7 @@
 #   checks/since.sh --trust ..         takes libraries as REV's whose times don't say so, if their definitions and proofs are REV's
 #   checks/since.sh --alone ..         proves what differs, and leaves the crates above to the gate
 #   checks/since.sh --no-edits ..      tries no edits; --no-tests runs no tests; --proofs does neither, nor quick checks
+#   checks/since.sh --try-tests ..     runs the tests over code that changed (layer_tests, machine_tests) without proofs: minutes
 #   checks/since.sh --definitions ..   also turns the definitions of the files of specs/ that differ, minutes each
 #   checks/since.sh --prepare [CRATE..]  fills what checks of these crates begin with (without names, of all): best done while
 #                                      nothing is changed, since the first check of a crate is from nothing
