@@ -34,7 +34,7 @@ async function failures(folder, data, text) {
 }
 
 const folder = process.argv[2];
-const exercise = { path: "/none", has_pictures: false };
+const exercise = { path: "/none", files: new Map(), has_pictures: false };
 const module = new WebAssembly.Module(Buffer.from(TRAPS, "hex"));
 const counts = {
   "a trap": await failures(inside(folder, "traps"), { module, exercise }, "unreachable"),

@@ -1,7 +1,7 @@
 #!/bin/sh
-# What xv says of words before a program gets them: the words of each line `$ KIND WORD..` of told.txt are looked at in a folder
-# of files, and what is told, and the status, are compared. The status is 0 if all is as it should be. With
-# XV_NODE=yes it is anywhere/src/refusals.mjs that looks, and else programs/host/refusals.sh.
+# What xv says of words before a program gets them: the words of each line `$ KIND WORD..` of told.txt are looked at in a
+# folder of files, and what is told, and the status, are compared; with the KIND serve, what is told of the program that GDB
+# gets. The status is 0 if all is as it should be. With XV_NODE=yes it is anywhere/src/ that looks, and else programs/host/.
 #
 #   checks/refusals/run.sh           compares
 #   checks/refusals/run.sh --store   keeps what is told now
@@ -19,11 +19,15 @@ room=$(mktemp -d) || exit 2
 trap 'rm -rf "$room"' EXIT
 mkdir "$room/files" && cd "$room/files" || exit 2
 
-# Looks at words for the kind $1.
+# Looks at words for the kind $1; or if that is `serve`, serves GDB, which asks for nothing.
 looked_at() {
     kind=$1
     shift
-    if [ "${XV_NODE-}" = yes ]; then
+    if [ "$kind${XV_NODE-}" = serveyes ]; then
+        node "$root/xv.mjs" --gdb "$@"
+    elif [ "$kind" = serve ]; then
+        XV_GDB=true "$root/programs/host/modes.sh" --gdb "$@"
+    elif [ "${XV_NODE-}" = yes ]; then
         cat >"$room/look.mjs" <<END
 import { looked_at } from "$root/anywhere/src/refusals.mjs";
 import { parts_of } from "$root/anywhere/src/words.mjs";

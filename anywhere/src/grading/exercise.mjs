@@ -1,8 +1,9 @@
 // The exercise: the names that may be handed in, and the files that it names, read once.
 import { closeSync, openSync, readFileSync, readSync, fstatSync } from "node:fs";
 import { createHash } from "node:crypto";
-import { file_of, module_of, run } from "../program.mjs";
-import { as_word, inside, is_whole } from "./paths.mjs";
+import { file_of, module_of, path_of, run } from "../program.mjs";
+import { inside, is_whole } from "./paths.mjs";
+import { key_of } from "./closed.mjs";
 import { MOST } from "./stage.mjs";
 import { Refusal } from "./words.mjs";
 
@@ -32,7 +33,7 @@ function file_at(path) {
     const bytes = Buffer.alloc(Math.min(size, MOST + 1));
     let got = 0;
     for (let more = -1; more !== 0 && got < bytes.length; got += more) more = readSync(fd, bytes, got, bytes.length - got, null);
-    return { path, bytes: bytes.subarray(0, got), size };
+    return { bytes: bytes.subarray(0, got), size };
   } catch {
     throw new Refusal(2, `${path}, which the exercise names, cannot be read`);
   } finally {
@@ -42,22 +43,23 @@ function file_at(path) {
 
 function sum_of(program, files) {
   const sum = createHash("sha256").update(program);
-  for (const { path, bytes, size } of files) sum.update(`\n${path} ${size}\n`).update(bytes);
+  for (const [key, { bytes, size }] of files) sum.update(`\n${key} ${size}\n`).update(bytes);
   return sum.digest("hex");
 }
 
 /**
  * Reads the exercise at this path.
  *
- * @returns the module, its path as the program takes it, the names that are wanted, the sum of the exercise's text, and that
- *   of all on which a result depends beside the submission
+ * @returns the module, its path as the program takes it, the names that are wanted, the files, the sum of the exercise's text,
+ *   and that of all on which a result depends beside the submission
  */
 export function read_exercise(given) {
-  const path = as_word(is_whole(given) ? given : inside(process.cwd(), given));
+  const here = is_whole(given) ? given : inside(process.cwd(), given);
+  const path = process.platform === "win32" ? Buffer.from(path_of(here.toString())) : here;
   const module = compiled("xv_grade");
   const wanted = lines_of(module, [path]);
   // The exercise itself is the first of them.
-  const files = lines_of(module, ["--inputs", path]).map(file_at);
-  const text = createHash("sha256").update(files[0].bytes).digest("hex");
-  return { module, path, wanted, text, common: sum_of(readFileSync(file_of("xv_grade")), files) };
+  const files = new Map(lines_of(module, ["--inputs", path]).map((file) => [key_of(file), file_at(file)]));
+  const text = createHash("sha256").update(files.values().next().value.bytes).digest("hex");
+  return { module, path, wanted, files, text, common: sum_of(readFileSync(file_of("xv_grade")), files) };
 }

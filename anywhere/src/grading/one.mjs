@@ -1,38 +1,45 @@
 // Grades one submission from the folder of its job, as programs/course/grade_one.sh does. What it leaves is `out` in that
 // folder, which is there only when it is whole, or `failed`.
 import { copyFileSync, mkdirSync, readFileSync, readdirSync, renameSync, rmSync, writeFileSync } from "node:fs";
-import { run } from "../program.mjs";
-import { as_word, inside } from "./paths.mjs";
+import { inside } from "./paths.mjs";
+import { key_of, run_closed } from "./closed.mjs";
 
 // A trace has the last events alone. Of a run that waits these show nothing, so then the picture is of its notes, which
 // are the turns, calls and ends of the whole run.
 const TRACED = 4096;
 
-/** Runs a program with this input, and gives its status, and what it wrote. */
-function ran(module, name, words, input = Buffer.alloc(0)) {
-  const output = [], errors = [];
-  let left = input;
-  const take = (most) => {
-    const part = left.subarray(0, most);
-    left = left.subarray(part.length);
-    return part;
-  };
-  const streams = { input: take, output: (bytes) => output.push(bytes), errors: (bytes) => errors.push(bytes) };
-  const status = run(module, name, words, streams);
-  return { status, output: Buffer.concat(output), errors: Buffer.concat(errors) };
+/** The files that the program reads: those of the exercise, and of this job. */
+function given_of(job, exercise) {
+  const given = new Map(exercise.files);
+  given.set("name", { bytes: readFileSync(inside(job, "name")) });
+  given.set("refused", { bytes: readFileSync(inside(job, "refused")) });
+  for (const name of readdirSync(inside(job, "files"))) {
+    given.set(key_of(`files/${name}`), { bytes: readFileSync(inside(job, "files", name)) });
+  }
+  return given;
 }
 
 const lines_of = (bytes) => bytes.reduce((sum, byte) => sum + (byte === 10), 0);
 
-/** Draws the picture of each trace in a folder, as `picture-N.svg`. */
-function draw(module, out) {
-  for (const name of readdirSync(out)) {
-    const number = /^trace-(.*)$/.exec(name)?.[1];
+/** The picture of each trace that was made, as `picture-N.svg`. */
+function pictures(module, made) {
+  const drawn = [];
+  for (const [key, trace] of made) {
+    const number = /^out\/trace-(.*)$/.exec(key)?.[1];
     if (!number) continue;
-    const trace = readFileSync(inside(out, name)), notes = readFileSync(inside(out, `notes-${number}`));
+    const notes = made.get(`out/notes-${number}`);
     const shown = lines_of(trace) < TRACED || lines_of(notes) > TRACED ? trace : notes;
-    writeFileSync(inside(out, `picture-${number}.svg`), ran(module, "xv_picture", [], shown).output);
+    drawn.push([`out/picture-${number}.svg`, run_closed(module, "xv_picture", [], new Map(), shown).output]);
   }
+  return drawn;
+}
+
+/** Writes all that was made into the folder `out`, which gets its name when it is whole. */
+function keep(job, made) {
+  mkdirSync(inside(job, "out.new"));
+  for (const [key, bytes] of made) writeFileSync(inside(job, "out.new", key.slice("out/".length)), bytes);
+  copyFileSync(inside(job, "stamp"), inside(job, "out.new", "stamp"));
+  renameSync(inside(job, "out.new"), inside(job, "out"));
 }
 
 /** Tells in a job's folder why it has no result, as far as the host can write there. */
@@ -48,19 +55,15 @@ export function fail(job, text) {
 /**
  * Grades the submission of this job.
  *
- * @param {{path: Uint8Array, has_pictures: boolean}} exercise
+ * @param {{path: Uint8Array, files: Map, has_pictures: boolean}} exercise
  */
 export function grade_one(module, exercise, job) {
-  const out = inside(job, "out.new"), its = (name) => as_word(inside(job, name));
-  const words = ["--name", its("name"), "--refused", its("refused"), "--out", as_word(out), exercise.path, its("files")];
+  const words = ["--name", "/name", "--refused", "/refused", "--out", "/out", exercise.path, "/files"];
   try {
     for (const name of ["out", "out.new", "failed"]) rmSync(inside(job, name), { recursive: true, force: true });
-    mkdirSync(out);
-    const { status, errors } = ran(module, "xv_grade", words);
+    const { status, errors, made } = run_closed(module, "xv_grade", words, given_of(job, exercise));
     if (status !== 0) return fail(job, errors);
-    if (exercise.has_pictures) draw(module, out);
-    copyFileSync(inside(job, "stamp"), inside(out, "stamp"));
-    renameSync(out, inside(job, "out"));
+    keep(job, exercise.has_pictures ? [...made, ...pictures(module, made)] : [...made]);
   } catch (error) {
     fail(job, `xv_grade: ${error}\n`);
   }

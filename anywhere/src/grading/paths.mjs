@@ -9,9 +9,6 @@ export function inside(folder, ...names) {
   return Buffer.concat([Buffer.from(folder), ...names.flatMap((name) => [SLASH, Buffer.from(name)])]);
 }
 
-/** A path as a word of a program: on Windows with slashes. */
-export const as_word = (path) => (WINDOWS ? Buffer.from(path.toString().replaceAll("\\", "/")) : path);
-
 /** Whether a path begins at the root, or on Windows at a drive. */
 export function is_whole(path) {
   return is_slash(path[0]) || (WINDOWS && path[1] === 0x3a);
