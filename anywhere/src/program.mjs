@@ -7,6 +7,7 @@ import { setFlagsFromString } from "node:v8";
 import { existsSync, readFileSync } from "node:fs";
 import { join } from "node:path";
 import { fileURLToPath } from "node:url";
+import { isMainThread } from "node:worker_threads";
 import { with_held } from "./held.mjs";
 import { rest } from "./streams.mjs";
 
@@ -17,9 +18,8 @@ const FOLDER = fileURLToPath(new URL("..", import.meta.url));
 // A function that has run for a while is compiled once more, for speed, and Node ends only after that. Up to Node 20 a while is
 // so short that the end of a short run would wait for it; this is about what later ones have.
 const [V8] = process.versions.v8.split(".").map(Number);
-if (V8 < 12) setFlagsFromString("--wasm-tiering-budget=10000000");
-// A function is compiled when it is called first: a short run calls few of them.
-setFlagsFromString("--wasm-lazy-compilation");
+// Flags are of the process: a thread leaves them as they are.
+if (V8 < 12 && isMainThread) setFlagsFromString("--wasm-tiering-budget=10000000");
 
 // Errors of WASI, by the names that Node gives them.
 const ERRORS = { EAGAIN: 6, EIO: 29, ENOSPC: 51, EPIPE: 64 };
