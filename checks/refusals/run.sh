@@ -1,7 +1,8 @@
 #!/bin/sh
-# What xv says of words before a program gets them: the words of each line `$ KIND WORD..` of told.txt are looked at in a
-# folder of files, and what is told, and the status, are compared; with the KIND serve, what is told of the program that GDB
-# gets. The status is 0 if all is as it should be. With XV_NODE=yes it is anywhere/src/ that looks, and else programs/host/.
+# What xv says of words before a program gets them: the words of each line `$ KIND WORD..` of told.txt are looked at
+# in a folder of files, and what is told, and the status, are compared; with the KIND serve, what is told of the
+# program that GDB gets. The status is 0 if all is as it should be. With XV_NODE=yes it is anywhere/src/ that looks,
+# and else programs/host/.
 #
 #   checks/refusals/run.sh           compares
 #   checks/refusals/run.sh --store   keeps what is told now

@@ -1,7 +1,7 @@
-// Runs a program of the machine over files that it is given, closed off from the host: it opens nothing else, and what it
-// writes is kept here. So a run is a function of bytes, and costs no call of the host. The functions are those of WASI
-// (preview 1) for which anywhere/build/wasi.c asks. (With Node's own WASI in the threads of a pool Node 20 was seen to abort, on
-// a host that had much else to do.)
+// Runs a program of the machine over files that it is given, closed off from the host: it opens nothing else, and
+// what it writes is kept here. So a run is a function of bytes, and costs no call of the host. The functions are
+// those of WASI (preview 1) for which anywhere/build/wasi.c asks. (With Node's own WASI in the threads of a pool Node
+// 20 was seen to abort, on a host that had much else to do.)
 
 const OK = 0;
 const NO_DESCRIPTOR = 8;
