@@ -181,10 +181,12 @@ const WAYS = [
   () => { programs.set_files(works.shipped_files("shell"), {}, "shell, as it was shipped"); return programs.boot(); },
 ];
 
+let kept_is_read = null; // what the browser has kept is read while the worker begins
+
 /** Boots the first machine, by the first way that leads to one. */
 async function first_machine() {
   look();
-  await session.begin();
+  await kept_is_read;
   for (const way of WAYS) {
     try { if (await way()) break; } catch (error) { problem(`Something has gone wrong: ${error.message}`); }
   }
@@ -207,6 +209,7 @@ function begin() {
   app.worker.onmessage = heard;
   app.worker.onerror = (event) => { programs.refuse(event.message); console.error(event.message); };
   for (const [name, part] of Object.entries(PARTS)) start_part(name, part.start);
+  kept_is_read = session.begin();
   tabs();
   keep_clear();
   on("ready", first_machine);

@@ -174,7 +174,7 @@ async function chosen_ended(page) {
   await page.eval("[...document.querySelectorAll('#process-rows tr')].find((it) => it.textContent.startsWith('└ 2') || it.textContent.includes('└ 2')).click()");
   await page.sleep(200);
   await page.eval("page.ask('go', { place: page.app.line.end })");
-  await page.sleep(500);
+  await comes(page, "document.querySelector('#instruction .who').textContent.includes('as it ended')");
   const who = await page.eval("document.querySelector('#instruction .who').textContent");
   holds(who.startsWith("2 (init), as it ended") && (await text_of(page, "registers")).includes("77"), `a process that was chosen and has ended: ${who}`);
 }
@@ -251,8 +251,7 @@ async function ended(page) {
   holds(code.includes("addi s1") === false ? code.includes("li s1, 0x123") : true, `the last process's instructions stay: ${code.slice(0, 60)}`);
   holds(who.includes("as it ended") && (await text_of(page, "registers")).includes("291"), `it is shown as it ended: ${who}`);
   await page.eval("show_tab('pages')");
-  await page.sleep(500);
-  holds(await page.eval("page.app.view?.pages?.found.length > 0 && page.app.view?.pages.found.every((it) => page.app.view?.frames.kinds[it.frame] === 6)"), "its page table and the map of frames are of the same moment");
+  holds(await comes(page, "page.app.view?.pages?.found.length > 0 && page.app.view?.pages.found.every((it) => page.app.view?.frames.kinds[it.frame] === 6)"), "its page table and the map of frames are of the same moment");
   await page.picture(`${folder}/ended.png`);
   await page.eval("show_tab('instruction')");
 }

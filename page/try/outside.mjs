@@ -143,7 +143,7 @@ async function panels(page) {
   holds(await page.eval("document.getElementById('registers').offsetHeight === 0 && document.getElementById('code').offsetHeight === 0"), "and shows nothing of before");
   holds(await comes(page, "/x\\s+x/.test(document.getElementById('screen').textContent)"), "the others go on");
   await page.picture(`${folder}/outside-panel.png`);
-  await page.eval("page.app.booted.symbols = window.right_symbols");
+  await page.eval("page.app.booted.symbols = window.right_symbols; 0");
   await type(page, "echo y\n");
   holds(await comes(page, "!document.querySelector('#instruction.failed') && document.getElementById('registers').offsetHeight > 0"), "and so does it, once it can");
 }
