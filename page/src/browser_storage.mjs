@@ -7,7 +7,7 @@ const PREFIX = "nektavoly "; // of the names in localStorage and sessionStorage
 // Since when not all is kept. It has its room from the beginning on: so it can be noted when all else is full.
 const MARK = `${PREFIX}not kept`, MARK_LETTERS = 40;
 const MOST_RUNS = 50;
-const PATIENCE = 4000; // ms for the database to open
+const PATIENCE = 15000; // ms for the database to be read; then the page begins without it, and takes it when it comes
 
 let database = null;
 const values = new Map(); // by their names: {value, version}
@@ -41,7 +41,6 @@ function opened() {
     };
     request.onsuccess = () => done(request.result);
     request.onerror = () => fail(request.error);
-    setTimeout(() => fail(new Error("the database doesn't open")), PATIENCE);
   });
 }
 
@@ -238,18 +237,29 @@ async function take_over() {
   attempt("localStorage", (it) => { for (const name of old.keys()) it.removeItem(PREFIX + name); });
 }
 
+/** Reads the database. What the page has kept meanwhile, if it didn't wait, stays, and is written. */
+async function read() {
+  database = await opened();
+  database.onversionchange = () => database.close();
+  const all = await transaction([VALUES], "readonly", (it) => answer_of(it.objectStore(VALUES).getAll()));
+  for (const { name, value, version } of all) if (!waiting.has(name)) values.set(name, { value, version });
+  await take_over();
+  note_kept();
+  write_all();
+}
+
+const late = () => new Promise((_, fail) => {
+  setTimeout(() => fail(new Error("the database doesn't open")), PATIENCE);
+});
+
 /** Reads what is kept. Tells since when what was done last time wasn't kept, in ms; 0: all was. */
 export async function load() {
-  const since = last_not_kept();
+  const since = last_not_kept(), reading = read();
+  reading.catch(() => { /* it is told below */ });
   try {
-    database = await opened();
-    database.onversionchange = () => database.close();
-    const all = await transaction([VALUES], "readonly", (it) => answer_of(it.objectStore(VALUES).getAll()));
-    for (const { name, value, version } of all) values.set(name, { value, version });
-    await take_over();
-    note_kept();
+    await Promise.race([reading, late()]);
   } catch (error) {
-    for (const [name, value] of old_values()) values.set(name, { value });
+    for (const [name, value] of old_values()) if (!values.has(name)) values.set(name, { value });
     note_not_kept(error);
   }
   return since;

@@ -217,8 +217,9 @@ async function lesson(page) {
 async function no_storage(page) {
   await type(page, "echo kept\n");
   await page.until("/kept\\s+kept/.test(document.getElementById('screen').textContent)");
-  await page.sleep(1500);
+  await pause(page);
   const end = await page.eval("page.app.line.end");
+  for (let k = 0; k < 60 && !(await kept_runs(page)).some((it) => it.length === end); k++) await page.sleep(200);
   await page.eval("IDBObjectStore.prototype.put = () => { throw new DOMException('full', 'QuotaExceededError'); }; Storage.prototype.setItem = ((put) => function (name, value) { if (value.length > 60) throw new DOMException('full', 'QuotaExceededError'); put.call(this, name, value); })(Storage.prototype.setItem)");
   await type(page, "echo lost\n");
   await page.until("/lost\\s+lost/.test(document.getElementById('screen').textContent)");
@@ -233,7 +234,7 @@ async function no_storage(page) {
   await page.go(`${url}?${Math.random()}`);
   await comes(page, "page.app.view && page.problems().length");
   const after = await page.eval("page.problems().join(' ')"), length = await page.eval("page.app.line.end");
-  holds(length >= end - 200 && !(await text_of(page, "screen")).includes("lost") && after.includes("was not kept"), `after a reload it is told truthfully: ${after}`);
+  holds(length === end && !(await text_of(page, "screen")).includes("lost") && after.includes("was not kept"), `after a reload it is told truthfully: ${after}`);
   holds(await comes(page, "document.getElementById('kept').textContent.includes('✓')"), "and all is kept again");
 }
 
