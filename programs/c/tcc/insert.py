@@ -5,10 +5,10 @@
   extension M.
 - There are no registers for fractions: what needs one is a mistake of the source, and no instruction of the extensions F and D is
   written.
-- A constant of a pointer's type has 64 bits, a structure that goes in registers is loaded at a multiple of eight, and a signed character
-  that becomes an unsigned short number loses its sign.
+- A constant of a pointer's type has 64 bits, a structure that goes in registers is loaded at a multiple of eight, a signed character that
+  becomes an unsigned short number loses its sign, and unnamed arguments are found behind more than eight named ones.
 - What would be compiled wrongly else, or to a load that the machine refuses, is refused: packed structures, bit fields of long, arrays whose
-  length isn't a constant.
+  length isn't a constant, cases above 2^63, structures without members as arguments, assembler with operands.
 """
 import pathlib
 import re
@@ -57,6 +57,8 @@ CALL = '''    {
 COPY = '''    for (i = 0; i < nb_args; i++) {
         CType its = vtop[1 + i - nb_args].type;
         size = type_size(&its, &align);
+        if ((its.t & VT_BTYPE) == VT_STRUCT && size == 0)
+            tcc_error("a structure without members can't be handed on");
         if ((its.t & VT_BTYPE) != VT_STRUCT || size > 2 * XLEN || align >= XLEN || size <= align)
             continue;
         loc = (loc - 2 * XLEN) & -XLEN;
@@ -88,6 +90,15 @@ LONG_FIELDS = '''                        if ((type1.t & VT_BTYPE) == VT_LLONG)
 '''
 VARIABLE = '''                tcc_error("arrays whose length isn't a constant aren't there: take malloc");
 '''
+CASES = '''        if ((cur_switch->sv.type.t & (VT_BTYPE | VT_UNSIGNED)) == (VT_LLONG | VT_UNSIGNED) && (cr->v1 < 0 || cr->v2 < 0))
+            tcc_error("a case above 9223372036854775807 isn't there: take if");
+'''
+ASSEMBLER = '''    if (nb_operands > 0)
+        asm_error();
+'''
+
+# Unnamed arguments lie at multiples of eight, behind named ones that a register didn't take.
+UNNAMED = "    func_va_list_ofs = (func_va_list_ofs + XLEN - 1) & -XLEN;\n"
 PACK = '''        tcc_error("#pragma pack isn't there: a load at an address that is no multiple of its size is a fault");
 '''
 
@@ -108,13 +119,16 @@ BEHIND = {
         (r"(?=    gv2\(RC_INT, RC_INT\);\n    a = ireg\(vtop\[-1\])", CALL),
         (r"(?=    areg\[0\] = 0; /\* int arg regs \*/\n)", COPY),
         (r"    \*regsize = 8;\n", "    *ret_align = XLEN;\n"),
+        (r"    func_va_list_ofs = addr;\n", UNNAMED),
     ],
     "tccgen.c": [
         (r"(?=            /\* ss <= 4 here \*/\n)", NARROW),
         (r"        case TOK_PACKED2:\n", PACKED),
         (r"                        bit_size = expr_const\(\);\n", LONG_FIELDS),
         (r"                    tcc_error\(\"size of variable length array should be an integer\"\);\n", VARIABLE),
+        (r"                tcc_warning\(\"empty case range\"\);\n        \}\n", CASES),
     ],
+    "riscv64-asm.c": [(r"ST_FUNC void asm_compute_constraints\([^)]*\)\n\{\n", ASSEMBLER)],
     "tccpp.c": [(r"    \} else if \(tok == TOK_pack\) \{\n", PACK)],
 }
 
