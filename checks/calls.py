@@ -11,17 +11,19 @@ import re
 import sys
 
 TOP = pathlib.Path(__file__).resolve().parents[1]
-TABLE, CODE = TOP / "crates/kernel_calls/src/call.rt", TOP / "programs/c/lib/calls.S"
-HEADER, MANUAL = TOP / "programs/c/lib/unistd.h", TOP / "docs/manual/machine.md"
+TABLE, NUMBERS = TOP / "crates/kernel_calls/src/call.rt", TOP / "crates/kernel_calls/src/numbers.rt"
+CODE, HEADER = TOP / "programs/c/lib/calls.S", TOP / "programs/c/lib/unistd.h"
+MANUAL = TOP / "docs/manual/machine.md"
 
 
 def calls():
     """The calls by their numbers: (number, name, how many arguments)."""
     text = TABLE.read_text(encoding="utf-8")
-    arms = {word: re.findall(rf"{word} => ([^,\n]+),", text) for word in re.findall(r"KernelCall::(\w+),\n", text)}
+    numbers = dict(re.findall(r"const (\w+): i32 = (\d+);", NUMBERS.read_text(encoding="utf-8")))
+    arms = {word: re.findall(rf"KernelCall::{word} => ([^,\n]+),", text) for word in re.findall(r"KernelCall::(\w+),\n", text)}
     lists = re.findall(r"((?:KernelCall::\w+(?: \| )?)+) => (?:\{\s*)?&\[(.*?)\]", text, re.S)
     arguments = {word: items.count("Argument::") for words, items in lists for word in re.findall(r"::(\w+)", words)}
-    return sorted((int(number), name.strip('"'), arguments[word]) for word, (number, name, *_) in arms.items())
+    return sorted((int(numbers[number[9:]]), name.strip('"'), arguments[word]) for word, (number, name, *_) in arms.items())
 
 
 def code_of(table):

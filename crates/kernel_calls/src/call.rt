@@ -3,6 +3,7 @@ ghost use Rattle.std.specs.Prelude.{◌≡◌, pos};
 ghost use Rattle.kernel_calls.specs.Table.{entry_of, call_at, call_named};
 
 use crate::argument::Argument;
+use crate::numbers;
 
 /// A kernel call.
 #[derive(Clone, Copy)]
@@ -51,22 +52,22 @@ impl KernelCall {
         ensures { result ≡ pos (entry_of self).number }
     {
         match self {
-            KernelCall::Fork => 1,
-            KernelCall::Exit => 2,
-            KernelCall::Wait => 3,
-            KernelCall::Pipe => 4,
-            KernelCall::Read => 5,
-            KernelCall::Kill => 6,
-            KernelCall::Exec => 7,
-            KernelCall::Dup => 10,
-            KernelCall::Getpid => 11,
-            KernelCall::Sbrk => 12,
-            KernelCall::Sleep => 13,
-            KernelCall::Uptime => 14,
-            KernelCall::Open => 15,
-            KernelCall::Write => 16,
-            KernelCall::Close => 21,
-            KernelCall::Sbrklazy => 22,
+            KernelCall::Fork => numbers::FORK,
+            KernelCall::Exit => numbers::EXIT,
+            KernelCall::Wait => numbers::WAIT,
+            KernelCall::Pipe => numbers::PIPE,
+            KernelCall::Read => numbers::READ,
+            KernelCall::Kill => numbers::KILL,
+            KernelCall::Exec => numbers::EXEC,
+            KernelCall::Dup => numbers::DUP,
+            KernelCall::Getpid => numbers::GETPID,
+            KernelCall::Sbrk => numbers::SBRK,
+            KernelCall::Sleep => numbers::SLEEP,
+            KernelCall::Uptime => numbers::UPTIME,
+            KernelCall::Open => numbers::OPEN,
+            KernelCall::Write => numbers::WRITE,
+            KernelCall::Close => numbers::CLOSE,
+            KernelCall::Sbrklazy => numbers::SBRKLAZY,
         }
     }
 
@@ -120,22 +121,22 @@ impl KernelCall {
         ensures { result ≡ call_at number }
     {
         let call = match number {
-            1 => KernelCall::Fork,
-            2 => KernelCall::Exit,
-            3 => KernelCall::Wait,
-            4 => KernelCall::Pipe,
-            5 => KernelCall::Read,
-            6 => KernelCall::Kill,
-            7 => KernelCall::Exec,
-            10 => KernelCall::Dup,
-            11 => KernelCall::Getpid,
-            12 => KernelCall::Sbrk,
-            13 => KernelCall::Sleep,
-            14 => KernelCall::Uptime,
-            15 => KernelCall::Open,
-            16 => KernelCall::Write,
-            21 => KernelCall::Close,
-            22 => KernelCall::Sbrklazy,
+            numbers::FORK => KernelCall::Fork,
+            numbers::EXIT => KernelCall::Exit,
+            numbers::WAIT => KernelCall::Wait,
+            numbers::PIPE => KernelCall::Pipe,
+            numbers::READ => KernelCall::Read,
+            numbers::KILL => KernelCall::Kill,
+            numbers::EXEC => KernelCall::Exec,
+            numbers::DUP => KernelCall::Dup,
+            numbers::GETPID => KernelCall::Getpid,
+            numbers::SBRK => KernelCall::Sbrk,
+            numbers::SLEEP => KernelCall::Sleep,
+            numbers::UPTIME => KernelCall::Uptime,
+            numbers::OPEN => KernelCall::Open,
+            numbers::WRITE => KernelCall::Write,
+            numbers::CLOSE => KernelCall::Close,
+            numbers::SBRKLAZY => KernelCall::Sbrklazy,
             _ => return None,
         };
         Some(call)

@@ -8,6 +8,7 @@
 mod argument;
 mod call;
 pub mod laws;
+pub mod numbers;
 
 pub use argument::{Argument, ArgumentKind};
 pub use call::{CALLS, KernelCall};
