@@ -6,11 +6,9 @@ ghost use Rattle.explained_run.specs.Seen.{seen_of};
 
 use crate::seen::Seen;
 use kernel_calls::KernelCall;
+use kernel_calls::numbers::EXIT;
 use xk_base::Pid;
 use xv_machine::Outcome;
-
-/// The number of the kernel call exit.
-pub(crate) const EXIT: i32 = 2;
 
 /// Which lines are asked for.
 #[derive(Clone, Copy)]

@@ -3,7 +3,8 @@ ghost use Rattle.std.specs.Prelude.{◌≡◌, ◌<◌, [], true, OnOk, IfSome, 
 ghost use Rattle.xv_machine.specs.Events.{outcome_of};
 ghost use Rattle.explained_run.specs.Counts as meant;
 
-use crate::choice::{Choice, EXIT};
+use crate::choice::Choice;
+use kernel_calls::numbers::EXIT;
 use std::alloc::{AllocFailed, Global};
 use xk_base::Pid;
 use xv_machine::Outcome;

@@ -9,12 +9,10 @@ ghost use Rattle.explained_run.specs.Seen.{seen_of};
 use crate::choice::Choice;
 use crate::seen::{Seen, show_asked};
 use call_lines::{Asked, show_answer};
+use kernel_calls::numbers::EXEC;
 use std::alloc::{AllocError, Global};
 use xk_base::{Cause, Pid};
 use xv_machine::{Machine, Outcome};
-
-/// The number of the kernel call exec.
-const EXEC: i32 = 7;
 
 // What stands before a call that has waited.
 fn mark(resumed: bool) -> &'static str

@@ -3,17 +3,11 @@ ghost use Rattle.std.specs.Prelude.{◌≡◌, [], true, OnOk};
 ghost use Rattle.kcall_core.specs.Observers.{process_at};
 ghost use Rattle.reported_run.specs.Ends as meant;
 
+use kernel_calls::numbers::{KILL, SBRK, SBRKLAZY};
 use std::alloc::{AllocFailed, Global};
 use xk_base::Pid;
 use xv_machine::{Machine, ProcessState};
 use xv_session::{Named, Session};
-
-/// The numbers of the kernel calls (xv6's `syscall.h`; `sbrklazy` is this project's own).
-const KILL: i32 = 6;
-
-const SBRK: i32 = 12;
-
-const SBRKLAZY: i32 = 22;
 
 /// A kernel call that was made.
 #[derive(Clone, Copy)]

@@ -6,7 +6,8 @@ use Rattle.kernel_spec.specs.runs.Run.{Outcome, Step_of, Turn, Idle, Ticked, Typ
 use Rattle.kernel_spec.specs.steps.Own.{Stepped, Called, Blocked, Exited, Faulted}
 use Rattle.kernel_spec.specs.views.Words.{or_zero}
 use Rattle.xk_base.specs.declared.limits.TheConstants.{PAGE_BYTES}
-use Rattle.run_work.specs.declared.cost.TheConstants.{PAGE_COST, READ, WRITE, EXEC, SBRK, SBRKLAZY}
+use Rattle.kernel_calls.specs.declared.numbers.TheConstants.{READ, WRITE, EXEC, SBRK, SBRKLAZY}
+use Rattle.run_work.specs.declared.cost.TheConstants.{PAGE_COST}
 use Rattle.run_work.specs.declared.cost.Before.{Before}
 
 -- the pages that so many bytes take

@@ -4,25 +4,13 @@ ghost use Rattle.kcall_core.specs.Observers.{size_of};
 ghost use Rattle.xv_machine.specs.Events.{outcome_of};
 ghost use Rattle.run_work.specs.Work as meant;
 
+use kernel_calls::numbers::{EXEC, READ, SBRK, SBRKLAZY, WRITE};
 use xk_base::Pid;
 use xk_base::limits::PAGE_BYTES;
 use xv_machine::{Machine, Outcome};
 
 /// What a page costs that is cleared or copied: as much as so many instructions.
 pub const PAGE_COST: u64 = 256;
-
-/// The numbers of calls that copy as many bytes as they answer.
-const READ: i32 = 5;
-
-const WRITE: i32 = 16;
-
-/// The number of the call that makes all pages of its process anew.
-const EXEC: i32 = 7;
-
-/// The numbers of calls that give pages or take them.
-const SBRK: i32 = 12;
-
-const SBRKLAZY: i32 = 22;
 
 /// What is seen of a machine before Runs are sent.
 #[derive(Clone, Copy)]

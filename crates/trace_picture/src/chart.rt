@@ -4,7 +4,8 @@ ghost use Rattle.std.specs.Option.{option_to_list};
 ghost use Rattle.trace_picture.specs.Row.{actor, answered_pid, newborn, AreNamed, IsRowOf, pids_of};
 
 use crate::note::Note;
-use crate::row::{FORK, Phase, phases};
+use crate::row::{Phase, phases};
+use kernel_calls::numbers::FORK;
 use std::alloc::{AllocError, Global};
 
 /// What one process did.

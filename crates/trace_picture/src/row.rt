@@ -3,6 +3,7 @@ ghost use Rattle.std.specs.Prelude.{◌≡◌, IfOk, ◌∷◌, [], ◌++◌};
 ghost use Rattle.trace_picture.specs.Row.{after, after_call, paused, states, shown};
 
 use crate::note::Note;
+use kernel_calls::numbers::{FORK, WAIT};
 use std::alloc::{AllocError, Global};
 
 /// What a process does.
@@ -26,12 +27,6 @@ pub struct Phase {
     pub state: State,
     pub events: usize,
 }
-
-/// The number of the call `fork` (xv6's `syscall.h`).
-pub const FORK: i32 = 1;
-
-// The number of the call `wait`.
-const WAIT: i32 = 3;
 
 // What a process does where the turn of whoever runs is over.
 fn paused(was: State) -> State

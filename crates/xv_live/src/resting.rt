@@ -5,12 +5,10 @@ ghost use Rattle.kernel_spec.specs.waking.Wakes.{IsRunnable};
 ghost use Rattle.xv_machine.specs.Sound.{IsSoundMachine};
 ghost use Rattle.xv_live.specs.Resting.{NothingHappens, RunsDoNothing, WaitsForTicks};
 
+use kernel_calls::numbers::SLEEP;
 use xk_base::Pid;
 use xk_base::limits::NPROC;
 use xv_machine::{Machine, ProcessState};
-
-/// The number of the kernel call `sleep`.
-const SLEEP: i32 = 13;
 
 // Whether the process of this pid lives, and doesn't sleep.
 fn is_runnable(machine: &Machine, pid: Pid) -> bool

@@ -10,6 +10,7 @@ ghost use Rattle.kernel_spec.specs.views.State.{live};
 ghost use Rattle.xv_report.specs.Waits as meant;
 ghost use Rattle.xv_report.specs.Waits.{told_on, wait_of, descriptor_in, descriptor_of_call, wait_in_this};
 
+use kernel_calls::numbers::{READ, SLEEP, WAIT, WRITE};
 use xk_base::limits::NOFILE;
 use xk_base::{Fd, Frame, Pid};
 use xv_machine::{Call, ChildState, End, Machine, ProcessState, Target};
@@ -30,15 +31,6 @@ pub enum Wait {
     /// Room among the bytes that the console has to send, which it writes by this descriptor.
     Sending { fd: Fd },
 }
-
-/// The numbers of the calls in which a process may sleep (xv6's `syscall.h`).
-const WAIT: i32 = 3;
-
-const READ: i32 = 5;
-
-const SLEEP: i32 = 13;
-
-const WRITE: i32 = 16;
 
 /// A C int: the low 32 bits of a register, read as signed.
 fn c_int(register: u64) -> i32

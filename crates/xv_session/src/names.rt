@@ -8,6 +8,7 @@ ghost use Rattle.xv_machine.specs.Events.{event_of};
 ghost use Rattle.xv_session.specs.Names.{text_in, asked_in, asked_for, child_of, gone_on_with};
 
 use arrayvec::ArrayVec;
+use kernel_calls::numbers::{EXEC, FORK};
 use std::marker::Model;
 use xk_base::limits::{MAXPATH, NPROC, PID_MAX};
 use xk_base::{Pid, Program, Reg};
@@ -29,12 +30,6 @@ impl Default for Named {
         }
     }
 }
-
-/// The number of the kernel call fork.
-const FORK: i32 = 1;
-
-/// The number of the kernel call exec.
-const EXEC: i32 = 7;
 
 /// The register of a kernel call's first argument: a0.
 const FIRST_ARGUMENT: u8 = 10;
