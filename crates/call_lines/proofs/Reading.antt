@@ -4,7 +4,6 @@ use Rattle.std.proofs.Common.{refl, sym, ◌∙◌, ap, subst, arith, codes, app
 use Rattle.std.specs.Prelude.{ℤ}
 use Rattle.std.proofs.lemmas.Result.{on_ok_weaker}
 use Rattle.kernel_spec.specs.views.State.{State}
-use Rattle.kcall_core.specs.Observers.{byte_at}
 use Rattle.kernel_calls.specs.Table.{call_at}
 use Rattle.kernel_calls.specs.declared.call.KernelCall.{KernelCall}
 use Rattle.call_lines.specs.declared.asked.Asked.{Asked}
@@ -12,7 +11,7 @@ use Rattle.kernel_calls.specs.Arguments.{kind_of}
 use Rattle.kernel_calls.specs.declared.argument.Argument.{Argument}
 use Rattle.kernel_calls.specs.declared.argument.ArgumentKind.{ArgumentKind}
 use Rattle.call_lines.specs.Line.{answer_shown, argument_here, argument_shown, buffer_length, stored_shown, value_at, value_shown, comma_unless, text_shown, texts_shown}
-use Rattle.call_lines.specs.Memory.{address_at, bytes_from, text_from}
+use Rattle.call_lines.specs.Memory.{address_at, bytes_from, read_at, text_from}
 use Rattle.debug_views.proofs.Texts.{shown_behind, three_shown}
 
 -- ---- bytes
@@ -24,13 +23,13 @@ no_bytes s p a zero old is = sym (append-nil old)
 no_bytes s p a (suc most) old is = absurd (omega (arith, is))
 
 -- none is there
-pub none_there : (s : State) (p a most : ℕ) (old : List ℕ) → byte_at s p a ≡ None → old ≡ old ++ bytes_from s p a most
+pub none_there : (s : State) (p a most : ℕ) (old : List ℕ) → read_at s p a ≡ None → old ≡ old ++ bytes_from s p a most
 unfolding bytes_from
 none_there s p a zero old none = sym (append-nil old)
 none_there s p a (suc most) old none = rw none (sym (append-nil old))
 
 -- one is there, and others may be behind it
-next_bytes : (s : State) (p a most next b : ℕ) → 0 < most → byte_at s p a ≡ Some b → next ≡ a + 1 → next < 2 ^ 64
+next_bytes : (s : State) (p a most next b : ℕ) → 0 < most → read_at s p a ≡ Some b → next ≡ a + 1 → next < 2 ^ 64
     → b ∷ bytes_from s p next (most - 1) ≡ bytes_from s p a most
 unfolding bytes_from
 next_bytes s p a zero next b some there at below = absurd (omega (arith, some))
@@ -39,14 +38,14 @@ next_bytes s p a (suc most) next b some there at below =
     let under : a + 1 < 2 ^ 64 = omega (arith, at, below) in
     rw (less, there, at, lt-ltb (a + 1) (2 ^ 64) under) refl
 
-pub more_bytes : {T E : Type 0} (r : Result T E) (s : State) (p a most next b : ℕ) (old mid new : List ℕ) → 0 < most → byte_at s p a ≡ Some b → next ≡ a + 1 → next < 2 ^ 64
+pub more_bytes : {T E : Type 0} (r : Result T E) (s : State) (p a most next b : ℕ) (old mid new : List ℕ) → 0 < most → read_at s p a ≡ Some b → next ≡ a + 1 → next < 2 ^ 64
     → mid ≡ old ++ b ∷ [] → OnOk r (new ≡ mid ++ bytes_from s p next (most - 1)) → OnOk r (new ≡ old ++ bytes_from s p a most)
 more_bytes r s p a most next b old mid new some there at below first wrote =
     let rest = bytes_from s p next (most - 1) in
     on_ok_weaker r (λ e. e ∙ ap (λ t. t ++ rest) first ∙ append_assoc old (b ∷ []) rest ∙ ap (λ t. old ++ t) (next_bytes s p a most next b some there at below)) wrote
 
 -- or it is the last one
-pub last_byte : (s : State) (p a most b : ℕ) (old new : List ℕ) → 0 < most → byte_at s p a ≡ Some b → 2 ^ 64 ≤ a + 1 → new ≡ old ++ b ∷ [] → new ≡ old ++ bytes_from s p a most
+pub last_byte : (s : State) (p a most b : ℕ) (old new : List ℕ) → 0 < most → read_at s p a ≡ Some b → 2 ^ 64 ≤ a + 1 → new ≡ old ++ b ∷ [] → new ≡ old ++ bytes_from s p a most
 unfolding bytes_from
 last_byte s p a zero b old new some there past first = absurd (omega (arith, some))
 last_byte s p a (suc most) b old new some there past first = rw (there, le-ltb (a + 1) (2 ^ 64) past) first
@@ -58,18 +57,18 @@ unfolding text_from
 no_letters s p a zero old is = sym (append-nil old)
 no_letters s p a (suc most) old is = absurd (omega (arith, is))
 
-pub no_letter_there : (s : State) (p a most : ℕ) (old : List ℕ) → byte_at s p a ≡ None → old ≡ old ++ text_from s p a most
+pub no_letter_there : (s : State) (p a most : ℕ) (old : List ℕ) → read_at s p a ≡ None → old ≡ old ++ text_from s p a most
 unfolding text_from
 no_letter_there s p a zero old none = sym (append-nil old)
 no_letter_there s p a (suc most) old none = rw none (sym (append-nil old))
 
 -- the zero that ends it
-pub text_ends : (s : State) (p a most b : ℕ) (old : List ℕ) → byte_at s p a ≡ Some b → b ≡ 0 → old ≡ old ++ text_from s p a most
+pub text_ends : (s : State) (p a most b : ℕ) (old : List ℕ) → read_at s p a ≡ Some b → b ≡ 0 → old ≡ old ++ text_from s p a most
 unfolding text_from
 text_ends s p a zero b old there is = sym (append-nil old)
 text_ends s p a (suc most) b old there is = rw (there, is) (sym (append-nil old))
 
-next_letters : (s : State) (p a most next b : ℕ) → 0 < most → byte_at s p a ≡ Some b → ¬ (b ≡ 0) → next ≡ a + 1 → next < 2 ^ 64
+next_letters : (s : State) (p a most next b : ℕ) → 0 < most → read_at s p a ≡ Some b → ¬ (b ≡ 0) → next ≡ a + 1 → next < 2 ^ 64
     → b ∷ text_from s p next (most - 1) ≡ text_from s p a most
 unfolding text_from
 next_letters s p a zero next b some there letter at below = absurd (omega (arith, some))
@@ -78,13 +77,13 @@ next_letters s p a (suc most) next b some there letter at below =
     let under : a + 1 < 2 ^ 64 = omega (arith, at, below) in
     rw (less, there, ne_eqb b 0 letter, at, lt-ltb (a + 1) (2 ^ 64) under) refl
 
-pub more_letters : {T E : Type 0} (r : Result T E) (s : State) (p a most next b : ℕ) (old mid new : List ℕ) → 0 < most → byte_at s p a ≡ Some b → ¬ (b ≡ 0) → next ≡ a + 1
+pub more_letters : {T E : Type 0} (r : Result T E) (s : State) (p a most next b : ℕ) (old mid new : List ℕ) → 0 < most → read_at s p a ≡ Some b → ¬ (b ≡ 0) → next ≡ a + 1
     → next < 2 ^ 64 → mid ≡ old ++ b ∷ [] → OnOk r (new ≡ mid ++ text_from s p next (most - 1)) → OnOk r (new ≡ old ++ text_from s p a most)
 more_letters r s p a most next b old mid new some there letter at below first wrote =
     let rest = text_from s p next (most - 1) in
     on_ok_weaker r (λ e. e ∙ ap (λ t. t ++ rest) first ∙ append_assoc old (b ∷ []) rest ∙ ap (λ t. old ++ t) (next_letters s p a most next b some there letter at below)) wrote
 
-pub last_letter : (s : State) (p a most b : ℕ) (old new : List ℕ) → 0 < most → byte_at s p a ≡ Some b → ¬ (b ≡ 0) → 2 ^ 64 ≤ a + 1
+pub last_letter : (s : State) (p a most b : ℕ) (old new : List ℕ) → 0 < most → read_at s p a ≡ Some b → ¬ (b ≡ 0) → 2 ^ 64 ≤ a + 1
     → new ≡ old ++ b ∷ [] → new ≡ old ++ text_from s p a most
 unfolding text_from
 last_letter s p a zero b old new some there letter past first = absurd (omega (arith, some))

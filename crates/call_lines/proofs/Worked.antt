@@ -1,10 +1,16 @@
 -- Worked cases of strings and lines.
-use Rattle.std.proofs.Common.{◌≡◌, [], ◌∷◌, ◌++◌, codes, None, refl, replicate}
+use Rattle.std.proofs.Common.{◌≡◌, [], ◌∷◌, ◌++◌, codes, None, Some, refl, replicate, true, false, arith, slice_index}
+use Rattle.std.specs.FinMap.{empty, get, get-empty}
+use Rattle.std.specs.Ordering.{nat_cmp}
 use Rattle.std.specs.Prelude.{pos, negsuc}
 use Rattle.std.specs.Fmt.{digits, padded_integral, char_count}
+use Rattle.xk_base.specs.Image.{Image, Page}
+use Rattle.xk_base.specs.Access.{data_rights}
+use Rattle.xk_base.specs.declared.access.Rights.{Rights}
 use Rattle.kernel_calls.specs.Table.{call_at}
 use Rattle.kernel_spec.specs.views.State.{State}
-use Rattle.call_lines.specs.Line.{answer_shown, call_shown}
+use Rattle.call_lines.specs.Line.{answer_shown, call_shown, whole_or_place}
+use Rattle.call_lines.specs.Memory.{read_of}
 use Rattle.call_lines.specs.Strings.{c_string, ending, escaped}
 
 -- ---- strings
@@ -26,6 +32,38 @@ all_shown = refl
 
 one_more : ending (replicate 33 97) ≡ codes "\"..."
 one_more = refl
+
+-- ---- what the kernel reads
+
+-- two pages of memory, of which none is there
+abbrev bare : Image
+bare = record { pages = empty; size = 8192 }
+
+absent : read_of bare 8191 ≡ Some 0
+absent = rw (get-empty {X = Page} nat_cmp 1) refl
+
+past_the_end : read_of bare 8192 ≡ None
+past_the_end = rw (get-empty {X = Page} nat_cmp 2) refl
+
+-- the guard page is there, and user code may not read it
+abbrev guard : Rights
+guard = record { read = true; write = true; execute = false; user = false }
+
+closed : (image : Image) (page : Page) → get image.pages 1 ≡ Some page → page.perm ≡ guard → read_of image 4096 ≡ None
+closed image page there perm = rw (there, perm) grind arith
+
+-- a byte of the program's own data
+opened : (image : Image) (page : Page) → get image.pages 1 ≡ Some page → page.perm ≡ data_rights → slice_index page.bytes 3 ≡ 104 → read_of image 4099 ≡ Some 104
+opened image page there perm byte = rw (there, perm) grind (arith, byte)
+
+-- ---- buffers
+
+whole : whole_or_place 4096 2 (104 ∷ 105 ∷ []) ≡ codes "\"hi\""
+whole = refl
+
+not_whole : whole_or_place 4096 2 (104 ∷ []) ≡ codes "0x1000"
+unfolding digits
+not_whole = refl
 
 -- ---- lines
 

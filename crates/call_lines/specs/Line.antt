@@ -13,8 +13,7 @@ use Rattle.kernel_calls.specs.declared.call.KernelCall.{KernelCall}
 use Rattle.kernel_calls.specs.declared.call.KernelCall.TheVariants.{Read, Write, Sbrk, Sbrklazy, Wait}
 use Rattle.kernel_spec.specs.views.State.{State}
 use Rattle.kernel_spec.specs.views.Words.{c_int}
-use Rattle.kcall_core.specs.Observers.{byte_at}
-use Rattle.call_lines.specs.Memory.{address_at, bytes_from, int_at, text_from}
+use Rattle.call_lines.specs.Memory.{address_at, bytes_from, int_at, read_at, text_from}
 use Rattle.call_lines.specs.Strings.{c_string}
 use Rattle.call_lines.specs.declared.asked.Asked.{Asked}
 use Rattle.call_lines.specs.declared.line.TheConstants.{TEXTS_MOST}
@@ -30,13 +29,13 @@ comma_unless is_first = if is_first then [] else codes ", "
 
 -- ---- arguments
 
--- a text in memory, by its first byte; its address if that isn't there
+-- a text in memory, by its first byte; its address if the kernel may not read that
 abbrev pub text_by : State → (p address : ℕ) → (first : Option ℕ) → List ℕ
 text_by s p address None = hexadecimal address
 text_by s p address (Some byte) = c_string (text_from s p address LOOKED_AT)
 
 abbrev pub text_shown : State → (p address : ℕ) → List ℕ
-text_shown s p address = text_by s p address (byte_at s p address)
+text_shown s p address = text_by s p address (read_at s p address)
 
 -- the text at an address that stands there, if it isn't 0, and those behind it
 abbrev pub text_and : State → (p : ℕ) → (is_first : Bool) → Option ℕ → List ℕ → List ℕ
@@ -64,10 +63,14 @@ buffer_length Write asked answered = natural (c_int asked.a2)
 buffer_length Read asked answered = natural_in answered
 buffer_length _ asked answered = None
 
+-- the bytes that are looked at, if the kernel may read all of them; else their address
+abbrev pub whole_or_place : (address most : ℕ) → (bytes : List ℕ) → List ℕ
+whole_or_place address most bytes = if length bytes == most then c_string bytes else hexadecimal address
+
 -- a buffer that has so many bytes; its address if nobody knows them yet
 abbrev pub buffer_shown : State → (p address : ℕ) → Option ℕ → List ℕ
 buffer_shown s p address None = hexadecimal address
-buffer_shown s p address (Some count) = c_string (bytes_from s p address (min count LOOKED_AT))
+buffer_shown s p address (Some count) = whole_or_place address (min count LOOKED_AT) (bytes_from s p address (min count LOOKED_AT))
 
 -- a C int in memory; a sign if it isn't there
 abbrev pub int_shown : Option ℤ → List ℕ

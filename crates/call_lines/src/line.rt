@@ -9,7 +9,7 @@ ghost use Rattle.call_lines.specs.Memory.{text_from};
 ghost use Rattle.call_lines.specs.Strings.{c_string};
 
 use crate::asked::{Asked, c_int};
-use crate::memory::{address_at, bytes_from, int_at, text_from};
+use crate::memory::{address_at, bytes_from, int_at, read_at, text_from};
 use crate::strings::{CString, SHOWN_MOST};
 use debug_words::texts::Hexadecimal;
 use kernel_calls::{Argument, ArgumentKind, KernelCall};
@@ -152,18 +152,18 @@ impl<'a> Lines<'a> {
         show_string(bytes.as_slice(), answer)
     }
 
-    // Writes a text in memory; its address if no byte of it is there.
+    // Writes a text in memory; its address if the kernel may not read its first byte.
     fn show_text(&self, address: u64, answer: &mut String) -> Result<(), AllocError>
         ensures { OnOk result
             (Appends answer.old answer.new (meant.text_shown self.now.machine.now.world.state self.now.pid address)) }
     {
-        match self.machine.peek(self.pid, address) {
+        match read_at(self.machine, self.pid, address) {
             None => show_address(address, answer),
             Some(_) => self.show_known_text(address, answer),
         }
     }
 
-    // Writes a buffer that has so many bytes; its address if nobody knows them yet.
+    // Writes a buffer that has so many bytes; its address if nobody knows them yet, or the kernel may not read them.
     fn show_buffer(
         &self,
         address: u64,
@@ -179,7 +179,11 @@ impl<'a> Lines<'a> {
         };
         let most = count.min(u64::from(LOOKED_AT)) as u32;
         let bytes = bytes_from(self.alloc, self.machine, self.pid, address, most)?;
-        show_string(bytes.as_slice(), answer)
+        if bytes.len() == most as usize {
+            show_string(bytes.as_slice(), answer)
+        } else {
+            show_address(address, answer)
+        }
     }
 
     // Writes a text among texts.

@@ -1,14 +1,61 @@
-//! What lies in a process's memory from an address on.
+//! What the kernel reads of a process's memory from an address on.
 ghost use Rattle.std.specs.Prelude.{◌≡◌, ◌++◌, [], OnOk, IfOk};
-ghost use Rattle.call_lines.specs.Memory.{address_at, address_of, bytes_from, int_at, int_of, text_from};
+ghost use Rattle.xk_base.specs.declared.access.Access.TheVariants.{Load};
+ghost use Rattle.sv39_core.specs.Sv39.{permits};
+ghost use Rattle.call_lines.specs.Memory.{address_at, address_of, bytes_from, int_at, int_of, is_below, read_at};
+ghost use Rattle.call_lines.specs.Memory.{text_from};
 
 use crate::asked::c_int;
 use byteorder::{ByteOrder, LittleEndian};
 use std::alloc::{AllocError, Global};
-use xk_base::Pid;
+use xk_base::limits::ADDRESS_END;
+use xk_base::{Perm, Pid, Vpn};
 use xv_machine::Machine;
 
-// Puts the bytes from an address on behind others, as far as they are there, so many at most.
+// Whether user code may read a page with these rights.
+fn may_read(perm: Perm) -> bool
+    ensures { result ≡ permits Load perm }
+{
+    let rights = perm.rights();
+    rights.user && rights.read
+}
+
+// Whether a page begins below the size of a process's memory.
+fn is_below(page: Vpn, size: Option<u64>) -> bool
+    ensures { result ≡ is_below page size }
+{
+    match size {
+        Some(size) => page.address() < size,
+        None => false,
+    }
+}
+
+/// The byte that the kernel reads at an address for a live process: the one that is there, if user code may read it; 0 in
+/// an absent page. `None` elsewhere, and for any other pid.
+pub(crate) fn read_at(machine: &Machine, pid: Pid, address: u64) -> Option<u8>
+    ensures { result ≡ read_at machine.now.world.state pid address }
+{
+    if address >= ADDRESS_END {
+        return None;
+    }
+    let page = Vpn::of_address(address);
+    match machine.perm(pid, page) {
+        Some(perm) => {
+            if !may_read(perm) {
+                return None;
+            }
+            machine.peek(pid, address)
+        }
+        None => {
+            if !is_below(page, machine.size(pid)) {
+                return None;
+            }
+            Some(0)
+        }
+    }
+}
+
+// Adds the bytes from an address on to others, as far as they are read, so many at most.
 fn push_bytes(
     machine: &Machine,
     pid: Pid,
@@ -21,7 +68,7 @@ fn push_bytes(
     if most == 0 {
         return Ok(());
     }
-    let Some(byte) = machine.peek(pid, address) else {
+    let Some(byte) = read_at(machine, pid, address) else {
         return Ok(());
     };
     let Ok(()) = bytes.push(byte) else {
@@ -33,7 +80,7 @@ fn push_bytes(
     }
 }
 
-/// The bytes from an address on, as far as they are there, so many at most.
+/// The bytes from an address on, as far as they are read, so many at most.
 pub(crate) fn bytes_from(
     alloc: Global,
     machine: &Machine,
@@ -48,7 +95,7 @@ pub(crate) fn bytes_from(
     Ok(bytes)
 }
 
-// Puts the bytes of a text behind others, up to the zero that ends it, so many at most.
+// Adds the bytes of a text to others, up to the zero that ends it, so many at most.
 fn push_text(
     machine: &Machine,
     pid: Pid,
@@ -61,7 +108,7 @@ fn push_text(
     if most == 0 {
         return Ok(());
     }
-    let Some(byte) = machine.peek(pid, address) else {
+    let Some(byte) = read_at(machine, pid, address) else {
         return Ok(());
     };
     if byte == 0 {
@@ -76,7 +123,7 @@ fn push_text(
     }
 }
 
-/// The bytes of a text, up to the zero that ends it, as far as they are there, so many at most.
+/// The bytes of a text, up to the zero that ends it, as far as they are read, so many at most.
 pub(crate) fn text_from(
     alloc: Global,
     machine: &Machine,

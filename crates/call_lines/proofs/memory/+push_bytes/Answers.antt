@@ -6,13 +6,13 @@ pub returns-then-most-eq0 : goal.returns-then-most-eq0
 returns-then-most-eq0 t c = no_bytes _ _ _ _ _ c.if-most-eq0.true
 
 pub returns-in_default : goal.returns-in_default
-returns-in_default t c = none_there _ _ _ _ _ (sym c.peek.ensures ∙ c.in_default.is)
+returns-in_default t c = none_there _ _ _ _ _ (sym c.read_at.ensures ∙ c.in_default.is)
 
 pub returns-in-Some-checked_add : goal.returns-in-Some-checked_add
 returns-in-Some-checked_add t c =
-    more_bytes c.push_bytes.result _ _ _ _ c.in-Some-checked_add.next c.in-Some.byte _ _ _ (omega (arith, c.if-most-eq0.false)) (sym c.peek.ensures ∙ c.in-Some.is)
+    more_bytes c.push_bytes.result _ _ _ _ c.in-Some-checked_add.next c.in-Some.byte _ _ _ (omega (arith, c.if-most-eq0.false)) (sym c.read_at.ensures ∙ c.in-Some.is)
     (omega (arith, c.in-Some-checked_add.ensures.1)) (omega (arith, c.in-Some-checked_add.ensures.0, c.in-Some-checked_add.ensures.1)) c.in-Ok.ensures.items c.push_bytes.ensures
 
 pub returns-in-None : goal.returns-in-None
 returns-in-None t c =
-    last_byte _ _ _ _ c.in-Some.byte _ _ (omega (arith, c.if-most-eq0.false)) (sym c.peek.ensures ∙ c.in-Some.is) (omega (arith, c.in-None.ensures)) c.in-Ok.ensures.items
+    last_byte _ _ _ _ c.in-Some.byte _ _ (omega (arith, c.if-most-eq0.false)) (sym c.read_at.ensures ∙ c.in-Some.is) (omega (arith, c.in-None.ensures)) c.in-Ok.ensures.items
