@@ -41,6 +41,8 @@ tell_others() {
     tell rows/run.sh 'rows/run.sh --many 1000 [--seed N]' 'more random programs in rows and by single events: minutes'
     tell rows/wild.sh 'rows/wild.sh --many 800 [--seed N]' 'the same of random words, some 100,000 rows: minutes'
     tell outside.sh 'outside.sh' "others' programs do what they do under QEMU: minutes, with \`torture\` an hour; needs packages, told by the script"
+    tell tcc/run.sh 'tcc/run.sh' "programs by the C compiler of programs/c/tcc do what gcc's do: a minute; needs programs/c/tcc/build.sh and nodejs"
+    tell tcc/torture.mjs 'tcc/torture.mjs FOLDER' "gcc's own tests by that compiler: some minutes; needs the same, and the tests of outside.sh torture"
     tell back-to/run.sh 'back-to/run.sh [N]' 'the stored runs, played back to 20 places each: slow; needs rt'
     tell release.sh 'release.sh FOLDER' 'a release, tried in a bare Debian 12, natively and by Node: some minutes; needs root, debootstrap and the network'
     tell imports.py 'imports.py [--tell] CRATE..' 'writes the heads of the proofs, and the module that hands on their words: a second'
