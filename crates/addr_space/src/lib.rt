@@ -306,8 +306,8 @@ impl Space {
             return Err(NoFrames);
         }
         add_page(pool, ram, self.root, number, perm);
-        self.tables += needed - 1;
         self.pages += 1;
+        self.tables += needed - 1;
         self.end = self.end.max(number as u32 + 1);
         Ok(())
     }
