@@ -1,15 +1,10 @@
 -- Shapes that are drawn one after another.
-use Rattle.std.proofs.Common.{◌≡◌, ◌∙◌, ℕ, ◌+◌, ◌<◌, ◌≤◌, List, [], ◌∷◌, ◌++◌, length, drop, get_or, Option, None, Some, arith, refl, sym, ap, subst, append_assoc, append-nil}
+use Rattle.std.proofs.Common.{◌≡◌, ◌∙◌, ℕ, ◌+◌, ◌<◌, List, ◌++◌, length, drop, get_or, Option, None, Some, sym, ap, append_assoc}
 use Rattle.std.specs.Prelude.{⊤, OnOk, Result, Ok, Err}
-use Rattle.std.proofs.lemmas.List.{drop_all, drop_more}
+use Rattle.std.proofs.lemmas.List.{drop_more}
 use Rattle.trace_picture.specs.Shapes.{Draws, all_at, bar, bars, behind}
 use Rattle.trace_picture.specs.declared.row.Phase.{Phase}
 use Rattle.trace_picture.specs.declared.shape.Shape.{Shape}
-
--- nothing
-pub draws-nothing : (canvas : Option (List Shape)) → Draws canvas canvas []
-draws-nothing None = tt
-draws-nothing (Some was) = sym (append-nil was)
 
 -- some, and then others
 pub draws-join : (a b c : Option (List Shape)) (xs ys : List Shape) → Draws a b xs → Draws b c ys → Draws a c (xs ++ ys)
@@ -17,10 +12,6 @@ draws-join None b c xs ys first next = tt
 draws-join (Some was) None c xs ys first next = absurd first
 draws-join (Some was) (Some mid) None xs ys first next = absurd next
 draws-join (Some was) (Some mid) (Some is) xs ys first next = next ∙ ap (λ (zs : List Shape). zs ++ ys) first ∙ append_assoc was xs ys
-
--- some, named otherwise
-pub draws-same : (a b : Option (List Shape)) (xs ys : List Shape) → xs ≡ ys → Draws a b xs → Draws a b ys
-draws-same a b xs ys same those = subst (λ (zs : List Shape). Draws a b zs) same those
 
 -- ---- in a loop
 
@@ -30,9 +21,6 @@ pub record IsDrawnUpTo (before now : Option (List Shape)) (left all : List Shape
   pub draws : Draws before now done
   pub are : done ++ left ≡ all
 
-pub none-drawn : (canvas : Option (List Shape)) (all : List Shape) → IsDrawnUpTo canvas canvas all all
-none-drawn canvas all = record { done = []; draws = draws-nothing canvas; are = refl }
-
 pub more-drawn : (a b c : Option (List Shape)) (some left rest all : List Shape) → IsDrawnUpTo a b left all → left ≡ some ++ rest → Draws b c some → IsDrawnUpTo a c rest all
 more-drawn a b c some left rest all so-far is more = record {
   done = so-far.done ++ some;
@@ -40,22 +28,12 @@ more-drawn a b c some left rest all so-far is more = record {
   are = append_assoc so-far.done some rest ∙ ap (λ (zs : List Shape). so-far.done ++ zs) (sym is) ∙ so-far.are;
 }
 
-pub all-drawn : (a b : Option (List Shape)) (left all : List Shape) → IsDrawnUpTo a b left all → left ≡ [] → Draws a b all
-all-drawn a b left all so-far none =
-    draws-same a b so-far.done all (sym (append-nil so-far.done) ∙ ap (λ (zs : List Shape). so-far.done ++ zs) (sym none) ∙ so-far.are) so-far.draws
-
 -- what is left of a list, item by item
 pub item-left : {A : Type 0} (show : ℕ → A → List Shape) (items : List A) (place : ℕ) (d : A) → place < length items
     → all_at show place (drop place items) ≡ show place (get_or items place d) ++ all_at show (place + 1) (drop (place + 1) items)
 item-left show items place d within = ap (all_at show place) (drop_more items place d within)
 
-pub none-left : {A : Type 0} (show : ℕ → A → List Shape) (items : List A) (place : ℕ) → length items ≤ place → all_at show place (drop place items) ≡ []
-none-left show items place all = ap (all_at show place) (drop_all place items all)
-
 -- and of a bar, phase by phase
 pub phase-left : (row pid first : ℕ) (phases : List Phase) (place : ℕ) (d : Phase) → place < length phases
     → bars row pid first (drop place phases) ≡ bar row pid first (get_or phases place d) ++ bars row pid (behind first (get_or phases place d)) (drop (place + 1) phases)
 phase-left row pid first phases place d within = ap (bars row pid first) (drop_more phases place d within)
-
-pub no-phase-left : (row pid first : ℕ) (phases : List Phase) (place : ℕ) → length phases ≤ place → bars row pid first (drop place phases) ≡ []
-no-phase-left row pid first phases place all = ap (bars row pid first) (drop_all place phases all)

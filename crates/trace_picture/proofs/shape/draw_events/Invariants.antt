@@ -4,4 +4,5 @@ use Rattle.trace_picture.proofs.Drawn.{IsDrawnUpTo}
 use Rattle.trace_picture.proofs.shape.draw_events.Given as goal
 
 abbrev pub invariant-loop-event : goal.invariant-loop-event
-invariant-loop-event g l = IsDrawnUpTo (g.C.Canvas.drawn l.fn.canvas) (g.C.Canvas.drawn l.canvas) (all_at (event_shapes l.chart) l.event (drop l.event l.notes)) (all_at (event_shapes l.chart) 0 l.notes)
+invariant-loop-event g l =
+    IsDrawnUpTo (g.C.Canvas.drawn l.fn.canvas) (g.C.Canvas.drawn l.canvas) (all_at (event_shapes l.chart) l.event (drop l.event l.notes)) (all_at (event_shapes l.chart) 0 l.notes)
