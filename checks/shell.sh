@@ -1,6 +1,6 @@
 #!/bin/sh
-# shell.sh [FILE..]: whether shellcheck (Debian: shellcheck) warns of any shell script of the repository, or of these files. Without
-# shellcheck it says so, and its status is 0.
+# shell.sh [FILE..]: whether shellcheck (Debian: shellcheck) warns of any shell script of the repository, or of these files.
+# If there is no shellcheck, it says so, and its status is 0.
 cd "$(dirname "$0")/.." || exit 2
 command -v shellcheck >/dev/null || {
     echo "shell scripts: not looked at, since there is no shellcheck"

@@ -33,7 +33,7 @@ fetch() {
     mkdir -p "$1/apt/lists/partial" "$1/apt/archives/partial"
     echo 'deb-src [signed-by=/usr/share/keyrings/debian-archive-keyring.gpg] http://deb.debian.org/debian bookworm main' >"$1/apt/list"
     for words in update "source --download-only $PACKAGE=$VERSION-1"; do
-        # shellcheck disable=SC2086
+        # shellcheck disable=SC2046
         (cd "$1" && apt-get -qq -o Dir::State="$1/apt" -o Dir::State::status=/var/lib/dpkg/status -o Dir::Cache="$1/apt" \
             -o Dir::Etc::SourceList="$1/apt/list" -o Dir::Etc::SourceParts=- -o APT::Sandbox::User=root $words) ||
             give_up "apt doesn't fetch the source package $PACKAGE $VERSION-1"
@@ -58,10 +58,10 @@ WORDS='-DONE_SOURCE=1 -DTCC_TARGET_RISCV64 -DCONFIG_TCC_CROSSPREFIX="riscv64-" -
 build_compilers() {
     (
         cd "$work/tcc"
-        # shellcheck disable=SC2086
+        # shellcheck disable=SC2046
         clang --target=wasm32-wasi -Oz -I"$here/wasi" -I. $(quoted) -D_WASI_EMULATED_SIGNAL -D_WASI_EMULATED_GETPID tcc.c \
             "$here/wasi/semaphores.c" -o "$out/tcc.wasm" -lwasi-emulated-getpid -lwasi-emulated-signal -Wl,--strip-all
-        # shellcheck disable=SC2086
+        # shellcheck disable=SC2046
         gcc -O1 -I. $(quoted) tcc.c -o "$out/riscv64-tcc" -lm -ldl
     )
 }
