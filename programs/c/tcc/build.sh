@@ -28,12 +28,16 @@ need() {
     [ -n "$(command -v "$1" || ls -d "$1" 2>/dev/null)" ] || give_up "there is no $1; this mends it: apt-get install $2"
 }
 
+KEYS=/usr/share/keyrings/debian-archive-keyring.gpg
+
 # Fetches the archive into the folder $1, by apt, with lists, sources and a state of its own.
 fetch() {
     mkdir -p "$1/apt/lists/partial" "$1/apt/archives/partial"
-    echo 'deb-src [signed-by=/usr/share/keyrings/debian-archive-keyring.gpg] http://deb.debian.org/debian bookworm main' >"$1/apt/list"
+    # the place from which this host has its packages, for sources
+    apt-get indextargets --format "deb-src [signed-by=$KEYS] \$(REPO_URI) \$(RELEASE) main" 'Created-By: Packages' |
+        grep -v -e '-security' -e '-updates' | sort -u | head -n 1 >"$1/apt/list"
     for words in update "source --download-only $PACKAGE=$VERSION-1"; do
-        # shellcheck disable=SC2046
+        # shellcheck disable=SC2086
         (cd "$1" && apt-get -qq -o Dir::State="$1/apt" -o Dir::State::status=/var/lib/dpkg/status -o Dir::Cache="$1/apt" \
             -o Dir::Etc::SourceList="$1/apt/list" -o Dir::Etc::SourceParts=- -o APT::Sandbox::User=root $words) ||
             give_up "apt doesn't fetch the source package $PACKAGE $VERSION-1"
