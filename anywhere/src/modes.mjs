@@ -1,6 +1,7 @@
 // What xv does by its words: which program runs them, and how. The modes may stand anywhere before the word `--`.
 import { isatty } from "node:tty";
 import { NOTHING_RUNS, status, tell_version } from "./about.mjs";
+import { compile_by } from "./c_compiler.mjs";
 import { gdb } from "./gdb.mjs";
 import { picture } from "./picture.mjs";
 import { module_of, run } from "./program.mjs";
@@ -83,6 +84,7 @@ function kind_of(parts) {
 export function main() {
   const words = as_taken(own_words());
   if (String(words[0]) === "--dap") return serve_editor(words);
+  if (String(words[0]) === "--cc") return compile_by(words.slice(1));
   const own = answered(words[0] === undefined ? undefined : String(words[0]));
   if (own !== undefined) return own;
   const all = parts_of(words), is_mode = ({ kind, word }) => kind === "option" && MODES.includes(String(word));
