@@ -108,12 +108,14 @@ data = {
     "c": smaller(in_c()),
     "built": sum_[:16],
 }
-sum_of_module = "unproved" if note else sources.sum_of(root, "--module")
+# MODULE_SUM: that of a module of an earlier state; then the page isn't of the sources that stand here.
+earlier = os.environ.get("MODULE_SUM")
+sum_of_module = earlier or ("unproved" if note else sources.sum_of(root, "--module"))
 parts = {
     "/*STYLE*/": text(os.path.join(here, "style.css")),
     "/*DATA*/": f"globalThis.PAGE_DATA = {packed(data)};",
     "/*SCRIPT*/": joined("main.mjs").replace("</", "<\\/"),
-    "/*BUILT*/": f"{note}Built of the sources with the sum <code>{sum_[:16]}</code>; the module has {len(read(module)):,} bytes.<!-- module {sum_of_module} --><!-- module of 64 bits {sum_of_64_bits} --><!-- sources {sum_} -->",
+    "/*BUILT*/": f"{note}Built of the sources with the sum <code>{sum_[:16]}</code>; the module has {len(read(module)):,} bytes.<!-- module {sum_of_module} --><!-- module of 64 bits {sum_of_64_bits} --><!-- sources {'earlier' if earlier else sum_} -->",
 }
 for mark, value in parts.items():
     assert page.count(mark) == 1, mark
