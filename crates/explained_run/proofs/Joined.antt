@@ -1,33 +1,39 @@
 -- What is told of runs, one after another.
 use Rattle.std.proofs.Common.{◌≡◌, ℕ, zero, suc, Bool, true, false, List, [], ◌∷◌, ◌++◌, replicate, Option, None, Some}
 use Rattle.std.proofs.Common.{inl, inr, refl, sym, ◌∙◌, ap, subst, append_assoc, append-nil, if◌then◌else◌, Result, Ok, Err, OnOk, arith}
-use Rattle.std.specs.Prelude.{ℤ, is_err}
+use Rattle.std.specs.Prelude.{ℤ, ◌&&◌, is_ok}
+use Rattle.std.specs.Option.{option_or}
 use Rattle.console_core.specs.Keys.{line}
-use Rattle.kernel_spec.specs.runs.Run.{World, Event, Run, Tick, Key, Send, Outcome, Step_of, Idle, Ticked, Typed, Sent, Halted, TickHappens, KeyHappens, first_sent}
-use Rattle.kernel_spec.specs.steps.Own.{Stepped}
+use Rattle.kcall_core.specs.Observers.{process_at}
+use Rattle.kernel_spec.specs.runs.Run.{World, Event, Run, Tick, Key, Send, Outcome, Step_of, Idle, Ticked, Typed, Sent, Halted, Happens, RunHappens, TickHappens, KeyHappens, first_sent}
+use Rattle.kernel_spec.specs.steps.Own.{Answer, Stepped}
+use Rattle.kernel_spec.specs.steps.Step.{own}
 use Rattle.kernel_spec.specs.views.State.{State, ProgramFile}
 use Rattle.kernel_spec.specs.views.Words.{or_zero}
-use Rattle.kernel_spec.specs.waking.Wakes.{Promised}
+use Rattle.kernel_spec.specs.waking.Wakes.{IsPromised, Promised}
 use Rattle.xv_machine.specs.Drives.{AreRuns, Goes, Ran, SendsMade, done_by}
 use Rattle.xv_machine.specs.Meaning.{Meaning}
 use Rattle.xv_machine.specs.Reached.{IsEvent}
+use Rattle.xv_machine.specs.Sound.{IsHalted, IsSoundMachine}
 use Rattle.xv_machine.proofs.Joins.{goes-one}
-use Rattle.xv_session.specs.Names.{NamesGo, asked_in, first_names, names_after}
+use Rattle.xv_session.specs.Names.{NamesGo, asked_in, first_names, names_after, place_in}
 use Rattle.xv_session.specs.Recorded.{IsLed}
 use Rattle.xv_session.specs.Steps.{Advances, AreRunsTo, RunsMade}
 use Rattle.xv_session.specs.declared.names.Named.{Named}
 use Rattle.xv_session.specs.declared.running.Running.{Running}
-use Rattle.xv_session.proofs.NamesGo.{names-again, names-one, step-nameless}
+use Rattle.xv_session.proofs.NamesGo.{names-one}
 use Rattle.explained_run.specs.Chosen.{shows, shows_process}
 use Rattle.xv_session.proofs.RunsCounted.{count-sent}
-use Rattle.xv_session.proofs.RunsMade.{first-no-step}
+use Rattle.xv_session.proofs.RunsMade.{first-no-step, runs-on}
+use Rattle.explained_run.specs.Counts.{done_if, done_in, program_of, row, tallied}
+use Rattle.explained_run.specs.Counts.{counted as count_in, done_by as count_by}
 use Rattle.explained_run.specs.Lines.{told, told_by, told_of}
-use Rattle.explained_run.specs.Seen.{Before, before}
+use Rattle.explained_run.specs.Seen.{Before, before, is_marked}
 use Rattle.explained_run.specs.Sent.{byte_sent, is_run}
 use Rattle.explained_run.specs.Told.{IsTold, ToldOf}
 use Rattle.explained_run.specs.declared.choice.Choice.{Choice}
-
--- ---- events of which nothing is told
+use Rattle.explained_run.specs.declared.counts.Count.{Count}
+use Rattle.explained_run.proofs.Rows.{tallied-join}
 
 either : (b : Bool) (text : List ℕ) → (if b then text else text) ≡ text
 either true text = refl
@@ -36,6 +42,36 @@ either false text = refl
 silent-by : (choice : Choice) (w : World) (names : List Named) (current : Option ℕ) (o : Outcome) (s : State) → ((b : Before) → shows choice b o ≡ false) → told_by choice w names current o s ≡ []
 silent-by choice w names None o s quiet = refl
 silent-by choice w names (Some p) o s quiet = rw (quiet (before w names p)) (either (shows_process choice p) [])
+
+-- ---- events by which nothing is done
+
+-- an outcome by which nothing is done, whoever runs
+pub record IsIdle (o : Outcome) : Type 0 where
+  pub keeps : (choice : Choice) (w : World) (names after : List Named) (current : Option ℕ) → done_if choice w names after current o ≡ []
+
+idle-by : (o : Outcome) → ((choice : Choice) (w : World) (names after : List Named) (p : ℕ) → done_if choice w names after (Some p) o ≡ []) → IsIdle o
+idle-by o none = record { keeps = by }
+  where
+    by : (choice : Choice) (w : World) (names after : List Named) (current : Option ℕ) → done_if choice w names after current o ≡ []
+    by choice w names after None = refl
+    by choice w names after (Some p) = none choice w names after p
+
+idle-idle : IsIdle Idle
+idle-idle = idle-by Idle (λ choice w names after p. refl)
+
+ticked-idle : IsIdle Ticked
+ticked-idle = idle-by Ticked (λ choice w names after p. refl)
+
+typed-idle : (echo : List ℕ) → IsIdle (Typed echo)
+typed-idle echo = idle-by (Typed echo) (λ choice w names after p. refl)
+
+sent-idle : (byte : Option ℕ) → IsIdle (Sent byte)
+sent-idle byte = idle-by (Sent byte) (λ choice w names after p. refl)
+
+halted-idle : IsIdle Halted
+halted-idle = idle-by Halted (λ choice w names after p. refl)
+
+-- ---- events of which nothing is told
 
 -- an outcome of which nothing is told
 pub record IsSilent (o : Outcome) : Type 0 where
@@ -65,73 +101,128 @@ halted-silent = silent Halted (λ choice b. refl)
 -- ---- one run after another
 
 told-one : (choice : Choice) (w t : World) (e : Event) (o : Outcome) (names : List Named) → Promised w e o t
-    → ToldOf choice w names ((e, o) ∷ []) t (names_after (asked_in w) o names) (told choice w names o t.state)
-told-one choice w t e o names promised = (t, [], promised, (refl, refl, refl), sym (append-nil (told choice w names o t.state)))
+    → ToldOf choice w names ((e, o) ∷ []) t (names_after (asked_in w) o names) (told choice w names o t.state) (done_in choice w names (names_after (asked_in w) o names) o)
+told-one choice w t e o names promised =
+    (t, [], [], promised, (refl, refl, refl, refl), sym (append-nil (told choice w names o t.state)), sym (append-nil (done_in choice w names (names_after (asked_in w) o names) o)))
 
-pub join : (choice : Choice) (xs ys : List (Event × Outcome)) (w m t : World) (a b c : List Named) (old more : List ℕ)
-    → ToldOf choice w a xs m b old → ToldOf choice m b ys t c more → ToldOf choice w a (xs ++ ys) t c (old ++ more)
-join choice [] ys w m t a b c old more (same, names, nothing) q =
-    subst (λ (v : World). ToldOf choice v a ys t c (old ++ more)) same
-    (subst (λ (ns : List Named). ToldOf choice m ns ys t c (old ++ more)) names
-    (subst (λ (text : List ℕ). ToldOf choice m b ys t c (text ++ more)) (sym nothing) q))
-join choice (x ∷ xs) ys w m t a b c old more (mid, rest, first, go, is) q = (
+pub join : (choice : Choice) (xs ys : List (Event × Outcome)) (w m t : World) (a b c : List Named) (old more : List ℕ) (done did : List Count)
+    → ToldOf choice w a xs m b old done → ToldOf choice m b ys t c more did → ToldOf choice w a (xs ++ ys) t c (old ++ more) (done ++ did)
+join choice [] ys w m t a b c old more done did (same, names, nothing, none) q =
+    subst (λ (v : World). ToldOf choice v a ys t c (old ++ more) (done ++ did)) same
+    (subst (λ (ns : List Named). ToldOf choice m ns ys t c (old ++ more) (done ++ did)) names
+    (subst (λ (text : List ℕ). ToldOf choice m b ys t c (text ++ more) (done ++ did)) (sym nothing)
+    (subst (λ (cs : List Count). ToldOf choice m b ys t c more (cs ++ did)) (sym none) q)))
+join choice (x ∷ xs) ys w m t a b c old more done did (mid, rest, later, first, go, is, counts) q = (
   mid,
   rest ++ more,
+  later ++ did,
   first,
-  join choice xs ys mid m t (names_after (asked_in w) x.1 a) b c rest more go q,
+  join choice xs ys mid m t (names_after (asked_in w) x.1 a) b c rest more later did go q,
   ap (λ text. text ++ more) is ∙ append_assoc (told choice w a x.1 mid.state) rest more,
+  ap (λ (cs : List Count). cs ++ did) counts ∙ append_assoc (done_in choice w a (names_after (asked_in w) x.1 a) x.1) later did,
 )
 
--- the same outcome again and again, of which nothing is told
-pub again : (n : ℕ) (choice : Choice) (w t : World) (e : Event) (o : Outcome) (a b : List Named) → IsSilent o → NamesGo w (replicate n (e, o)) t a b → ToldOf choice w a (replicate n (e, o)) t b []
-again zero choice w t e o a b silent go = (go.0, go.1, refl)
-again (suc n) choice w t e o a b silent (mid, first, more) =
-    (mid, [], first, again n choice mid t e o (names_after (asked_in w) o a) b silent more, sym (append-nil (told choice w a o mid.state) ∙ silent.keeps choice w a mid.state))
+-- the same outcome again and again, of which nothing is told, and by which nothing is done
+pub again : (n : ℕ) (choice : Choice) (w t : World) (e : Event) (o : Outcome) (a b : List Named) → IsSilent o → IsIdle o → NamesGo w (replicate n (e, o)) t a b
+    → ToldOf choice w a (replicate n (e, o)) t b [] []
+again zero choice w t e o a b silent idle go = (go.0, go.1, refl, refl)
+again (suc n) choice w t e o a b silent idle (mid, first, more) = (
+  mid,
+  [],
+  [],
+  first,
+  again n choice mid t e o (names_after (asked_in w) o a) b silent idle more,
+  sym (append-nil (told choice w a o mid.state) ∙ silent.keeps choice w a mid.state),
+  sym (append-nil (done_in choice w a (names_after (asked_in w) o a) o) ∙ idle.keeps choice w a (names_after (asked_in w) o a) w.turns.current),
+)
 
 along : (choice : Choice) (xs ys : List (Event × Outcome)) (w t : World) (a b : List Named) → xs ≡ ys
-    → (NamesGo w ys t a b → ToldOf choice w a ys t b []) → NamesGo w xs t a b → ToldOf choice w a xs t b []
+    → (NamesGo w ys t a b → ToldOf choice w a ys t b [] []) → NamesGo w xs t a b → ToldOf choice w a xs t b [] []
 along choice xs ys w t a b same by go =
-    subst (λ (zs : List (Event × Outcome)). ToldOf choice w a zs t b []) (sym same) (by (subst (λ (zs : List (Event × Outcome)). NamesGo w zs t a b) same go))
+    subst (λ (zs : List (Event × Outcome)). ToldOf choice w a zs t b [] []) (sym same) (by (subst (λ (zs : List (Event × Outcome)). NamesGo w zs t a b) same go))
+
+-- instructions of process p, which runs: each is counted
+own-program : (o : Option ℕ) → option_or o o ≡ o
+own-program None = refl
+own-program (Some x) = refl
+
+pub instructed : (n : ℕ) (choice : Choice) (w t : World) (p : ℕ) (names : List Named) → w.turns.current ≡ Some p → IsPromised w (replicate n (done_by p)) t
+    → ToldOf choice w names (replicate n (done_by p)) t names [] (replicate n (row p (place_in p names) 0 0 1))
+instructed zero choice w t p names is run = (run, refl, refl, refl)
+instructed (suc n) choice w t p names is (mid, first, more) = (
+  mid,
+  [],
+  replicate n (row p (place_in p names) 0 0 1),
+  first,
+  instructed n choice mid t p names (runs-on 1 w mid p is (mid, first, refl)) more,
+  sym (append-nil (told choice w names (Step_of p Stepped) mid.state) ∙ (step-silent p).keeps choice w names mid.state),
+  sym (ap (λ (cs : List Count). cs ++ replicate n (row p (place_in p names) 0 0 1))
+      (ap (λ (current : Option ℕ). done_if choice w names names current (Step_of p Stepped)) is ∙ ap (λ (place : Option ℕ). row p place 0 0 1 ∷ []) (own-program (place_in p names)))),
+)
 
 -- ---- where nobody runs
 
 unmoved : (choice : Choice) (w : World) (names : List Named) (o : Outcome) (s : State) → w.turns.current ≡ None → told choice w names o s ≡ []
 unmoved choice w names o s stopped = ap (λ (current : Option ℕ). told_by choice w names current o s) stopped
 
--- of Runs nothing is told, up to the one by which a process has its turn
+undone : (choice : Choice) (w : World) (names after : List Named) (o : Outcome) → w.turns.current ≡ None → done_in choice w names after o ≡ []
+undone choice w names after o stopped = ap (λ (current : Option ℕ). done_if choice w names after current o) stopped
+
+-- of Runs nothing is told, and by them nothing is done, up to the one by which a process has its turn
 passing : (choice : Choice) (most p : ℕ) (last : Option Outcome) (list : List (Event × Outcome)) (w t : World) (a b : List Named) → w.turns.current ≡ None → AreRunsTo most p last list
-    → NamesGo w list t a b → ToldOf choice w a list t b []
-passing choice most p None list w t a b stopped is go = along choice list (replicate most (done_by p)) w t a b is (again most choice w t Run (Step_of p Stepped) a b (step-silent p)) go
+    → NamesGo w list t a b → ToldOf choice w a list t b [] []
+passing choice zero p None list w t a b stopped is go = along choice list [] w t a b is (λ none. (none.0, none.1, refl, refl)) go
+passing choice (suc most) p None list w t a b stopped is go =
+    along choice list (done_by p ∷ replicate most (done_by p)) w t a b is (λ first. absurd (first-no-step w first.0 p stopped first.1.0)) go
 passing choice most p (Some o) list w t a b stopped (inl (zero, is, less, step, idle, halted)) go =
-    along choice list ((Run, o) ∷ []) w t a b is (λ first.
-    (first.0, [], first.1, (first.2.0, first.2.1, refl), sym (append-nil (told choice w a o first.0.state) ∙ unmoved choice w a o first.0.state stopped))) go
+    along choice list ((Run, o) ∷ []) w t a b is (λ first. (
+      first.0,
+      [],
+      [],
+      first.1,
+      (first.2.0, first.2.1, refl, refl),
+      sym (append-nil (told choice w a o first.0.state) ∙ unmoved choice w a o first.0.state stopped),
+      sym (append-nil (done_in choice w a (names_after (asked_in w) o a) o) ∙ undone choice w a (names_after (asked_in w) o a) o stopped),
+    )) go
 passing choice most p (Some o) list w t a b stopped (inl (suc made, is, less, step, idle, halted)) go =
     along choice list (done_by p ∷ (replicate made (done_by p) ++ (Run, o) ∷ [])) w t a b is (λ first. absurd (first-no-step w first.0 p stopped first.1.0)) go
 passing choice most p (Some o) list w t a b stopped (inr (is, inl idle)) go =
-    along choice list (replicate most (Run, o)) w t a b is (again most choice w t Run o a b (subst IsSilent (sym idle) idle-silent)) go
+    along choice list (replicate most (Run, o)) w t a b is (again most choice w t Run o a b (subst IsSilent (sym idle) idle-silent) (subst IsIdle (sym idle) idle-idle)) go
 passing choice most p (Some o) list w t a b stopped (inr (is, inr halted)) go =
-    along choice list (replicate most (Run, o)) w t a b is (again most choice w t Run o a b (subst IsSilent (sym halted) halted-silent)) go
+    along choice list (replicate most (Run, o)) w t a b is (again most choice w t Run o a b (subst IsSilent (sym halted) halted-silent) (subst IsIdle (sym halted) halted-idle)) go
 
 -- ---- events other than Run
 
-tick-silent : (w t : World) (halted : Option ℤ) (o : Outcome) → TickHappens w halted o t → IsSilent o
-tick-silent w t (Some status) o h = subst IsSilent (sym h.0) halted-silent
-tick-silent w t None o h = subst IsSilent (sym h.0) ticked-silent
+-- nothing is told of it, and nothing is done by it
+record IsQuiet (o : Outcome) : Type 0 where
+  pub silent : IsSilent o
+  pub idle : IsIdle o
 
-key-silent : (w t : World) (byte : ℕ) (halted : Option ℤ) (o : Outcome) → KeyHappens w halted byte o t → IsSilent o
-key-silent w t byte (Some status) o h = subst IsSilent (sym h.0) halted-silent
-key-silent w t byte None o h = subst IsSilent (sym h.0) (typed-silent (line w.state.console byte).1)
+halted-quiet : IsQuiet Halted
+halted-quiet = record { silent = halted-silent; idle = halted-idle }
 
-other-silent : (e : Event) (w t : World) (o : Outcome) → is_run e ≡ false → Promised w e o t → IsSilent o
-other-silent Run w t o other promised = cc
-other-silent Tick w t o other promised = tick-silent w t w.turns.halted o promised.0
-other-silent (Key byte) w t o other promised = key-silent w t byte w.turns.halted o promised.0
-other-silent Send w t o other promised = subst IsSilent (sym promised.0.0) (sent-silent (first_sent w.state.console.to_send))
+tick-quiet : (w t : World) (halted : Option ℤ) (o : Outcome) → TickHappens w halted o t → IsQuiet o
+tick-quiet w t (Some status) o h = subst IsQuiet (sym h.0) halted-quiet
+tick-quiet w t None o h = subst IsQuiet (sym h.0) (record { silent = ticked-silent; idle = ticked-idle })
+
+key-quiet : (w t : World) (byte : ℕ) (halted : Option ℤ) (o : Outcome) → KeyHappens w halted byte o t → IsQuiet o
+key-quiet w t byte (Some status) o h = subst IsQuiet (sym h.0) halted-quiet
+key-quiet w t byte None o h =
+    let echo = (line w.state.console byte).1 in
+    subst IsQuiet (sym h.0) (record { silent = typed-silent echo; idle = typed-idle echo })
+
+other-quiet : (e : Event) (w t : World) (o : Outcome) → is_run e ≡ false → Promised w e o t → IsQuiet o
+other-quiet Run w t o other promised = cc
+other-quiet Tick w t o other promised = tick-quiet w t w.turns.halted o promised.0
+other-quiet (Key byte) w t o other promised = key-quiet w t byte w.turns.halted o promised.0
+other-quiet Send w t o other promised =
+    let byte = first_sent w.state.console.to_send in
+    subst IsQuiet (sym promised.0.0) (record { silent = sent-silent byte; idle = sent-idle byte })
 
 -- ---- what is told since the boot
 
 -- nothing
-pub told-at-boot : (choice : Choice) (frames trace : ℕ) (programs : List ProgramFile) (r : Running) → IsLed frames trace programs [] r → IsTold choice r true []
+pub told-at-boot : (choice : Choice) (frames trace : ℕ) (programs : List ProgramFile) (r : Running) → IsLed frames trace programs [] r → IsTold choice r true [] true []
 told-at-boot choice frames trace programs r ([], those, reached, (booted, is, named)) = record {
   frames = frames;
   trace = trace;
@@ -139,95 +230,137 @@ told-at-boot choice frames trace programs r ([], those, reached, (booted, is, na
   booted = booted;
   boots = is;
   list = [];
-  told = λ yes. (named.0, named.1, refl);
+  said = [];
+  done = [];
+  told = (named.0, named.1, refl, refl);
+  lines_are = λ yes. refl;
+  rows_are = λ yes. refl;
 }
 told-at-boot choice frames trace programs r (x ∷ xs, those, reached, named) = cc
 
--- after some more events, as long as the text is complete
-pub told-on : (choice : Choice) (r s : Running) (complete after : Bool) (old new more : List ℕ) (list : List (Event × Outcome)) → IsTold choice r complete old
-    → (after ≡ true → (complete ≡ true) × (new ≡ old ++ more) × ToldOf choice r.machine.world r.names list s.machine.world s.names more) → IsTold choice s after new
-told-on choice r s complete after old new more list t on = record {
+-- after some more events
+pub told-on : (choice : Choice) (r s : Running) (complete after counted counted-after : Bool) (old new more : List ℕ) (rows new-rows did : List Count) (list : List (Event × Outcome))
+    → IsTold choice r complete old counted rows → ToldOf choice r.machine.world r.names list s.machine.world s.names more did
+    → (after ≡ true → (complete ≡ true) × (new ≡ old ++ more))
+    → (counted-after ≡ true → (counted ≡ true) × (new-rows ≡ tallied choice rows did)) → IsTold choice s after new counted-after new-rows
+told-on choice r s complete after counted counted-after old new more rows new-rows did list t go lines tally = record {
   frames = t.frames;
   trace = t.trace;
   programs = t.programs;
   booted = t.booted;
   boots = t.boots;
   list = t.list ++ list;
-  told = λ yes.
-      let h = on yes in
-      subst (λ (text : List ℕ). ToldOf choice t.booted (first_names t.programs) (t.list ++ list) s.machine.world s.names text) (sym h.1)
-      (join choice t.list list t.booted r.machine.world s.machine.world (first_names t.programs) r.names s.names old more (t.told h.0) h.2);
+  said = t.said ++ more;
+  done = t.done ++ did;
+  told = join choice t.list list t.booted r.machine.world s.machine.world (first_names t.programs) r.names s.names t.said more t.done did t.told go;
+  lines_are = λ yes. let h = lines yes in h.1 ∙ ap (λ (text : List ℕ). text ++ more) (t.lines_are h.0);
+  rows_are = λ yes. let h = tally yes in h.1 ∙ ap (λ (cs : List Count). tallied choice cs did) (t.rows_are h.0) ∙ sym (tallied-join choice [] t.done did);
 }
 
--- of which nothing is told
-pub told-silently : (choice : Choice) (r s : Running) (complete : Bool) (text : List ℕ) (list : List (Event × Outcome)) → IsTold choice r complete text
-    → ToldOf choice r.machine.world r.names list s.machine.world s.names [] → IsTold choice s complete text
-told-silently choice r s complete text list t go = told-on choice r s complete complete text text [] list t (λ yes. (yes, sym (append-nil text), go))
+-- of which nothing is told, and by which nothing is done
+pub told-silently : (choice : Choice) (r s : Running) (complete : Bool) (text : List ℕ) (counted : Bool) (rows : List Count) (list : List (Event × Outcome)) → IsTold choice r complete text counted rows
+    → ToldOf choice r.machine.world r.names list s.machine.world s.names [] [] → IsTold choice s complete text counted rows
+told-silently choice r s complete text counted rows list t go =
+    told-on choice r s complete complete counted counted text text [] rows rows [] list t go (λ yes. (yes, sym (append-nil text))) (λ yes. (yes, refl))
 
 -- after instructions of a process
-pub told-instructed : (choice : Choice) (n p : ℕ) (a b : Meaning) (names : List Named) (complete : Bool) (text : List ℕ) → IsTold choice (record { machine = a; names = names }) complete text
-    → Goes a (replicate n (done_by p)) b → IsTold choice (record { machine = b; names = names }) complete text
-told-instructed choice n p a b names complete text t goes =
-    told-silently choice (record { machine = a; names = names }) (record { machine = b; names = names }) complete text (replicate n (done_by p)) t
-    (again n choice a.world b.world Run (Step_of p Stepped) names names (step-silent p) (names-again n a.world b.world Run (Step_of p Stepped) names (step-nameless p) goes.run))
+pub told-instructed : (choice : Choice) (n p : ℕ) (a b : Meaning) (names : List Named) (complete : Bool) (text : List ℕ) (counted after : Bool) (rows new-rows : List Count) (place : Option ℕ)
+    → IsTold choice (record { machine = a; names = names }) complete text counted rows → a.world.turns.current ≡ Some p → Goes a (replicate n (done_by (or_zero a.world.turns.current))) b
+    → place ≡ place_in p names → (after ≡ true → new-rows ≡ tallied choice rows (replicate n (row p place 0 0 1))) → (after ≡ true → counted ≡ true)
+    → IsTold choice (record { machine = b; names = names }) complete text after new-rows
+told-instructed choice n p a b names complete text counted after rows new-rows place t is goes named tally were =
+    told-on choice (record { machine = a; names = names }) (record { machine = b; names = names }) complete complete counted after text text [] rows new-rows
+    (replicate n (row p (place_in p names) 0 0 1)) (replicate n (done_by p)) t
+    (instructed n choice a.world b.world p names is (subst (λ q. IsPromised a.world (replicate n (done_by q)) b.world) (ap or_zero is) goes.run))
+    (λ yes. (yes, sym (append-nil text)))
+    (λ yes. (were yes, tally yes ∙ ap (λ (x : Option ℕ). tallied choice rows (replicate n (row p x 0 0 1))) named))
 
 -- after Runs where nobody runs
-pub told-passing : (choice : Choice) (most sent : ℕ) (last : Option Outcome) (r s : Running) (complete : Bool) (text : List ℕ) → IsTold choice r complete text
-    → r.machine.world.turns.current ≡ None → RunsMade most sent last r s → IsTold choice s complete text
-told-passing choice most sent last r s complete text t stopped made =
-    told-silently choice r s complete text made.list t
+pub told-passing : (choice : Choice) (most sent : ℕ) (last : Option Outcome) (r s : Running) (complete : Bool) (text : List ℕ) (counted : Bool) (rows : List Count)
+    → IsTold choice r complete text counted rows → r.machine.world.turns.current ≡ None → RunsMade most sent last r s → IsTold choice s complete text counted rows
+told-passing choice most sent last r s complete text counted rows t stopped made =
+    told-silently choice r s complete text counted rows made.list t
     (passing choice most (or_zero r.machine.world.turns.current) last made.list r.machine.world s.machine.world r.names s.names stopped made.runs_are made.named)
 
 -- after another event
-pub told-other : (choice : Choice) (e : Event) (o : Outcome) (r s : Running) (complete : Bool) (text : List ℕ) → IsTold choice r complete text → is_run e ≡ false → Advances r e o s
-    → IsTold choice s complete text
-told-other choice e o r s complete text t other one =
-    told-silently choice r s complete text ((e, o) ∷ []) t
-    (again 1 choice r.machine.world s.machine.world e o r.names s.names (other-silent e r.machine.world s.machine.world o other one.event.promised)
+pub told-other : (choice : Choice) (e : Event) (o : Outcome) (r s : Running) (complete : Bool) (text : List ℕ) (counted : Bool) (rows : List Count) → IsTold choice r complete text counted rows
+    → is_run e ≡ false → Advances r e o s → IsTold choice s complete text counted rows
+told-other choice e o r s complete text counted rows t other one =
+    let quiet = other-quiet e r.machine.world s.machine.world o other one.event.promised in
+    told-silently choice r s complete text counted rows ((e, o) ∷ []) t
+    (again 1 choice r.machine.world s.machine.world e o r.names s.names quiet.silent quiet.idle
     (subst (λ (ns : List Named). NamesGo r.machine.world ((e, o) ∷ []) s.machine.world r.names ns) (sym one.names) (names-one r.machine.world s.machine.world e o r.names one.event.promised)))
-
--- after a step, of which this was told
-pub told-step : (choice : Choice) (o : Outcome) (r s : Running) (complete after : Bool) (old new : List ℕ) → IsTold choice r complete old → Advances r Run o s
-    → (after ≡ true → (complete ≡ true) × (new ≡ old ++ told choice r.machine.world r.names o s.machine.world.state)) → IsTold choice s after new
-told-step choice o r s complete after old new t one on =
-    told-on choice r s complete after old new (told choice r.machine.world r.names o s.machine.world.state) ((Run, o) ∷ []) t (λ yes.
-    let h = on yes in (
-      h.0,
-      h.1,
-      subst (λ (ns : List Named). ToldOf choice r.machine.world r.names ((Run, o) ∷ []) s.machine.world ns (told choice r.machine.world r.names o s.machine.world.state)) (sym one.names)
-          (told-one choice r.machine.world s.machine.world Run o r.names one.event.promised),
-    ))
 
 -- ---- one step
 
 -- what is known of a call that hasn't failed
-pub when-ok : {T E P : Type 0} (r : Result T E) → OnOk r P → is_err r ≡ false → P
+pub when-ok : {T E P : Type 0} (r : Result T E) → OnOk r P → is_ok r ≡ true → P
 when-ok (Ok t) held ok = held
 when-ok (Err e) held ok = cc
 
--- of a step of a process whose lines aren't asked for nothing is told
-pub told-unasked : (choice : Choice) (o : Outcome) (p : ℕ) (r s : Running) (complete : Bool) (text : List ℕ) → IsTold choice r complete text → Advances r Run o s
-    → r.machine.world.turns.current ≡ Some p → shows_process choice p ≡ false → IsTold choice s complete text
-told-unasked choice o p r s complete text t one is unasked =
-    let nothing : told choice r.machine.world r.names o s.machine.world.state ≡ [] =
-    ap (λ (current : Option ℕ). told_by choice r.machine.world r.names current o s.machine.world.state) is
-    ∙ ap (λ (b : Bool). if b then told_of choice (before r.machine.world r.names p) s.machine.world.state p o else []) unasked in
-    told-step choice o r s complete complete text text t one (λ yes. (yes, sym (append-nil text) ∙ ap (λ more. text ++ more) (sym nothing)))
+-- of a Run of a machine that is sound a step comes of the process that runs
+step-of : (m : Meaning) (t : World) (p : ℕ) (o : Outcome) → IsSoundMachine m → m.world.turns.current ≡ Some p → Happens m.world Run o t → (a : Answer) × (o ≡ Step_of p a)
+step-of m t p o sound is h = by m.world.turns.halted m.world.turns.current is sound.halted h
+  where
+    by : (halted : Option ℤ) (current : Option ℕ) → current ≡ Some p → IsHalted m.world.state m.world.turns halted → RunHappens m.world halted current o t → (a : Answer) × (o ≡ Step_of p a)
+    by (Some status) current e end h = let no : None ≡ Some p = sym end.1 ∙ is in let bad : ⊥ = cc in absurd bad
+    by None None e end h = let bad : ⊥ = cc in absurd bad
+    by None (Some q) e end h = let same : q ≡ p = cc in ((own h.before).answer, h.answer ∙ ap (λ r. Step_of r (own h.before).answer) same)
+
+-- of one of a process whose lines aren't asked for nothing is told
+pub nothing-told : (choice : Choice) (w : World) (names : List Named) (p : ℕ) (o : Outcome) (s : State) (old : List ℕ) → w.turns.current ≡ Some p → shows_process choice p ≡ false
+    → old ≡ old ++ told choice w names o s
+nothing-told choice w names p o s old is unasked =
+    let nothing : told choice w names o s ≡ [] =
+    ap (λ (current : Option ℕ). told_by choice w names current o s) is ∙ ap (λ (b : Bool). if b then told_of choice (before w names p) s p o else []) unasked in
+    sym (append-nil old) ∙ ap (λ more. old ++ more) (sym nothing)
 
 -- of one of a process whose lines are asked for its line is told
-pub told-asked : (choice : Choice) (o : Outcome) (p : ℕ) (r s : Running) (complete : Bool) (old new : List ℕ) (b : Before) → IsTold choice r complete old → Advances r Run o s
-    → r.machine.world.turns.current ≡ Some p → shows_process choice p ≡ true → b ≡ before r.machine.world r.names p
-    → new ≡ old ++ told_of choice b s.machine.world.state p o → IsTold choice s complete new
-told-asked choice o p r s complete old new b t one is asked seen wrote =
-    let said : told choice r.machine.world r.names o s.machine.world.state ≡ told_of choice b s.machine.world.state p o =
-    ap (λ (current : Option ℕ). told_by choice r.machine.world r.names current o s.machine.world.state) is
-    ∙ ap (λ (yes : Bool). if yes then told_of choice (before r.machine.world r.names p) s.machine.world.state p o else []) asked
-    ∙ ap (λ (x : Before). told_of choice x s.machine.world.state p o) (sym seen) in
-    told-step choice o r s complete complete old new t one (λ yes. (yes, wrote ∙ ap (λ more. old ++ more) (sym said)))
+pub line-told : (choice : Choice) (w : World) (names : List Named) (p : ℕ) (o : Outcome) (s : State) (old new : List ℕ) (b : Before) → w.turns.current ≡ Some p → shows_process choice p ≡ true
+    → b ≡ before w names p → new ≡ old ++ told_of choice b s p o → new ≡ old ++ told choice w names o s
+line-told choice w names p o s old new b is asked seen wrote =
+    let said : told choice w names o s ≡ told_of choice b s p o =
+    ap (λ (current : Option ℕ). told_by choice w names current o s) is
+    ∙ ap (λ (yes : Bool). if yes then told_of choice (before w names p) s p o else []) asked
+    ∙ ap (λ (x : Before). told_of choice x s p o) (sym seen) in
+    wrote ∙ ap (λ more. old ++ more) (sym said)
 
--- a line was lost
-pub told-in-part : (choice : Choice) (o : Outcome) (r s : Running) (complete : Bool) (old new : List ℕ) → IsTold choice r complete old → Advances r Run o s → IsTold choice s false new
-told-in-part choice o r s complete old new t one = told-step choice o r s complete false old new t one (λ yes. cc)
+-- what is done by a step is what is counted
+step-done : (choice : Choice) (w : World) (names after : List Named) (p : ℕ) (a : Answer) (o : Outcome) → w.turns.current ≡ Some p → o ≡ Step_of p a
+    → done_in choice w names after o ≡ count_by choice p (program_of p names after) (is_marked (process_at w p)) o ∷ []
+step-done choice w names after p a o is step =
+    ap (λ (current : Option ℕ). done_if choice w names after current o) is
+    ∙ ap (λ (x : Outcome). done_if choice w names after (Some p) x) step
+    ∙ sym (ap (λ (x : Outcome). count_by choice p (program_of p names after) (is_marked (process_at w p)) x ∷ []) step)
+
+pub and-left : (a b : Bool) → (a && b) ≡ true → a ≡ true
+and-left true b both = refl
+and-left false b both = both
+
+pub and-right : (a b : Bool) → (a && b) ≡ true → b ≡ true
+and-right true b both = both
+and-right false b both = cc
+
+-- after a step, of which this was told and counted
+pub told-step : (choice : Choice) (o : Outcome) (p : ℕ) (r s : Running) (complete is-told : Bool) (old new : List ℕ) (counted after : Bool) (rows new-rows : List Count) (place : Option ℕ) (marked : Bool)
+    → IsTold choice r complete old counted rows → IsSoundMachine r.machine → r.machine.world.turns.current ≡ Some p → Advances r Run o s
+    → (is-told ≡ true → new ≡ old ++ told choice r.machine.world r.names o s.machine.world.state)
+    → (after ≡ true → new-rows ≡ count_in choice rows (count_by choice p place marked o)) → (after ≡ true → counted ≡ true)
+    → place ≡ program_of p r.names s.names → marked ≡ is_marked (process_at r.machine.world p) → IsTold choice s (complete && is-told) new after new-rows
+told-step choice o p r s complete is-told old new counted after rows new-rows place marked t sound is one line tally were placed mark =
+    let w = r.machine.world in
+    let step = step-of r.machine s.machine.world p o sound is one.event.promised.0 in
+    told-on choice r s complete (complete && is-told) counted after old new (told choice w r.names o s.machine.world.state) rows new-rows (done_in choice w r.names s.names o) ((Run, o) ∷ []) t
+    (subst (λ (ns : List Named). ToldOf choice w r.names ((Run, o) ∷ []) s.machine.world ns (told choice w r.names o s.machine.world.state) (done_in choice w r.names ns o)) (sym one.names)
+    (told-one choice w s.machine.world Run o r.names one.event.promised))
+    (λ yes. (and-left complete is-told yes, line (and-right complete is-told yes)))
+    (λ yes. (
+      were yes,
+      tally yes
+          ∙ ap (λ (x : Option ℕ). count_in choice rows (count_by choice p x marked o)) placed
+          ∙ ap (λ (m : Bool). count_in choice rows (count_by choice p (program_of p r.names s.names) m o)) mark
+          ∙ sym (ap (λ (cs : List Count). tallied choice rows cs) (step-done choice w r.names s.names p step.0 o is step.1)),
+    ))
 
 -- ---- Runs that were sent
 

@@ -1,3 +1,4 @@
+pub mod Ends
 pub mod Joined
 pub mod Rows
 pub mod Texts

@@ -1,10 +1,11 @@
 -- Worked cases of the table.
-use Rattle.std.specs.Prelude.{◌≡◌, Bool, true, false, pos, negsuc, [], ◌∷◌, Option, None, Some, refl}
+use Rattle.std.specs.Prelude.{◌≡◌, Bool, true, false, pos, negsuc, List, [], ◌∷◌, Option, None, Some, refl}
 use Rattle.kernel_calls.specs.declared.call.KernelCall.{KernelCall}
 use Rattle.kernel_calls.specs.declared.call.KernelCall.TheVariants.{Kill}
-use Rattle.kernel_spec.specs.runs.Run.{Step_of, Turn}
+use Rattle.kernel_spec.specs.runs.Run.{World, Step_of, Turn, Sent}
 use Rattle.kernel_spec.specs.steps.Own.{Stepped, Called, Exited}
-use Rattle.explained_run.specs.Counts.{added, counted, done_by, row}
+use Rattle.xv_session.specs.declared.names.Named.{Named}
+use Rattle.explained_run.specs.Counts.{added, counted, done_by, done_if, program_of, row, tallied}
 use Rattle.explained_run.specs.declared.choice.Choice.{Choice}
 
 abbrev chosen : (call : Option KernelCall) → (failed : Bool) → Choice
@@ -62,3 +63,26 @@ more_of_it = refl
 -- a program that isn't known takes no known one away
 unknown : added (row 1 (Some 0) 2 0 40 ∷ []) (row 1 None 0 0 1) ≡ row 1 (Some 0) 2 0 41 ∷ []
 unknown = refl
+
+-- ---- of a run's events
+
+-- of process 3, which runs: an instruction counts; a turn and a sent byte don't, nor does anything if nobody runs
+a_step_counts : (w : World) (names : List Named) → done_if all w names names (Some 3) (Step_of 3 Stepped) ≡ row 3 (program_of 3 names names) 0 0 1 ∷ []
+a_step_counts w names = refl
+
+a_send_counts_nothing : (w : World) (names : List Named) → done_if all w names names (Some 3) (Sent None) ≡ []
+a_send_counts_nothing w names = refl
+
+nobody_does_anything : (w : World) (names : List Named) → done_if all w names names None (Step_of 3 Stepped) ≡ []
+nobody_does_anything w names = refl
+
+-- a call in which the program has changed is one of the new program; a process that is gone keeps the one that it ran
+the_new_program : program_of 3 (record { pid = 3; place = 1 } ∷ []) (record { pid = 3; place = 4 } ∷ []) ≡ Some 4
+the_new_program = refl
+
+the_last_program : program_of 3 (record { pid = 3; place = 1 } ∷ []) [] ≡ Some 1
+the_last_program = refl
+
+-- two instructions of process 3, one of process 1 between them, and then a call
+in_turn : tallied all [] (row 3 (Some 1) 0 0 1 ∷ row 1 (Some 0) 0 0 1 ∷ row 3 (Some 1) 0 0 1 ∷ row 3 (Some 1) 1 1 0 ∷ []) ≡ row 3 (Some 1) 1 1 2 ∷ row 1 (Some 0) 0 0 1 ∷ []
+in_turn = refl

@@ -1,9 +1,13 @@
 -- What the table tells of a process: how many calls and instructions it has done. Of calls those alone count that are asked for.
-use Rattle.std.specs.Prelude.{ℕ, zero, suc, ◌+◌, ◌^◌, ◌-◌, ℤ, pos, negsuc, Bool, true, false, if◌then◌else◌, nat_eq, min, List, [], ◌∷◌, ◌++◌, length, slice_get, slice_set, Option, None, Some}
+use Rattle.std.specs.Prelude.{ℕ, ◌+◌, ◌^◌, ◌-◌, ℤ, pos, negsuc, Bool, true, false, if◌then◌else◌, nat_eq, min, List, [], ◌∷◌, Option, None, Some}
 use Rattle.std.specs.Option.{option_or}
-use Rattle.kernel_spec.specs.runs.Run.{Outcome, Step_of}
+use Rattle.kcall_core.specs.Observers.{process_at}
+use Rattle.kernel_spec.specs.runs.Run.{World, Outcome, Step_of}
 use Rattle.kernel_spec.specs.steps.Own.{Answer, Stepped, Called, Blocked, Exited, Faulted}
+use Rattle.xv_session.specs.Names.{place_in}
+use Rattle.xv_session.specs.declared.names.Named.{Named}
 use Rattle.explained_run.specs.Chosen.{is_process, shows_answer, shows_unfailed}
+use Rattle.explained_run.specs.Seen.{is_marked}
 use Rattle.explained_run.specs.declared.choice.Choice.{Choice}
 use Rattle.explained_run.specs.declared.counts.Count.{Count}
 
@@ -55,34 +59,41 @@ abbrev pub both : (before more : Count) → Count
 both before more =
     row before.pid (option_or more.program before.program) (sum_of before.calls more.calls) (sum_of before.failed more.failed) (sum_of before.instructions more.instructions)
 
--- the row is there, and is of process p
-abbrev pub is_of : (p : ℕ) → Option Count → Bool
-is_of p None = false
-is_of p (Some c) = nat_eq c.pid p
-
--- the place of the last row of process p among the first n
-abbrev pub last_below : List Count → (p : ℕ) → (n : ℕ) → Option ℕ
-last_below counts p zero = None
-last_below counts p (suc n) = if is_of p (slice_get counts n) then Some n else last_below counts p n
-
-abbrev pub place_of : List Count → (p : ℕ) → Option ℕ
-place_of counts p = last_below counts p (length counts)
-
+-- what a process has done, with more; it may have done nothing before
 abbrev pub with_more : Option Count → (more : Count) → Count
 with_more None more = more
 with_more (Some before) more = both before more
 
-abbrev pub added_at : List Count → (more : Count) → (place : Option ℕ) → List Count
-added_at counts more None = counts ++ more ∷ []
-added_at counts more (Some k) = slice_set counts k (with_more (slice_get counts k) more)
-
 -- the rows, once a process has done more: it has a row of its own, the last one if it had none
 abbrev pub added : List Count → (more : Count) → List Count
-added counts more = added_at counts more (place_of counts more.pid)
+added [] more = more ∷ []
+added (count ∷ counts) more = if nat_eq count.pid more.pid then both count more ∷ counts else count ∷ added counts more
 
 -- the same, if the process is asked for; else they stay
 abbrev pub counted : Choice → List Count → (more : Count) → List Count
 counted choice counts more = if is_process choice.pid more.pid then added counts more else counts
+
+-- the rows, once all this is done, one after another
+abbrev pub tallied : Choice → List Count → (done : List Count) → List Count
+tallied choice counts [] = counts
+tallied choice counts (more ∷ rest) = tallied choice (counted choice counts more) rest
+
+-- ---- what is done by an event
+
+-- the program of process p: the one that it runs after the event, or that it ran before it, if it is gone
+abbrev pub program_of : (p : ℕ) → (names after : List Named) → Option ℕ
+program_of p names after = option_or (place_in p after) (place_in p names)
+
+abbrev pub done_if : Choice → World → (names after : List Named) → (current : Option ℕ) → Outcome → List Count
+done_if choice w names after None o = []
+done_if choice w names after (Some p) (Step_of q answer) = done_by_step choice p (program_of p names after) (is_marked (process_at w p)) answer ∷ []
+done_if choice w names after (Some p) _ = []
+
+-- what is done by an event of which this came in a world, and by which the programs of processes go from `names` to `after`: by a step what the process has done that runs; by any other event nothing
+abbrev pub done_in : Choice → World → (names after : List Named) → Outcome → List Count
+done_in choice w names after o = done_if choice w names after w.turns.current o
+
+-- ---- if there was memory
 
 -- if there was memory for all rows
 abbrev pub if_complete : (complete : Bool) → List Count → Option (List Count)

@@ -1,6 +1,8 @@
 pub mod Booted
 pub mod Chosen
 pub mod Counts
+pub mod Handed
+pub mod Handing
 pub mod Lines
 pub mod LiveFact
 pub mod Ranges

@@ -1,5 +1,5 @@
 //! How many calls and instructions each process has done.
-ghost use Rattle.std.specs.Prelude.{◌≡◌, ◌<◌, [], true, OnOk, IfSome, IfNone, length, option_map, slice_get};
+ghost use Rattle.std.specs.Prelude.{◌≡◌, [], true, nat_eq, position, replicate, OnOk, option_map, slice_get};
 ghost use Rattle.xv_machine.specs.Events.{outcome_of};
 ghost use Rattle.explained_run.specs.Counts as meant;
 
@@ -44,16 +44,6 @@ fn nothing(pid: Pid, program: Option<usize>) -> Count
     }
 }
 
-// Whether a row is there, and is of this process.
-fn is_of(pid: Pid, row: &Option<Count>) -> bool
-    ensures { result ≡ meant.is_of pid row.now }
-{
-    match row {
-        Some(row) => row.pid.number() == pid.number(),
-        None => false,
-    }
-}
-
 // The row of this place.
 fn row_at(counts: &[Count], place: usize) -> Option<Count>
     ensures { result ≡ slice_get counts.now place }
@@ -61,20 +51,12 @@ fn row_at(counts: &[Count], place: usize) -> Option<Count>
     counts.get(place).copied()
 }
 
-// The place of the last row of a process, which is among the last ones.
-#[tactic(auto, using(crate::proofs::Rows::row_passed, crate::proofs::Rows::row_found))]
+// The place of the first row of a process.
 fn place_of(counts: &[Count], pid: Pid) -> Option<usize>
-    ensures place { result ≡ meant.place_of counts.now pid }
-    ensures within { IfSome result (λ place. place < length counts.now) }
+    ensures { result ≡ position (λ count. nat_eq count.pid pid) counts.now }
 {
-    let mut end = counts.len();
-    'rows: while end > 0 {
-        if is_of(pid, &row_at(counts, end - 1)) {
-            return Some(end - 1);
-        }
-        end -= 1;
-    }
-    None
+    let number = pid.number();
+    counts.iter().position(|count| count.pid.number() == number)
 }
 
 // A row, once its process has done more.
@@ -195,17 +177,20 @@ impl Counts {
         }
     }
 
-    /// A process has done so many instructions.
+    /// A process has done so many instructions, one after another.
     pub fn add_instructions(&mut self, choice: &Choice, pid: Pid, program: Option<usize>, made: u32)
-        ensures counts { self.new.complete ≡ true → self.new.counts.items ≡ meant.counted choice.now self.old.counts.items (meant.row pid program 0 0 made) }
+        ensures counts { self.new.complete ≡ true → self.new.counts.items ≡ meant.tallied choice.now self.old.counts.items (replicate made (meant.row pid program 0 0 1)) }
         ensures complete { self.new.complete ≡ true → self.old.complete ≡ true }
     {
+        if made == 0 {
+            return;
+        }
         let mut count = nothing(pid, program);
         count.instructions = u64::from(made);
         self.add(choice, &count);
     }
 
-    /// This came of a step of a process, which runs this program now, and was marked before or not.
+    /// This came of a step of a process, whose program this is, and which was marked before or not.
     pub fn add_outcome(
         &mut self,
         choice: &Choice,

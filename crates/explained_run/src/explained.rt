@@ -1,5 +1,5 @@
 //! A machine that goes on, and what is told of it.
-ghost use Rattle.std.specs.Prelude.{◌≡◌, ◌≤◌, ◌<◌, false, Some, string_bytes};
+ghost use Rattle.std.specs.Prelude.{◌≡◌, ◌≤◌, ◌<◌, ◌&&◌, true, false, Some, string_bytes};
 ghost use Rattle.kernel_spec.specs.runs.Run as runs;
 ghost use Rattle.xv_session.specs.Names.{AreLive};
 ghost use Rattle.explained_run.specs.LiveFact.{live-prop};
@@ -7,8 +7,8 @@ ghost use Rattle.explained_run.specs.Told.{IsTold};
 
 use crate::choice::Choice;
 use crate::counts::Counts;
-use crate::seen::{Seen, is_marked};
-use crate::telling::tell;
+use crate::seen::is_marked;
+use crate::stepping::tell_step;
 use std::alloc::Global;
 use xk_base::{BootError, Pid, Program};
 use xv_machine::{Config, Event, Machine, Outcome};
@@ -24,14 +24,22 @@ pub(crate) struct Explained {
     pub counts: Counts,
     /// Whether there was memory for each line.
     pub complete: bool,
-    /// The lines since the boot.
+    /// The lines since the boot. They and the counts are those of the same events.
     pub text: String,
     ghost live: { AreLive running.machine.world.state running.names } by { live-prop running.machine.world.state running.names },
-    ghost told: { ∥ IsTold choice running complete (string_bytes text) ∥₁ },
+    ghost told: { ∥ IsTold choice running complete (string_bytes text) counts.complete counts.counts.items ∥₁ },
+}
+
+// Whether both are so.
+fn both(first: bool, second: bool) -> bool
+    ensures { result ≡ (first && second) }
+{
+    first && second
 }
 
 impl Explained {
-    ghost use Rattle.std.specs.Prelude.{map};
+    ghost use Rattle.std.specs.Prelude.{map, [], IfOk};
+    ghost use Rattle.std.specs.Io.{StartsWith};
     ghost use Rattle.kernel_spec.specs.runs.First.{first};
     ghost use Rattle.kernel_spec.specs.views.State.{named_file};
     ghost use Rattle.xv_machine.specs.Boots.{Boots};
@@ -54,7 +62,8 @@ impl Explained {
         programs: Vec<Program>,
         choice: Choice,
     ) -> Result<Explained, BootError>
-        ensures { Boots config.frames (machine_of result) (first config.frames config.trace (map named_file programs.items)) }
+        ensures boots { Boots config.frames (machine_of result) (first config.frames config.trace (map named_file programs.items)) }
+        ensures text { IfOk result (λ explained. string_bytes explained.text ≡ []) }
     {
         match Machine::boot(alloc, config, programs) {
             Ok(machine) => Ok(Explained {
@@ -69,42 +78,36 @@ impl Explained {
         }
     }
 
-    // Sends Run to the process that runs, once, and tells what comes of it.
+    // Sends Run to the process that runs, once, and tells and counts what comes of it.
     fn step(&mut self, pid: Pid) -> Outcome
         requires current { self.old.running.machine.world.turns.current ≡ Some pid }
         requires sound { IsSoundMachine self.old.running.machine }
-        ensures { Advances self.old.running runs.Run (outcome_of result) self.new.running }
+        ensures advances { Advances self.old.running runs.Run (outcome_of result) self.new.running }
+        ensures text { self.new.complete ≡ true → (self.old.complete ≡ true) × StartsWith (string_bytes self.new.text) (string_bytes self.old.text) }
     {
-        if !self.choice.shows_process(pid) {
-            return self.running.event(Event::Run);
-        }
-        let seen = Seen::of(self.alloc, &self.running, pid);
-        let outcome = self.running.event(Event::Run);
-        let Ok(seen) = seen else {
-            self.complete = false;
-            return outcome;
-        };
-        let told = tell(
+        let place = self.running.names.place(pid);
+        let marked = is_marked(&self.running.machine.process(pid));
+        let made = tell_step(
             self.alloc,
             &self.choice,
-            &self.running.machine,
+            &mut self.running,
             pid,
-            &seen,
-            &outcome,
             &mut self.text,
         );
-        if told.is_err() {
-            self.complete = false;
-        }
-        outcome
+        let place = self.running.names.place(pid).or(place);
+        self.counts
+            .add_outcome(&self.choice, pid, place, marked, &made.outcome);
+        self.complete = both(self.complete, made.is_told);
+        made.outcome
     }
 
     /// Sends Run, `most` times at most, up to the first of which no done instruction comes, and tells what comes of it.
-    /// If no process may run, all of them are sent.
+    /// If no process may run, all of them are sent. What is told comes after what was told before.
     pub fn run(&mut self, most: u32) -> Runs
         ensures ran { Ran most result.sent self.old.running.machine self.new.running.machine }
         ensures within { result.sent ≤ most }
         ensures some { 0 < most → 0 < result.sent }
+        ensures text { self.new.complete ≡ true → (self.old.complete ≡ true) × StartsWith (string_bytes self.new.text) (string_bytes self.old.text) }
     {
         let Some(pid) = self.running.machine.current() else {
             return self.running.run(most);
@@ -118,11 +121,7 @@ impl Explained {
                 last: None,
             };
         }
-        let marked = is_marked(&self.running.machine.process(pid));
         let outcome = self.step(pid);
-        let place = self.running.names.place(pid);
-        self.counts
-            .add_outcome(&self.choice, pid, place, marked, &outcome);
         Runs {
             sent: made + 1,
             last: Some(outcome),
@@ -132,7 +131,9 @@ impl Explained {
     /// Sends an event that isn't Run. Nothing is told of it.
     pub fn send(&mut self, event: Event) -> Outcome
         requires { is_run (event_of event) ≡ false }
-        ensures { IsEvent self.old.running.machine (event_of event) (outcome_of result) self.new.running.machine }
+        ensures event { IsEvent self.old.running.machine (event_of event) (outcome_of result) self.new.running.machine }
+        ensures text { string_bytes self.new.text ≡ string_bytes self.old.text }
+        ensures complete { self.new.complete ≡ self.old.complete }
     {
         // (It says that the machine is sound.)
         let _halted = self.running.machine.halted();

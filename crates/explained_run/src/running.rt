@@ -1,13 +1,18 @@
 //! A run: from the words of the command line to the closing line.
-ghost use Rattle.std.specs.Prelude.{◌≡◌, ◌≢◌, IfOk, map};
+ghost use Rattle.std.specs.Prelude.{◌≡◌, ◌≢◌, [], true, IfOk, OnErr, map};
 ghost use Rattle.kernel_spec.specs.views.State.{named_file};
+ghost use Rattle.program_files.specs.Statuses.{status_of};
 ghost use Rattle.run_work.specs.Runs.{EndsSo, IsRunStatus, Says};
+ghost use Rattle.explained_run.specs.Handed.{Holds};
+ghost use Rattle.explained_run.specs.Handing.{HandsOn};
 
 use crate::NAME;
 use crate::choice::Choice;
 use crate::command_line::settings;
 use crate::explained::Explained;
 use crate::line::Settings;
+use crate::lines::{Lines, Written};
+use crate::table::write_counts;
 use crate::watching::{Stop, Watched};
 use kernel_calls::{CALLS, KernelCall};
 use program_files::exit_statuses::WORDS_REFUSED;
@@ -17,41 +22,70 @@ use std::alloc::Global;
 use std::io::Write;
 use std::rt::Env;
 use xk_base::Program;
-use xv_machine::{ByteSink, Config, Counted, KeySource, RunPlan, play_rounds};
+use xv_machine::{
+    ByteSink, Config, Counted, DriveEnd, DriveError, KeySource, RunPlan, play_rounds,
+};
 
-// Lets a machine that has booted play rounds by the plan, tells its calls, shows its trace and the closing line, and gives
-// the exit status: 2 if there was too little memory for the lines, and 6 if the budget is used up.
-fn watch_to_end<R: KeySource, W: ByteSink, E: Write>(
-    watched: &mut Watched<E>,
-    plan: RunPlan,
-    keys: &mut R,
-    sink: &mut W,
+/// A run that is over.
+#[derive(Drop)]
+pub(crate) struct Ended<L> {
+    /// The status to exit with.
+    pub status: u8,
+    /// Where its lines went.
+    pub lines: L,
+}
+
+// Shows the table of a machine's calls, its trace and the closing line, and gives the exit status: 2 if there was too
+// little memory for the lines, and 6 if the budget is used up.
+fn close<E: Write>(
+    explained: &Explained,
+    work: &Work,
+    played: Result<Result<DriveEnd, DriveError>, Stop>,
+    errors: &mut E,
 ) -> u8
-    ensures { result ≢ 2 → EndsSo result plan watched.old.explained.running.machine
-        (record { source = R.source keys.old; failed_reads = R.failures keys.old; sink = W.sink sink.old; failed_writes = W.failures sink.old })
-        (record { source = R.source keys.new; failed_reads = R.failures keys.new; sink = W.sink sink.new; failed_writes = W.failures sink.new }) }
+    ensures complete { result ≢ 2 → explained.now.complete ≡ true }
+    ensures over { result ≢ 2 → OnErr played (result ≡ 6) }
+    ensures ended { result ≢ 2 → IfOk played (λ end. result ≡ status_of end) }
 {
-    let played = play_rounds(watched, plan, keys, sink);
-    watched.write_counts();
-    let explained = &watched.explained;
-    show_trace(&explained.running.machine, &mut watched.errors);
-    if !watched.is_complete() {
-        return Failure::OutOfMemory.close(NAME, &mut watched.errors);
+    write_counts(explained, errors);
+    show_trace(&explained.running.machine, errors);
+    if !explained.complete {
+        return Failure::OutOfMemory.close(NAME, errors);
     }
     match played {
-        Ok(end) => close_run(NAME, end, &mut watched.errors),
-        Err(Stop) => close_over_budget(NAME, &watched.work, &mut watched.errors),
+        Ok(end) => close_run(NAME, end, errors),
+        Err(Stop) => close_over_budget(NAME, work, errors),
     }
 }
 
+// Lets a machine that has booted play rounds by the plan, and tells its calls. What is told at the end goes to
+// `errors`.
+fn watch_to_end<R: KeySource, W: ByteSink, L: Lines + Drop, E: Write>(
+    mut watched: Watched<L>,
+    plan: RunPlan,
+    keys: &mut R,
+    sink: &mut W,
+    errors: &mut E,
+) -> Ended<L>
+    ensures ended { result.status ≢ 2 → EndsSo result.status plan watched.explained.running.machine
+        (record { source = R.source keys.old; failed_reads = R.failures keys.old; sink = W.sink sink.old; failed_writes = W.failures sink.old })
+        (record { source = R.source keys.new; failed_reads = R.failures keys.new; sink = W.sink sink.new; failed_writes = W.failures sink.new }) }
+    ensures told { result.status ≢ 2 → HandsOn (L.handed result.lines) }
+{
+    let played = play_rounds(&mut watched, plan, keys, sink);
+    let status = close(&watched.explained, &watched.work, played, errors);
+    let Watched { lines, .. } = watched;
+    Ended { status, lines }
+}
+
 /// Boots a machine of these programs, and lets it play rounds by the plan: keys come from `keys`, and the console's bytes
-/// go to `sink`. The lines of its calls, or the table of them, and at the end the trace and one closing line if `init` hasn't
-/// exited with 0, go to `errors`. What can't be written there is left out.
+/// go to `sink`. The lines of its calls go to `lines`, if any are asked for; the table of them, and at the end the trace
+/// and one closing line if `init` hasn't exited with 0, to `errors`. What can't be written there is left out.
 ///
 /// It gives the status to exit with: 0 if `init` exited with 0, 2 if the machine didn't boot or the host's memory ran
 /// out, 3 if `init` exited with another status, 4 if the rounds are over, 5 if `keys` or `sink` failed, and 6 if the
 /// budget of `work` is used up.
-pub(crate) fn run_with<R: KeySource, W: ByteSink, E: Write + Drop>(
+pub(crate) fn run_with<R: KeySource, W: ByteSink, L: Lines + Drop, E: Write + Drop>(
     alloc: Global,
     config: Config,
     plan: RunPlan,
@@ -60,23 +94,24 @@ pub(crate) fn run_with<R: KeySource, W: ByteSink, E: Write + Drop>(
     choice: Choice,
     keys: &mut R,
     sink: &mut W,
+    lines: L,
     mut errors: E,
-) -> u8
-    ensures { Says result config plan (map named_file programs.items)
+) -> Ended<L>
+    requires { Holds (L.handed lines) [] }
+    ensures says { Says result.status config plan (map named_file programs.items)
         (record { source = R.source keys.old; failed_reads = R.failures keys.old; sink = W.sink sink.old; failed_writes = W.failures sink.old })
         (record { source = R.source keys.new; failed_reads = R.failures keys.new; sink = W.sink sink.new; failed_writes = W.failures sink.new }) }
+    ensures told { result.status ≢ 2 → HandsOn (L.handed result.lines) }
 {
     match Explained::boot(alloc, config, programs, choice) {
         Ok(explained) => {
-            let mut watched = Watched {
-                explained,
-                errors,
-                written: 0,
-                work,
-            };
-            watch_to_end(&mut watched, plan, keys, sink)
+            let watched = Watched::new(explained, lines, work);
+            watch_to_end(watched, plan, keys, sink, &mut errors)
         }
-        Err(error) => Failure::from(error).close(NAME, &mut errors),
+        Err(error) => Ended {
+            status: Failure::from(error).close(NAME, &mut errors),
+            lines,
+        },
     }
 }
 
@@ -128,7 +163,7 @@ fn run<'a>(rt: &HostRuntime, settings: &'a Settings, choice: Choice) -> Result<u
     };
     let mut keys = Counted::new(rt.stdin());
     let mut sink = Counted::new(rt.stdout());
-    Ok(run_with(
+    let ended = run_with(
         rt.alloc(),
         config,
         plan,
@@ -137,8 +172,10 @@ fn run<'a>(rt: &HostRuntime, settings: &'a Settings, choice: Choice) -> Result<u
         choice,
         &mut keys,
         &mut sink,
+        Written(rt.stderr()),
         rt.stderr(),
-    ))
+    );
+    Ok(ended.status)
 }
 
 // Runs the programs that the settings name, and gives the exit status, also if they can't be had.

@@ -15,8 +15,15 @@ fn name_of<'a>(explained: &'a Explained, count: &Count) -> &'a [u8] {
     }
 }
 
-/// Writes the table, a process in each row. What can't be written is left out.
-pub(crate) fn write_table<E: Write>(explained: &Explained, errors: &mut E) {
+/// Writes the table of what each process has done, if it is asked for in place of lines.
+pub(crate) fn write_counts<E: Write>(explained: &Explained, errors: &mut E) {
+    if !explained.choice.lines {
+        write_table(explained, errors);
+    }
+}
+
+// Writes the table, a process in each row. What can't be written is left out.
+fn write_table<E: Write>(explained: &Explained, errors: &mut E) {
     let Some(counts) = explained.counts.all() else {
         let _ = writeln!(errors, "there was too little memory to count calls");
         return;

@@ -1,22 +1,21 @@
 //! A machine that plays rounds, and whose calls are written as they come.
-ghost use Rattle.std.specs.Prelude.{◌≡◌};
+ghost use Rattle.std.specs.Prelude.{◌≡◌, true, [], drop, string_bytes};
 ghost use Rattle.xv_machine.specs.Events.{outcome_of};
+ghost use Rattle.explained_run.specs.Handed.{Holds};
 ghost use Rattle.explained_run.specs.Sent.{byte_sent};
 
 use crate::explained::Explained;
-use crate::table::write_table;
+use crate::lines::Lines;
 use run_work::{Before, Work};
-use std::io::Write;
 use xv_machine::{Event, Outcome, RoundPlayer, Sends};
 
-/// A machine that is told of, and where the lines go.
+/// A machine that is told of, and where the lines go. If there was memory for all lines, just these were handed on.
 #[derive(Drop)]
-pub(crate) struct Watched<E> {
+pub(crate) struct Watched<L: Lines> {
     pub explained: Explained,
-    pub errors: E,
-    /// How many bytes of the lines are handed on.
-    pub written: usize,
+    pub lines: L,
     pub work: Work,
+    ghost handed: { ∥ (explained.complete ≡ true → Holds (L.handed lines) (string_bytes explained.text)) ∥₁ },
 }
 
 /// That a run is broken off: its budget is used up.
@@ -33,43 +32,31 @@ fn byte_of(outcome: &Outcome) -> Option<u8>
     }
 }
 
-impl<E: Write> Watched<E> {
-    // Hands on the lines that are new. What can't be written is left out.
-    fn hand_on(&mut self)
-        ensures explained { self.new.explained ≡ self.old.explained }
-        ensures work { self.new.work ≡ self.old.work }
-    {
-        let explained = &self.explained;
-        let text = explained.text.as_str().as_bytes();
-        if let Some(more) = text.get(self.written..) {
-            if !more.is_empty() {
-                let _ = self.errors.write_all(more);
-                let _ = self.errors.flush();
-            }
-        }
-        self.written = text.len();
-    }
+// What stands in a text from a place on.
+fn rest_from(text: &[u8], place: usize) -> &[u8]
+    ensures { result.now ≡ drop place text.now }
+{
+    text.get(place..).unwrap_or(b"")
+}
 
-    /// Whether there was memory for all lines.
-    pub fn is_complete(&self) -> bool
-        ensures { result ≡ self.now.explained.complete }
+impl<L: Lines> Watched<L> {
+    /// A machine that was just booted, of which nothing is told yet.
+    pub fn new(explained: Explained, lines: L, work: Work) -> Watched<L>
+        requires text { string_bytes explained.text ≡ [] }
+        requires fresh { Holds (L.handed lines) [] }
+        ensures explained { result.explained ≡ explained }
+        ensures work { result.work ≡ work }
     {
-        self.explained.complete
-    }
-
-    /// Writes the table of what each process has done, if no lines are asked for.
-    pub fn write_counts(&mut self)
-        ensures explained { self.new.explained ≡ self.old.explained }
-        ensures work { self.new.work ≡ self.old.work }
-    {
-        if !self.explained.choice.lines {
-            write_table(&self.explained, &mut self.errors);
+        Watched {
+            explained,
+            lines,
+            work,
         }
     }
 }
 
 /// A [`Stop`] before Runs, if the budget is used up: then nothing is sent.
-impl<E: Write> RoundPlayer for Watched<E> {
+impl<L: Lines> RoundPlayer for Watched<L> {
     type Refusal = Stop;
 
     ghost machine = { λ w. w.explained.running.machine };
@@ -79,6 +66,7 @@ impl<E: Write> RoundPlayer for Watched<E> {
             return Err(Stop);
         }
         let before = Before::of(&self.explained.running.machine);
+        let told = self.explained.text.len();
         let made = self.explained.run(most);
         self.work.add_runs(
             &self.explained.running.machine,
@@ -86,7 +74,8 @@ impl<E: Write> RoundPlayer for Watched<E> {
             made.sent,
             &made.last,
         );
-        self.hand_on();
+        let text = self.explained.text.as_str().as_bytes();
+        self.lines.hand_on(rest_from(text, told));
         Ok(made.sent)
     }
 

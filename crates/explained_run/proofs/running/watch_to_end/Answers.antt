@@ -1,10 +1,12 @@
+use Rattle.std.proofs.Common.{Bool, string_bytes, subst}
+use Rattle.std.proofs.Math.Logic.{∥∥₁_map}
 use Rattle.program_files.specs.Statuses.{Devices}
-use Rattle.program_files.proofs.Statuses.{tells}
-use Rattle.run_work.proofs.Ended.{ended-driven, ended-over}
+use Rattle.explained_run.specs.Told.{IsTold}
+use Rattle.explained_run.proofs.Ends.{ends-so}
 use Rattle.explained_run.proofs.running.watch_to_end.Goals as goal
 
-pub returns-in-Ok : goal.returns-in-Ok
-returns-in-Ok g c = λ other.
+pub returns-clause-ended : goal.returns-clause-ended
+returns-clause-ended g c = λ other.
     let before : Devices = record {
       source = g.R.KeySource.source c.args.keys.now;
       failed_reads = g.R.KeySource.failures c.args.keys.now;
@@ -17,28 +19,21 @@ returns-in-Ok g c = λ other.
       sink = g.W.ByteSink.sink c.play_rounds-played.new.sink;
       failed_writes = g.W.ByteSink.failures c.play_rounds-played.new.sink;
     } in
-    let old = c.args.watched.now.explained.running.machine in
-    rw c.close_run.ensures (ended-driven c.args.plan old before after _
-    (tells c.args.plan old c.play_rounds-played.new.player.explained.running.machine before after
-    c.in-Ok.end c.in-Ok.ensures.done c.in-Ok.ensures.end c.in-Ok.ensures.read_failed c.in-Ok.ensures.write_failed))
+    let played = c.play_rounds-played in
+    ends-so played.result c.close-status.result c.args.plan c.args.watched.explained.running.machine played.new.player.explained.running.machine before after
+    (c.close-status.ensures.ended other) (c.close-status.ensures.over other) played.ensures.done played.ensures.end played.ensures.read_failed played.ensures.write_failed
+    played.ensures.refused played.ensures.refused_failures
 
-pub returns-in-Err : goal.returns-in-Err
-returns-in-Err g c = λ other.
-    let before : Devices = record {
-      source = g.R.KeySource.source c.args.keys.now;
-      failed_reads = g.R.KeySource.failures c.args.keys.now;
-      sink = g.W.ByteSink.sink c.args.sink.now;
-      failed_writes = g.W.ByteSink.failures c.args.sink.now;
-    } in
-    let after : Devices = record {
-      source = g.R.KeySource.source c.play_rounds-played.new.keys;
-      failed_reads = g.R.KeySource.failures c.play_rounds-played.new.keys;
-      sink = g.W.ByteSink.sink c.play_rounds-played.new.sink;
-      failed_writes = g.W.ByteSink.failures c.play_rounds-played.new.sink;
-    } in
-    rw c.close_over_budget.ensures (ended-over c.args.plan c.args.watched.now.explained.running.machine before after (record {
-      ended = c.play_rounds-played.new.player.explained.running.machine;
-      stopped = c.in-Err.ensures.refused;
-      reads = c.in-Err.ensures.refused_failures.0;
-      writes = c.in-Err.ensures.refused_failures.1;
-    }))
+pub returns-clause-told : goal.returns-clause-told
+returns-clause-told g c = λ other.
+    let x = c.play_rounds-played.new.player.explained in
+    let complete = c.close-status.ensures.complete other in
+    record {
+      choice = x.choice;
+      running = x.running;
+      text = string_bytes x.text;
+      counted = x.counts.complete;
+      counts = x.counts.counts.items;
+      told = ∥∥₁_map x.told (λ t. subst (λ (b : Bool). IsTold x.choice x.running b (string_bytes x.text) x.counts.complete x.counts.counts.items) complete t);
+      held = ∥∥₁_map c.play_rounds-played.new.player.handed (λ h. h complete);
+    }

@@ -1,4 +1,4 @@
-use Rattle.std.proofs.Common.{◌≡◌, ℕ, List, Ok, true, map, sym, ap, ◌∙◌, subst}
+use Rattle.std.proofs.Common.{◌≡◌, ℕ, Bool, List, [], Ok, true, map, sym, ap, ◌∙◌, subst}
 use Rattle.kernel_spec.specs.runs.First.{first}
 use Rattle.kernel_spec.specs.views.State.{named_file}
 use Rattle.xv_machine.specs.Boots.{Boots, HasEmptyTrace}
@@ -8,6 +8,7 @@ use Rattle.xv_session.specs.Names.{first_names}
 use Rattle.xv_session.proofs.NamesLive.{anew-sound}
 use Rattle.xv_session.proofs.Programs.{booted-led}
 use Rattle.explained_run.specs.Told.{IsTold}
+use Rattle.explained_run.specs.declared.counts.Count.{Count}
 use Rattle.explained_run.proofs.Joined.{told-at-boot}
 use Rattle.explained_run.proofs.explained.Explained.boot.Goals as goal
 
@@ -24,5 +25,8 @@ invariant_of-result c =
     let names : r.names ≡ first_names r.machine.world.state.programs = c.new.ensures.names ∙ ap (λ (m : Meaning). first_names m.world.state.programs) same in
     record {
       live = (anew-sound f t ps r boots sound empty names).names;
-      told = ∣ subst (λ (text : List ℕ). IsTold c.args.choice r true text) (sym c.new-in-Ok-2.ensures.bytes) (told-at-boot c.args.choice f t ps r (booted-led f t ps r boots sound empty names).0) ∣₁;
+      told = ∣ subst (λ (text : List ℕ). IsTold c.args.choice r true text c.new-in-Ok.result.complete c.new-in-Ok.result.counts.items) (sym c.new-in-Ok-2.ensures.bytes)
+          (subst (λ (counted : Bool). IsTold c.args.choice r true [] counted c.new-in-Ok.result.counts.items) (sym c.new-in-Ok.ensures.complete)
+          (subst (λ (rows : List Count). IsTold c.args.choice r true [] true rows) (sym c.new-in-Ok.ensures.counts)
+          (told-at-boot c.args.choice f t ps r (booted-led f t ps r boots sound empty names).0))) ∣₁;
     }

@@ -6,10 +6,10 @@ use Rattle.kernel_spec.specs.views.Words.{or_zero}
 use Rattle.kernel_spec.specs.waking.Wakes.{IsPromised}
 use Rattle.xv_machine.specs.Drives.{done_by}
 use Rattle.xv_machine.specs.Events.{outcome_of}
-use Rattle.xv_session.specs.declared.running.Runs.{Runs}
 use Rattle.xv_session.proofs.NamesLive.{goes-by-sound, instructed-sound}
 use Rattle.xv_session.proofs.Plays.{goes-by-runs}
 use Rattle.xv_session.proofs.RunsMade.{runs-on, some-done}
+use Rattle.explained_run.proofs.Ends.{starts-self}
 use Rattle.explained_run.proofs.Joined.{ran, told-instructed, told-passing}
 use Rattle.explained_run.proofs.explained.Explained.run.Goals as goal
 
@@ -21,7 +21,7 @@ invariant_of-self c =
     record {
       live = (goes-by-sound (replicate c.run.result.sent Run) x.running s (record { machine = c.current.ensures.sound; names = x.live })
           (goes-by-runs c.args.most c.run.result.sent last x.running s c.run.ensures.made)).names;
-      told = ∥∥₁_map x.told (λ t. told-passing x.choice c.args.most c.run.result.sent last x.running s x.complete (string_bytes x.text) t
+      told = ∥∥₁_map x.told (λ t. told-passing x.choice c.args.most c.run.result.sent last x.running s x.complete (string_bytes x.text) x.counts.complete x.counts.counts.items t
           (sym c.current.ensures.pid ∙ c.in_default.is) c.run.ensures.made);
     }
 
@@ -34,9 +34,12 @@ invariant_of-self-2 c =
     let a = x.running.machine in
     let b = c.instructions-made.new.self in
     let p = or_zero a.world.turns.current in
+    let is = sym c.current.ensures.pid ∙ c.in-Some.is in
     record {
       live = (instructed-sound c.instructions-made.result p x.running.names a b (record { machine = c.current.ensures.sound; names = x.live }) c.instructions-made.ensures.goes).names;
-      told = ∥∥₁_map x.told (λ t. told-instructed x.choice c.instructions-made.result p a b x.running.names x.complete (string_bytes x.text) t c.instructions-made.ensures.goes);
+      told = ∥∥₁_map x.told (λ t. told-instructed x.choice c.instructions-made.result c.in-Some.pid a b x.running.names x.complete (string_bytes x.text)
+          x.counts.complete c.add_instructions.new.self.complete x.counts.counts.items c.add_instructions.new.self.counts.items c.place-place.result
+          t is c.instructions-made.ensures.goes c.place-place.ensures c.add_instructions.ensures.counts c.add_instructions.ensures.complete);
     }
 
 pub step-outcome-requires-clause-current : goal.step-outcome-requires-clause-current
@@ -56,4 +59,7 @@ returns-clause-ran c =
     let fewer : made < c.args.most = omega (arith, c.instructions-made.ensures.within, c.if-made-most.false) in
     ran c.args.most (made + 1) (Some o) r s
     (some-done c.args.most made c.in-Some.pid o r.names r.machine c.instructions-made.new.self s c.current.ensures.sound (sym c.current.ensures.pid ∙ c.in-Some.is) fewer
-    c.instructions-made.ensures.goes (c.instructions-made.ensures.stops fewer) c.step-outcome.ensures)
+    c.instructions-made.ensures.goes (c.instructions-made.ensures.stops fewer) c.step-outcome.ensures.advances)
+
+pub returns-in_default-clause-text : goal.returns-in_default-clause-text
+returns-in_default-clause-text c = λ yes. (yes, starts-self (string_bytes c.args.self.now.text))

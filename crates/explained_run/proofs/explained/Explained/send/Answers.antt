@@ -13,5 +13,5 @@ invariant_of-self c =
     let s = c.event.new.self in
     record {
       live = (advances-sound e o x.running s (record { machine = c.halted-halted.ensures.sound; names = x.live }) c.event.ensures).names;
-      told = ∥∥₁_map x.told (λ t. told-other x.choice e o x.running s x.complete (string_bytes x.text) t c.requires c.event.ensures);
+      told = ∥∥₁_map x.told (λ t. told-other x.choice e o x.running s x.complete (string_bytes x.text) x.counts.complete x.counts.counts.items t c.requires c.event.ensures);
     }

@@ -1,51 +1,33 @@
-use Rattle.std.proofs.Common.{string_bytes, sym, ◌∙◌}
+use Rattle.std.proofs.Common.{rules, Bool, string_bytes, subst, sym, ◌∙◌}
 use Rattle.std.proofs.Math.Logic.{∥∥₁_map}
 use Rattle.kernel_spec.specs.runs.Run.{Run}
 use Rattle.xv_machine.specs.Events.{outcome_of}
 use Rattle.xv_session.proofs.NamesLive.{advances-sound}
-use Rattle.explained_run.specs.Seen.{seen_of}
-use Rattle.explained_run.proofs.Joined.{told-asked, told-in-part, told-unasked, when-ok}
+use Rattle.explained_run.specs.Told.{IsTold}
+use Rattle.explained_run.proofs.Ends.{starts-more}
+use Rattle.explained_run.proofs.Joined.{and-left, and-right, told-step}
 use Rattle.explained_run.proofs.explained.Explained.step.Goals as goal
 
 pub invariant_of-self : goal.invariant_of-self
 invariant_of-self c =
     let x = c.args.self.now in
-    let o = outcome_of c.event.result in
-    let s = c.event.new.self in
+    let o = outcome_of c.tell_step-made.result.outcome in
+    let s = c.tell_step-made.new.running in
+    let text = string_bytes c.tell_step-made.new.text in
+    let after = c.add_outcome.new.self in
     record {
-      live = (advances-sound Run o x.running s (record { machine = c.requires.sound; names = x.live }) c.event.ensures).names;
-      told = ∥∥₁_map x.told (λ t. told-unasked x.choice o c.args.pid x.running s x.complete (string_bytes x.text) t c.event.ensures c.requires.current
-          (sym c.shows_process.ensures ∙ c.if-not-shows_process.true));
+      live = (advances-sound Run o x.running s (record { machine = c.requires.sound; names = x.live }) c.tell_step-made.ensures.advances).names;
+      told = ∥∥₁_map x.told (λ t. subst (λ (complete : Bool). IsTold x.choice s complete text after.complete after.counts.items) (sym c.both-self.ensures)
+          (told-step x.choice o c.args.pid x.running s x.complete c.tell_step-made.result.is_told (string_bytes x.text) text
+          x.counts.complete after.complete x.counts.counts.items after.counts.items c.or-place.result c.is_marked-marked.result
+          t c.requires.sound c.requires.current c.tell_step-made.ensures.advances c.tell_step-made.ensures.told c.add_outcome.ensures.counts c.add_outcome.ensures.complete
+          (search rules) (search rules)));
     }
 
-pub invariant_of-self-in_default : goal.invariant_of-self-in_default
-invariant_of-self-in_default c =
+pub returns-clause-text : goal.returns-clause-text
+returns-clause-text c = λ yes.
     let x = c.args.self.now in
-    let o = outcome_of c.event-outcome.result in
-    let s = c.event-outcome.new.self in
-    record {
-      live = (advances-sound Run o x.running s (record { machine = c.requires.sound; names = x.live }) c.event-outcome.ensures).names;
-      told = ∥∥₁_map x.told (λ t. told-in-part x.choice o x.running s x.complete (string_bytes x.text) (string_bytes x.text) t c.event-outcome.ensures);
-    }
-
-pub invariant_of-self-then-is_err : goal.invariant_of-self-then-is_err
-invariant_of-self-then-is_err c =
-    let x = c.args.self.now in
-    let o = outcome_of c.event-outcome.result in
-    let s = c.event-outcome.new.self in
-    record {
-      live = (advances-sound Run o x.running s (record { machine = c.requires.sound; names = x.live }) c.event-outcome.ensures).names;
-      told = ∥∥₁_map x.told (λ t. told-in-part x.choice o x.running s x.complete (string_bytes x.text) (string_bytes c.tell-told.new.text) t c.event-outcome.ensures);
-    }
-
-pub invariant_of-self-else-is_err : goal.invariant_of-self-else-is_err
-invariant_of-self-else-is_err c =
-    let x = c.args.self.now in
-    let o = outcome_of c.event-outcome.result in
-    let s = c.event-outcome.new.self in
-    record {
-      live = (advances-sound Run o x.running s (record { machine = c.requires.sound; names = x.live }) c.event-outcome.ensures).names;
-      told = ∥∥₁_map x.told (λ t. told-asked x.choice o c.args.pid x.running s x.complete (string_bytes x.text) (string_bytes c.tell-told.new.text) (seen_of c.in-Ok.seen) t
-          c.event-outcome.ensures c.requires.current (sym c.shows_process.ensures ∙ c.if-not-shows_process.false) c.in-Ok.ensures
-          (when-ok c.tell-told.result c.tell-told.ensures (sym c.is_err.ensures.value ∙ c.if-is_err.false)));
-    }
+    let both = sym c.both-self.ensures ∙ yes in (
+      and-left x.complete c.tell_step-made.result.is_told both,
+      starts-more (string_bytes x.text) (string_bytes c.tell_step-made.new.text) _ (c.tell_step-made.ensures.told (and-right x.complete c.tell_step-made.result.is_told both)),
+    )

@@ -1,0 +1,64 @@
+-- How a run ends that is told.
+use Rattle.std.proofs.Common.{◌≡◌, ◌∙◌, ℕ, Bool, true, List, [], ◌++◌, Option, None, Some, Result, Ok, Err, OnOk, IfOk, IfErr, ap, subst, sym, length, take, drop, append-nil, take-append-drop}
+use Rattle.std.proofs.Math.Seq.{take-append_seam}
+use Rattle.std.specs.Prelude.{OnErr}
+use Rattle.std.specs.Io.{StartsWith}
+use Rattle.std.specs.Io.KnownBytes.{append_known}
+use Rattle.program_files.specs.Statuses.{Devices, status_of}
+use Rattle.program_files.proofs.Statuses.{tells}
+use Rattle.run_work.specs.Runs.{EndsSo}
+use Rattle.run_work.proofs.Ended.{ended-driven, ended-over}
+use Rattle.xv_machine.specs.declared.driving.DriveEnd.{DriveEnd}
+use Rattle.xv_machine.specs.declared.driving.DriveError.{DriveError}
+use Rattle.xv_machine.specs.declared.driving.RunPlan.{RunPlan}
+use Rattle.xv_machine.specs.Devices.{OneFailed}
+use Rattle.xv_machine.specs.Drives.{Done, IsEndOf, OnRead, OnWrite, StoppedByPlayer}
+use Rattle.xv_machine.specs.Meaning.{Meaning}
+use Rattle.explained_run.specs.Handed.{Holds}
+
+-- the exit status, by how the rounds ended
+pub ends-so : {S : Type 0} (played : Result (Result DriveEnd DriveError) S) (status : ℕ) (plan : RunPlan) (old new : Meaning) (before after : Devices)
+    → IfOk played (λ end. status ≡ status_of end) → OnErr played (status ≡ 6)
+    → IfOk played (λ end. OnOk end (Done plan before.source after.source old new before.sink after.sink))
+    → IfOk played (λ end. IfOk end (λ e. IsEndOf e new))
+    → IfOk played (λ end. IfErr end (λ e. OnRead e (OneFailed before.failed_reads after.failed_reads before.failed_writes after.failed_writes)))
+    → IfOk played (λ end. IfErr end (λ e. OnWrite e (OneFailed before.failed_writes after.failed_writes before.failed_reads after.failed_reads)))
+    → IfErr played (λ _. StoppedByPlayer plan before.source after.source old new before.sink after.sink)
+    → IfErr played (λ _. (after.failed_reads ≡ before.failed_reads) × (after.failed_writes ≡ before.failed_writes))
+    → EndsSo status plan old before after
+ends-so (Ok end) status plan old new before after is over done ended read write stopped failures =
+    rw is (ended-driven plan old before after (status_of end) (tells plan old new before after end done ended read write))
+ends-so (Err stop) status plan old new before after is over done ended read write stopped failures =
+    rw over (ended-over plan old before after (record { ended = new; stopped = stopped; reads = failures.0; writes = failures.1 }))
+
+-- ---- a text that grows
+
+pub starts-more : (old new more : List ℕ) → new ≡ old ++ more → StartsWith new old
+starts-more old new more is = ap (take (length old)) is ∙ take-append_seam old more
+
+pub starts-self : (text : List ℕ) → StartsWith text text
+starts-self text = starts-more text text [] (sym (append-nil text))
+
+-- what it had, and the rest
+pub starts-rest : (old new : List ℕ) → StartsWith new old → old ++ drop (length old) new ≡ new
+starts-rest old new starts = ap (λ (front : List ℕ). front ++ drop (length old) new) (sym starts) ∙ take-append-drop (length old) new
+
+-- ---- lines that are handed on
+
+-- more lines after those that were handed on before
+pub holds-more : (handed after : Option (List ℕ)) (text more : List ℕ) → Holds handed text → after ≡ append_known handed more → Holds after (text ++ more)
+holds-more None None text more held is = tt
+holds-more None (Some xs) text more held is = cc
+holds-more (Some held) (Some xs) text more is e = let same : xs ≡ held ++ more = cc in same ∙ ap (λ (t : List ℕ). t ++ more) is
+holds-more (Some held) None text more is e = cc
+
+-- the same text, after an event of which nothing is told
+pub handed-same : (known : Option (List ℕ)) (was is : Bool) (old new : List ℕ) → is ≡ was → new ≡ old → (was ≡ true → Holds known old) → is ≡ true → Holds known new
+handed-same known was is old new same text held now = subst (λ (t : List ℕ). Holds known t) (sym text) (held (sym same ∙ now))
+
+-- and after Runs, whose lines were handed on
+pub handed-more : (known after : Option (List ℕ)) (was is : Bool) (old new : List ℕ) → (is ≡ true → (was ≡ true) × StartsWith new old)
+    → after ≡ append_known known (drop (length old) new) → (was ≡ true → Holds known old) → is ≡ true → Holds after new
+handed-more known after was is old new grows handed held now =
+    let g = grows now in
+    subst (λ (t : List ℕ). Holds after t) (starts-rest old new g.1) (holds-more known after old (drop (length old) new) (held g.0) handed)
