@@ -31,8 +31,8 @@ const line_in = (address, number, file) => (
 );
 
 /**
- * What a table tells: {names, lines, frames, wrong}, in the order of addresses. `line`: as `sh.c:12`, or nothing if none
- * is known. `wrong`: the numbers of the rows that are none of a table, which are passed over.
+ * What a table tells: {names, lines, frames, wrong}, in the order of addresses. `line`: as `sh.c:12`, or nothing if
+ * none is known. `wrong`: the numbers of the rows that are none of a table, which are passed over.
  */
 export function read_table(text) {
   const names = [], lines = [], frames = [], wrong = [];
