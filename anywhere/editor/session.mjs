@@ -7,13 +7,13 @@ import { fault_in_words } from "../machine/end_reports.mjs";
 import { boot_words } from "../machine/file_refusals.mjs";
 import { line_step } from "../machine/line_steps.mjs";
 import { Machine } from "../machine/machine.mjs";
+import { TICK } from "../machine/plan.mjs";
 import { Player } from "../machine/player.mjs";
 import { Run } from "../machine/run.mjs";
 import { Programs } from "./programs.mjs";
 
 const SLICE = 40; // ms of play between two looks at the messages
 const MOST_RUNS = 200000, MOST_RUNS_TO_STOP = 100000; // of one piece of play
-const TICK = 100; // ms: a tick of a terminal is a tenth of a second
 const MOST_STEPS = 300; // of others, until a process makes its own
 const REGISTER_PC = 0;
 

@@ -3,6 +3,9 @@
 // 36.
 import { EVENT } from "./machine.mjs";
 
+/** How many texts of events that keys have cut off are held, and kept with a run. */
+export const MOST_FUTURES = 8;
+
 const LETTERS = { [EVENT.RUN]: "R", [EVENT.TICK]: "T", [EVENT.KEY]: "K", [EVENT.SEND]: "S" };
 const EVENTS = Object.fromEntries(Object.entries(LETTERS).map(([event, letter]) => [letter, Number(event)]));
 

@@ -3,8 +3,9 @@ import { bytes_words, grouped } from "./number_words.mjs";
 
 export const MOST_BYTES = 1048576; // of a file
 export const MOST_FILES = 64;
-const MOST_LETTERS = 14;
-const LEAST_FRAMES = 16, MOST_FRAMES = 32768;
+export const MOST_LETTERS = 14; // of a name
+export const MOST_FRAMES = 32768; // of a machine
+const LEAST_FRAMES = 16;
 
 /** Why files, {name, from: {name}, bytes}, are no machine's; null if nothing speaks against them. */
 export function files_refused(files) {

@@ -1,7 +1,7 @@
 // What a machine has, as values that can be handed on: processes, instructions, pages, frames, descriptors and pipes.
-import { word_at } from "./memory.mjs";
+import { PAGE, word_at } from "./memory.mjs";
 
-const PAGE = 4096, PAGE_OF_PROCESS = 6; // the size of a page, and the use of a frame that is one
+const PAGE_OF_PROCESS = 6; // the use of a frame
 const BEFORE = 40n, AROUND = 128n, INSTRUCTION = 4n; // bytes of instructions that are shown
 const MOST_PAGES = 20000; // that are looked at one by one
 const MOST_DESCRIPTORS = 32, IS_A_PIPE = 3; // of a process; the least kind of descriptor that names a pipe

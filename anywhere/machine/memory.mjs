@@ -1,5 +1,7 @@
 // What a process has in memory, as numbers: the lowest byte stands first.
 
+export const PAGE = 4096; // bytes
+
 /** The number of so many bytes at an address; null where memory ends. */
 export function number_at(machine, pid, address, size) {
   const bytes = machine.peek(pid, BigInt.asUintN(64, address), size);

@@ -2,6 +2,7 @@
 import { EVENT, KIND } from "./machine.mjs";
 
 export const GONE = "process 1 is gone: nobody runs again";
+export const TICK = 100; // ms between two ticks of a terminal: a tenth of a second
 export const MOST_SOUGHT = 30000000; // events of a search before it gives up
 const MOST_IDLE = 200; // events at which nobody may run, till that is told
 

@@ -2,13 +2,12 @@
 // typed in the past cuts off what came after it: that is a future, and can be taken back.
 import { EVENT } from "./machine.mjs";
 import { BreakPoints } from "./break_points.mjs";
-import { spans_of } from "./events.mjs";
+import { MOST_FUTURES, spans_of } from "./events.mjs";
 import { GONE, MOST_SOUGHT, Plan } from "./plan.mjs";
 import { step_back, step_forward } from "./steps.mjs";
 
 const MOST_TO_STOP = 100000; // Runs of a piece of play, if each instruction is looked at
 const MOST_TO_END = 40 * MOST_SOUGHT; // events up to the end of a run
-const MOST_FUTURES = 8;
 const AT_CALL = "at a kernel call";
 
 export class Player {

@@ -2,10 +2,10 @@
 // which of them runs first.
 import { mistake_words } from "./assembler_mistakes.mjs";
 import { is_elf } from "./file_kinds.mjs";
+import { MOST_LETTERS } from "./file_refusals.mjs";
 import { PlacesInC, places_of } from "./source_places.mjs";
 
 const SOURCE = ".s", FIRST = "init";
-const MOST_LETTERS = 14; // of a name, in a list with others
 
 /** The file of a source, of which `made` is what the assembler told; {mistake}, in words, if it is refused. */
 export function file_of_source(name, text, made) {

@@ -1,10 +1,11 @@
 // A run as a text that every tool plays, as the terminal's --record writes it and its --replay reads it
 // (docs/manual/terminal.md): the machine's frames, the sum, size and name of each program, and each event.
+import { MOST_FRAMES } from "./file_refusals.mjs";
 import { EVENT } from "./machine.mjs";
 
 const HEAD = "xv record 1", END = "end";
 const WORDS = ["run", "tick", "key", "send"]; // the events, by their numbers
-const MOST_FRAMES = 32768, MOST_BYTE = 255;
+const MOST_BYTE = 255;
 const MOST_OF_LINE = 1e12; // events of one line: hours of play
 
 /** With these letters a record begins. */

@@ -5,6 +5,9 @@ import { file_of } from "./program.mjs";
 import { ROOT, made_of, state } from "./sources.mjs";
 import { write_all } from "./streams.mjs";
 
+/** The status that says that words, or what they name, are refused. */
+export const REFUSED = 1;
+
 /** The status that says that nothing could run. */
 export const NOTHING_RUNS = 125;
 

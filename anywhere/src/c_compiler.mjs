@@ -2,13 +2,14 @@
 // programs/c/tcc/build.sh makes, and c_linker.mjs. Nothing else of the host is asked for.
 import { chmodSync, existsSync, readFileSync, readdirSync, writeFileSync } from "node:fs";
 import { basename } from "node:path";
+import { NOTHING_RUNS, REFUSED } from "./about.mjs";
 import { run_compiler } from "./c_host.mjs";
 import { NotLinked, link } from "./c_linker.mjs";
 import { ROOT } from "./sources.mjs";
 import { write_all } from "./streams.mjs";
 import { as_taken, own_words } from "./words.mjs";
 
-const NAME = "xv --cc", REFUSED = 1, NOTHING_RUNS = 125;
+const NAME = "xv --cc";
 // The module takes no path for an absolute one. So those of the library, and absolute ones, have a head of their own.
 const OBJECT = "object.o", LIBRARY = "%library/", ABSOLUTE = "%";
 const USAGE = `usage: xv --cc FILE.c.. [-o NAME] [-I FOLDER] [-D NAME[=TEXT]] [-U NAME] [-Wall] [-Werror] [-w]

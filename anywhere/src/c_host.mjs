@@ -1,7 +1,8 @@
 // What the C compiler asks of its host: it is a module of WASI (preview 1) that reads and writes files. Here these are bytes that the
 // caller gives and takes, so that the same module runs by Node and in a page, and sees no other file and no clock.
-const GOOD = 0, BAD_DESCRIPTOR = 8, NO_FILE = 44;
-const FOLDER = 3, REGULAR_FILE = 4, CHARACTERS = 2, ALL_RIGHTS = 0xffffffffffffffffn;
+import { BAD_DESCRIPTOR, CHARACTERS, FOLDER, GOOD, NO_FILE, REGULAR_FILE } from "./wasi_numbers.mjs";
+
+const ALL_RIGHTS = 0xffffffffffffffffn;
 const MAY_CREATE = 1;
 const [OUTPUT, ERRORS, FIRST] = [1, 2, 3];
 // The one folder, in which all paths are looked for: the C library of the module takes the / at a path's head away.

@@ -1,10 +1,11 @@
 // Makes a program of object files, as programs/c/lib/program.ld lays one out: text and constants from address 0 on, and variables from
 // the next page on. What nothing leads to from the start file is left out. A program's own function takes the place of one of the
 // library that has its name.
+import { PAGE } from "../machine/memory.mjs";
 import { object_of } from "./c_objects.mjs";
 import { relocate, type_name } from "./c_relocations.mjs";
 
-const PAGE = 4096, HEADER_BYTES = 64, SEGMENT_BYTES = 56, MOST_TEXT = 1 << 20, ADDRESS_BYTES = 8;
+const HEADER_BYTES = 64, SEGMENT_BYTES = 56, MOST_TEXT = 1 << 20, ADDRESS_BYTES = 8;
 const READ_EXECUTE = 5, READ_WRITE = 6;
 const START = "_start";
 

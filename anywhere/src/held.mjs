@@ -4,9 +4,9 @@
 import { readFileSync, realpathSync } from "node:fs";
 import { resolve } from "node:path";
 import { read_all } from "./streams.mjs";
+import { BAD_DESCRIPTOR, GOOD, IO, NO_SEEK, REGULAR_FILE } from "./wasi_numbers.mjs";
 
-const GOOD = 0, BAD_STREAM = 8, IO = 29, NO_SEEK = 70;
-const REGULAR_FILE = 4, KIND_AT = 16, LENGTH_AT = 32, STAT_BYTES = 64;
+const KIND_AT = 16, LENGTH_AT = 32, STAT_BYTES = 64;
 const FIRST = 1 << 20;
 const STREAM = /^(?:dev\/fd\/|proc\/self\/fd\/)(\d+)$|^dev\/(stdin)$/;
 
@@ -55,7 +55,7 @@ export function with_held(system, texts, words, memory) {
         view().setUint32(opened, fd, true);
         return GOOD;
       } catch (error) {
-        return error.code === "EBADF" ? BAD_STREAM : IO;
+        return error.code === "EBADF" ? BAD_DESCRIPTOR : IO;
       }
     },
     fd_read(fd, list, count, got) {

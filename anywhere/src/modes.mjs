@@ -1,6 +1,6 @@
 // What xv does by its words: which program runs them, and how. The modes may stand anywhere before the word `--`.
 import { isatty } from "node:tty";
-import { NOTHING_RUNS, status, tell_version } from "./about.mjs";
+import { NOTHING_RUNS, REFUSED, status, tell_version } from "./about.mjs";
 import { compile_by } from "./c_compiler.mjs";
 import { gdb } from "./gdb.mjs";
 import { picture } from "./picture.mjs";
@@ -12,7 +12,6 @@ import { at_terminal, debug } from "./terminal.mjs";
 import { MODES, as_taken, help, options_of, own_words, parts_of, said, takes, words_of } from "./words.mjs";
 
 const OF_THE_KIT = ["--build", "--unproved"];
-const REFUSED = 1;
 
 const say = (text) => write_all(2, `xv: ${text}\n`);
 

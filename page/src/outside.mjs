@@ -1,15 +1,15 @@
 // What comes from outside, of which nothing is known: links, works and runs that were kept, shared ones, base64. Each
 // reader answers a value of its own making, of the types and sizes that are said here, with its own properties only;
 // or it throws a Refusal, whose message says what is wrong.
-import { spans_of } from "../../anywhere/machine/events.mjs";
+import { MOST_FUTURES, spans_of } from "../../anywhere/machine/events.mjs";
+import { MOST_BYTES, MOST_FRAMES } from "../../anywhere/machine/file_refusals.mjs";
 
 export class Refusal extends Error {}
 
 export const MOST_EVENTS = 500e6; // of a run that is played again: some seconds
-const MOST_BYTES = 1 << 20; // of a file
 const MOST_UNPACKED = 1 << 26; // letters of what a link or a file has
 const MOST_FILES = 256, MOST_BREAKS = 1000, MOST_KEYS = 1 << 20, MOST_NAME = 255, MOST_TEXT = 1 << 22;
-const MOST_FRAMES = 32768, MOST_QUANTUM = 1e9, MOST_FUTURES = 8;
+const MOST_QUANTUM = 1e9;
 const KINDS_OF_BREAKS = ["address", "call", "store"];
 
 // ---- the parts of a value

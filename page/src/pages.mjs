@@ -1,9 +1,10 @@
 // The page table of a process, three levels as a tree (RISC-V Privileged ISA, "Sv39"), and the map of all frames of
 // RAM.
 import { $, app, ask, color_of, element, fresh, on, style_of, tell, write } from "./app.mjs";
+import { PAGE } from "../../anywhere/machine/memory.mjs";
 import { hex } from "../../anywhere/machine/number_words.mjs";
 
-const RAM = 0x80000000n, PAGE = 4096;
+const RAM = 0x80000000n;
 const BITS = [[2, "R", "read"], [4, "W", "write"], [8, "X", "execute"], [16, "U", "user code may use it"]];
 let before = null, changed = new Set(), new_pages = new Set(), last_pages = null, point = 0, opened = new Map();
 

@@ -7,6 +7,7 @@ import { EVENT, Machine } from "../../anywhere/machine/machine.mjs";
 import { InstructionCounts } from "../../anywhere/machine/instruction_counts.mjs";
 import { code_round, files_of, frames_of, pages_of, processes_of } from "../../anywhere/machine/machine_views.mjs";
 import { last_trap, translation } from "../../anywhere/machine/translation.mjs";
+import { TICK } from "../../anywhere/machine/plan.mjs";
 import { Player } from "../../anywhere/machine/player.mjs";
 import { Reach } from "../../anywhere/machine/named_place.mjs";
 import { Run } from "../../anywhere/machine/run.mjs";
@@ -16,7 +17,6 @@ import { told_event } from "../../anywhere/machine/event_words.mjs";
 const SLICE = 14; // ms of play between two looks at the messages: less than a frame of the page
 const WHOLE = 90; // ms between two views with the processes and what the panels show, while the machine plays
 const WHOLE_REST = 4; // and at least so many times as long as such a view takes to be made
-const TICK = 100; // ms: a tick of the terminal is a tenth of a second
 const PIECE = 200000; // Runs between two looks at the clock
 const MOST_WAITING = 20000; // keys that wait, of which the page is told
 const ASKED = 60; // ms that the page's questions about events may take, before other messages are heard

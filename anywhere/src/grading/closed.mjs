@@ -2,13 +2,8 @@
 // what it writes is kept here. So a run is a function of bytes, and costs no call of the host. The functions are
 // those of WASI (preview 1) for which anywhere/build/wasi.c asks. (With Node's own WASI in the threads of a pool Node
 // 20 was seen to abort, on a host that had much else to do.)
+import { BAD_DESCRIPTOR, CHARACTERS, GOOD, NO_FILE, NOT_HERE, REGULAR_FILE } from "../wasi_numbers.mjs";
 
-const OK = 0;
-const NO_DESCRIPTOR = 8;
-const NO_ENTRY = 44;
-const NOT_HERE = 52;
-const PLAIN_FILE = 4;
-const CHARACTERS = 2;
 const ROOT = 3; // the descriptor of the only folder
 const CREATE = 1;
 const NOTHING = new Uint8Array(0);
@@ -47,7 +42,7 @@ class Opened {
       this.made.set(key, file.parts);
     }
     if (!file) return -1;
-    return this.list.push({ kind: PLAIN_FILE, bytes: file.bytes, size: file.size ?? file.bytes.length, at: 0, parts: file.parts ?? [] }) - 1;
+    return this.list.push({ kind: REGULAR_FILE, bytes: file.bytes, size: file.size ?? file.bytes.length, at: 0, parts: file.parts ?? [] }) - 1;
   }
 
   written(fd) {
@@ -66,7 +61,7 @@ function functions(opened, words, memory) {
     bytes(stat, 64).fill(0);
     view().setUint8(stat + 16, kind);
     view().setBigUint64(stat + 32, BigInt(size), true);
-    return OK;
+    return GOOD;
   };
   const part = (list) => bytes(view().getUint32(list, true), view().getUint32(list + 4, true));
   const parts = (list, count) => Array.from({ length: count }, (_, k) => part(list + 8 * k));
@@ -74,7 +69,7 @@ function functions(opened, words, memory) {
     args_sizes_get(count, size) {
       put(count, words.length);
       put(size, words.reduce((sum, word) => sum + word.length + 1, 0));
-      return OK;
+      return GOOD;
     },
     args_get(places, at) {
       for (const word of words) {
@@ -83,40 +78,40 @@ function functions(opened, words, memory) {
         places += 4;
         at += word.length + 1;
       }
-      return OK;
+      return GOOD;
     },
     environ_sizes_get(count, size) {
       put(count, 0);
       put(size, 0);
-      return OK;
+      return GOOD;
     },
-    environ_get: () => OK,
+    environ_get: () => GOOD,
     fd_prestat_get(fd, stat) {
-      if (fd !== ROOT) return NO_DESCRIPTOR;
+      if (fd !== ROOT) return BAD_DESCRIPTOR;
       put(stat, 0);
       put(stat + 4, 1);
-      return OK;
+      return GOOD;
     },
     fd_prestat_dir_name(fd, name) {
-      if (fd !== ROOT) return NO_DESCRIPTOR;
+      if (fd !== ROOT) return BAD_DESCRIPTOR;
       bytes(name, 1)[0] = "/".charCodeAt(0);
-      return OK;
+      return GOOD;
     },
     path_open(_folder, _look, path, size, how, _rights, _inherited, _flags, to) {
       const fd = opened.open(text(path, size), how);
-      if (fd < 0) return NO_ENTRY;
+      if (fd < 0) return NO_FILE;
       put(to, fd);
-      return OK;
+      return GOOD;
     },
     path_filestat_get(_folder, _look, path, size, stat) {
       const found = opened.given.get(text(path, size));
-      return found ? tell(stat, PLAIN_FILE, found.size ?? found.bytes.length) : NO_ENTRY;
+      return found ? tell(stat, REGULAR_FILE, found.size ?? found.bytes.length) : NO_FILE;
     },
     fd_filestat_get(fd, stat) {
-      return file(fd) ? tell(stat, file(fd).kind, file(fd).size) : NO_DESCRIPTOR;
+      return file(fd) ? tell(stat, file(fd).kind, file(fd).size) : BAD_DESCRIPTOR;
     },
     fd_read(fd, list, count, got) {
-      if (!file(fd)) return NO_DESCRIPTOR;
+      if (!file(fd)) return BAD_DESCRIPTOR;
       const from = file(fd);
       let sum = 0;
       for (const to of parts(list, count)) {
@@ -126,19 +121,19 @@ function functions(opened, words, memory) {
         sum += read.length;
       }
       put(got, sum);
-      return OK;
+      return GOOD;
     },
     fd_write(fd, list, count, got) {
-      if (!file(fd)) return NO_DESCRIPTOR;
+      if (!file(fd)) return BAD_DESCRIPTOR;
       const all = parts(list, count).map((it) => Buffer.from(it));
       file(fd).parts.push(...all);
       put(got, all.reduce((sum, it) => sum + it.length, 0));
-      return OK;
+      return GOOD;
     },
     fd_close(fd) {
-      if (!file(fd)) return NO_DESCRIPTOR;
+      if (!file(fd)) return BAD_DESCRIPTOR;
       if (fd > ROOT) opened.list[fd] = null;
-      return OK;
+      return GOOD;
     },
     proc_exit(status) {
       throw new End(status);
