@@ -10,7 +10,6 @@ const [page_file, folder, ...names] = process.argv.slice(2), url = pathToFileURL
 mkdirSync(folder, { recursive: true });
 let bad = 0;
 const holds = (is, what) => { console.log(`${is ? "  " : "NOT"} ${what}`); if (!is) bad++; };
-const screen = (page) => page.eval("document.getElementById('screen').textContent");
 const at = (page) => page.eval("page.app.view?.at");
 const shows = (page, text) => page.until(`document.getElementById('screen').textContent.includes(${JSON.stringify(text)})`).then(() => holds(true, `the terminal shows ${JSON.stringify(text)}`), () => holds(false, `the terminal shows ${JSON.stringify(text)}`));
 
@@ -42,13 +41,14 @@ async function time(page) {
   await page.key("c");
   await page.until(`page.app.view?.at > ${back}`);
   holds(true, "a call forward");
-  await page.eval("page.ask('go', { place: Math.floor(page.app.line.end / 3) })");
-  await page.sleep(500);
+  const third = Math.floor(end / 3), is_there = `page.app.view?.at === ${third}`;
+  await page.eval(`page.ask('go', { place: ${third} })`);
+  await page.until(is_there);
   const regs = await page.eval("String(page.app.view?.registers)");
   await page.eval("page.ask('step', { what: 'one', back: false })");
-  await page.sleep(400);
+  await page.until(`page.app.view?.at > ${third}`);
   await page.eval("page.ask('step', { what: 'one', back: true })");
-  await page.sleep(400);
+  await page.until(is_there);
   holds((await page.eval("String(page.app.view?.registers)")) === regs, "forward and back gives the same registers");
   await page.picture(`${folder}/past.png`);
 }
@@ -148,7 +148,7 @@ async function share(page) {
   const record = await other.eval("page.sharing.run_as_record()"), end = await other.eval("page.app.line.end");
   await other.eval("page.ask('go', { place: 0 })");
   await other.eval(`page.programs.take([new File([${JSON.stringify(record)}], 'run.txt')])`);
-  await other.sleep(600);
+  await other.until(`page.app.view?.at === ${end}`).catch(() => {});
   holds(record.startsWith("xv record 1\nframes 4096\nprogram ") && (await other.eval("page.app.line.end")) === end && (await other.eval("page.app.view?.at")) === end, "a record is played again");
   await other.close();
 }
