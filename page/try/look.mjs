@@ -71,7 +71,13 @@ async function programs(page) {
   await page.picture(`${folder}/mistake.png`);
 }
 
-const message = (page) => page.eval("(() => { const it = document.getElementById('status'), box = it.getBoundingClientRect(); return box.height > 10 && box.left >= 0 && box.right <= innerWidth && box.top >= 0 && box.bottom <= innerHeight ? it.textContent : ''; })()");
+/** The text of an element, if it stands within the window; nothing if it doesn't. */
+const seen = (page, id) => page.eval(`(() => {
+  const it = document.getElementById(${JSON.stringify(id)}), box = it.getBoundingClientRect();
+  const is_seen = box.height > 10 && box.left >= 0 && box.right <= innerWidth && box.top >= 0 && box.bottom <= innerHeight;
+  return is_seen ? it.textContent : "";
+})()`);
+const message = (page) => seen(page, "status");
 
 /**
  * A file is asked for by a button, a message is seen and goes, a form of memory and a break point are chosen, all by
@@ -223,7 +229,8 @@ for (const [name, how] of [["dark", { width: 1400, height: 950, dark: true }], [
   if (!is_wanted(name)) continue;
   const other = await open(`${url}#run=abc`, how);
   await shows(other, "$ ");
-  holds((await message(other)).startsWith("The link is damaged"), `${name}: a damaged link is told, and seen`);
+  const told = await seen(other, "message-list");
+  holds(told.startsWith("The link leads nowhere: it isn't whole"), `${name}: a damaged link is told, and seen`);
   await other.picture(`${folder}/${name}-message.png`);
   await other.eval("document.getElementById('screen').focus()");
   await other.type("primes 20\n");
