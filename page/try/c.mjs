@@ -34,10 +34,11 @@ async function stop_at(page, name, kind = "address") {
 }
 
 async function step(page, how, is_back = false) {
-  const before = await at(page);
+  const before = await at(page), drawn = await page.eval("page.drawn()");
   await page.click(`[data-line-step="${how}"]${is_back ? "[data-way]" : ":not([data-way])"}`);
-  await comes(page, `page.app.view?.at !== ${before}`, 5000);
-  await page.sleep(250);
+  await comes(page, `page.app.view?.at !== ${before} && page.drawn() > ${drawn}`, 5000);
+  // The calls come after that: the first one of a program is where it starts.
+  await comes(page, "document.querySelector('#c-calls li:last-child')?.textContent.includes('_start')", 2000);
   return where(page);
 }
 
@@ -88,7 +89,7 @@ async function lines(page) {
   await page.key("l");
   await comes(page, `page.app.view?.at > ${first}`);
   holds((await at(page)) > first, "L goes over a line");
-  await page.sleep(400);
+  await comes(page, "document.querySelectorAll('#c-calls button').length > 1");
   await page.eval("document.querySelectorAll('#c-calls button')[1].click()");
   holds((await where(page)) === "main, wc.c:40", "a click on a call shows its line");
   await page.eval("page.app.work.breaks = []");
