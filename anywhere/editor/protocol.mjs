@@ -4,7 +4,9 @@
 const END_OF_HEAD = "\r\n\r\n";
 const MOST_BYTES = 64 * 1024 * 1024; // of one message
 
-/** Takes bytes as they come, and tells each whole message. A head without a length, or a text without JSON, is an error. */
+/**
+ * Takes bytes as they come, and tells each whole message. A head without a length, or a text without JSON, is an error.
+ */
 export class Reader {
   constructor(tell) {
     this.tell = tell;

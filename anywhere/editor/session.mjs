@@ -1,6 +1,6 @@
-// A machine that is debugged: it goes on in slices, up to break points, faults, calls and ends, and back; by lines and by
-// instructions. Whoever has it is told where it stops, what the console shows, and the end: `told.stopped(reason, text)`,
-// `told.output(text)`, `told.ended(status)`.
+// A machine that is debugged: it goes on in slices, up to break points, faults, calls and ends, and back; by lines and
+// by instructions. Whoever has it is told where it stops, what the console shows, and the end: `told.stopped(reason,
+// text)`, `told.output(text)`, `told.ended(status)`.
 import { seek } from "../machine/backward_search.mjs";
 import { call_name } from "../machine/calls.mjs";
 import { fault_in_words } from "../machine/end_reports.mjs";

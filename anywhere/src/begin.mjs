@@ -1,5 +1,5 @@
-// How each program here begins in Node: it tells a Node that is too old by name, and what goes wrong in one line. An old Node
-// reads this file too, so that it has nothing but old words, and imports all else late.
+// How each program here begins in Node: it tells a Node that is too old by name, and what goes wrong in one line. An
+// old Node reads this file too, so that it has nothing but old words, and imports all else late.
 import { writeSync } from "fs";
 
 /** Whether this Node has what is needed: WASI without a word for it. */
@@ -18,11 +18,13 @@ function give_up(name, error) {
 }
 
 /**
- * Begins what the file of this address does: its function `main` gets the name, and gives the exit status. Status 125 says
- * that nothing could run.
+ * Begins what the file of this address does: its function `main` gets the name, and gives the exit status. Status 125
+ * says that nothing could run.
  */
 export function begin(name, address) {
-  if (!is_new_enough()) give_up(name, "Node " + process.versions.node + " is too old: it takes 18.17 or later (https://nodejs.org)");
+  if (!is_new_enough()) {
+    give_up(name, "Node " + process.versions.node + " is too old: it takes 18.17 or later (https://nodejs.org)");
+  }
   import(address)
     .then((file) => file.main(name))
     .then((status) => process.exit(status), (error) => give_up(name, error));

@@ -18,7 +18,10 @@ Compiles programs in C for the machine, and links them: docs/manual/c-programs.m
 without its .c, beside it. -O.., -std=.. and -g are taken, and change nothing.
 `;
 // What a source could ask for that this machine isn't.
-const NOT_HERE = ["__linux__", "__linux", "__unix__", "__unix", "__riscv_flen", "__riscv_float_abi_double", "__riscv_mul", "__riscv_div", "__riscv_muldiv"];
+const NOT_HERE = [
+  "__linux__", "__linux", "__unix__", "__unix", "__riscv_flen", "__riscv_float_abi_double", "__riscv_mul",
+  "__riscv_div", "__riscv_muldiv",
+];
 const WARNINGS = ["-Wall", "-Wextra", "-Werror", "-w"];
 const WITHOUT_MEANING = /^-(O[0-3sgz]?|g[0-3]?|std=(c|gnu)(89|90|99|9x|11|1x|17|18)|ansi|pedantic)$/;
 
@@ -38,7 +41,9 @@ function take(asked, word, next) {
   else if (letter === "-I") asked.words.push(letter + for_module(value()));
   else if (["-D", "-U"].includes(letter)) asked.words.push(letter + value());
   else if (WARNINGS.includes(word)) asked.words.push(word);
-  else if (!WITHOUT_MEANING.test(word)) throw new Refused(`there is no option ${word} here: xv --cc tells those that there are`);
+  else if (!WITHOUT_MEANING.test(word)) {
+    throw new Refused(`there is no option ${word} here: xv --cc tells those that there are`);
+  }
 }
 
 function check_file(file) {
@@ -58,12 +63,17 @@ function asked_by(words) {
   if (asked.files.length === 0) throw new Refused("there is no FILE.c to compile");
   asked.files.forEach(check_file);
   asked.output ??= asked.files[0].replace(/\.c$/, "");
-  if (/\.[chs]$/.test(asked.output)) throw new Refused(`-o ${asked.output} would overwrite a source: a program has another name`);
+  if (/\.[chs]$/.test(asked.output)) {
+    throw new Refused(`-o ${asked.output} would overwrite a source: a program has another name`);
+  }
   return asked;
 }
 
 const for_module = (path) => (path.startsWith("/") ? ABSOLUTE + path : path);
-const from_module = (path) => (path.startsWith(LIBRARY) ? `${folder()}/${path.slice(LIBRARY.length)}` : path.startsWith(`${ABSOLUTE}/`) ? path.slice(1) : path);
+const from_module = (path) => (
+  path.startsWith(LIBRARY) ? `${folder()}/${path.slice(LIBRARY.length)}`
+    : path.startsWith(`${ABSOLUTE}/`) ? path.slice(1) : path
+);
 
 /** The bytes of a file that the compiler looks for, or nothing. */
 function file_at(path) {
@@ -75,7 +85,9 @@ function file_at(path) {
 }
 
 /** A message with paths as they are here. */
-const without_heads = (message) => message.replace(/(^|from )(%[^:]*)(?=:)/g, (_, before, path) => before + from_module(path));
+const without_heads = (message) => (
+  message.replace(/(^|from )(%[^:]*)(?=:)/g, (_, before, path) => before + from_module(path))
+);
 
 /** Below a message its line of the source, and marks below the word that it names. */
 function with_line(message) {
@@ -98,7 +110,9 @@ function object_of(module, file, words) {
 
 /** The library's objects, [name, bytes] each. */
 function library() {
-  return readdirSync(`${folder()}/lib`).sort().map((name) => [name, new Uint8Array(readFileSync(`${folder()}/lib/${name}`))]);
+  return readdirSync(`${folder()}/lib`).sort().map((name) => [
+    name, new Uint8Array(readFileSync(`${folder()}/lib/${name}`)),
+  ]);
 }
 
 /** Compiles all files, so that each tells its mistakes, and links. */

@@ -1,5 +1,6 @@
-// What the C compiler asks of its host: it is a module of WASI (preview 1) that reads and writes files. Here these are bytes that the
-// caller gives and takes, so that the same module runs by Node and in a page, and sees no other file and no clock.
+// What the C compiler asks of its host: it is a module of WASI (preview 1) that reads and writes files. Here these are
+// bytes that the caller gives and takes, so that the same module runs by Node and in a page, and sees no other file and
+// no clock.
 import { BAD_DESCRIPTOR, CHARACTERS, FOLDER, GOOD, NO_FILE, REGULAR_FILE } from "./wasi_numbers.mjs";
 
 const ALL_RIGHTS = 0xffffffffffffffffn;
@@ -44,7 +45,12 @@ class Host {
   get view() { return new DataView(this.memory.buffer); }
   bytes(at, size) { return new Uint8Array(this.memory.buffer, at, size); }
   parts(list, count) {
-    return Array.from({ length: count }, (_, place) => this.bytes(this.view.getUint32(list + 8 * place, true), this.view.getUint32(list + 8 * place + 4, true)));
+    return Array.from(
+      { length: count },
+      (_, place) => this.bytes(
+        this.view.getUint32(list + 8 * place, true), this.view.getUint32(list + 8 * place + 4, true)
+      )
+    );
   }
 
   args_sizes_get(count, size) {
@@ -154,13 +160,16 @@ class Host {
 }
 
 /** The calls of the host that the module asks for, bound to it. */
-const calls_of = (host, module) => Object.fromEntries(WebAssembly.Module.imports(module).map(({ name }) => [name, (...words) => host[name](...words)]));
+const calls_of = (host, module) => (
+  Object.fromEntries(WebAssembly.Module.imports(module).map(({ name }) => [name, (...words) => host[name](...words)]))
+);
 
 /**
- * Runs a compiler until its end: `words` with its name, and `file_of(path)`, which gives the bytes of a file, or nothing.
+ * Runs a compiler until its end: `words` with its name, and `file_of(path)`, which gives the bytes of a file, or
+ * nothing.
  *
- * @returns {{status, told, made}} the exit status, what it has told on both streams, and the files that it has made, by their paths.
- *   If it broke, the status is 70, and `told` says why.
+ * @returns {{status, told, made}} the exit status, what it has told on both streams, and the files that it has made, by
+ *   their paths. If it broke, the status is 70, and `told` says why.
  */
 export function run_compiler(module, words, file_of) {
   const host = new Host(words, file_of);
@@ -170,7 +179,9 @@ export function run_compiler(module, words, file_of) {
   try {
     instance.exports._start();
   } catch (error) {
-    if (!(error instanceof Ended) && !(error instanceof WebAssembly.RuntimeError) && !(error instanceof RangeError)) throw error;
+    if (!(error instanceof Ended) && !(error instanceof WebAssembly.RuntimeError) && !(error instanceof RangeError)) {
+      throw error;
+    }
     status = error instanceof Ended ? error.status : 70;
   }
   const text = [ERRORS, OUTPUT].map((fd) => new TextDecoder().decode(host.told[fd].bytes)).join("");

@@ -1,5 +1,5 @@
-// Lines that a person edits, for a program that asks for each by a prompt: keys, history and completion are those of Node's
-// readline. The program runs beside, with pipes: what it writes is handed on, and its prompt asks for a line.
+// Lines that a person edits, for a program that asks for each by a prompt: keys, history and completion are those of
+// Node's readline. The program runs beside, with pipes: what it writes is handed on, and its prompt asks for a line.
 import { spawn, spawnSync } from "node:child_process";
 import { readFileSync } from "node:fs";
 import { constants } from "node:os";
@@ -20,7 +20,9 @@ const CAN_BE_TYPED = /^[!-~]+$/;
 function words_of(command, args) {
   const plain = args.filter((word) => word !== "--prompt");
   const { stdout } = spawnSync(command, plain, { input: "help\nhelp until\n", stdio: ["pipe", "pipe", "ignore"] });
-  const [list, until] = `${stdout ?? ""}`.split("> help until\n").map((text) => text.split("\n").filter((line) => /^[a-z]/.test(line)));
+  const [list, until] = `${stdout ?? ""}`.split("> help until\n").map(
+    (text) => text.split("\n").filter((line) => /^[a-z]/.test(line))
+  );
   const goals = (until ?? []).flatMap((line) => /^until \[?([a-z]+)/.exec(line)?.[1] ?? []);
   return { words: list.map((line) => line.split(" ")[0]).filter((word) => !word.includes("/")), goals };
 }
@@ -36,8 +38,8 @@ function symbols_in(file) {
 }
 
 /**
- * The function that readline asks for what may stand in a line: words at its head, and behind them goals, programs and symbols. Behind
- * the only one that fits stands a blank. The FILEs stand among `given`.
+ * The function that readline asks for what may stand in a line: words at its head, and behind them goals, programs and
+ * symbols. Behind the only one that fits stands a blank. The FILEs stand among `given`.
  */
 function completer_of(command, args, given) {
   let known;
@@ -58,7 +60,8 @@ function completer_of(command, args, given) {
 }
 
 /**
- * The keys of the terminal, one by one: of more at once, as a paste, readline puts all behind the line, wherever the cursor stands.
+ * The keys of the terminal, one by one: of more at once, as a paste, readline puts all behind the line, wherever the
+ * cursor stands.
  */
 function single_keys(terminal) {
   const keys = new PassThrough(), decoder = new StringDecoder("utf8");
@@ -100,12 +103,14 @@ function hand_on(child, show, ask) {
 }
 
 /**
- * The lines that were typed, and the program that is given them, each as it asks for one. The program is determined by its lines: if
- * Ctrl-C breaks off one on which it is busy, another program is begun, and given those before.
+ * The lines that were typed, and the program that is given them, each as it asks for one. The program is determined by
+ * its lines: if Ctrl-C breaks off one on which it is busy, another program is begun, and given those before.
  */
 class Asked {
   constructor(command, args, rl, output) {
-    Object.assign(this, { command, args, rl, output, typed: [], is_asking: false, has_ended: false, given: [], busy_on: null, again: null });
+    Object.assign(this, {
+      command, args, rl, output, typed: [], is_asking: false, has_ended: false, given: [], busy_on: null, again: null,
+    });
     rl.on("line", (line) => {
       this.output.is_open = false;
       this.typed.push(line);
@@ -120,8 +125,11 @@ class Asked {
 
   /** Begins the program. While it is given lines again, nothing that it writes is shown. */
   begin() {
-    const child = spawn(this.command, this.args, { stdio: ["pipe", "pipe", this.again === null ? "inherit" : "pipe"] }), is_shown = () => this.again === null;
-    const flush = hand_on(child, (bytes) => { if (is_shown()) write_all(1, bytes); }, () => { if (child === this.child) this.ask(); });
+    const child = spawn(this.command, this.args, { stdio: ["pipe", "pipe", this.again === null ? "inherit" : "pipe"] });
+    const is_shown = () => this.again === null;
+    const flush = hand_on(child, (bytes) => { if (is_shown()) write_all(1, bytes); }, () => {
+      if (child === this.child) this.ask();
+    });
     child.stderr?.on("data", (bytes) => { if (is_shown()) write_all(2, bytes); });
     child.stdin.on("error", () => {}); // it has ended, and tells so by its status
     child.on("error", (error) => this.refuse(error));
@@ -138,7 +146,9 @@ class Asked {
 
   /** The program asks for a line. */
   ask() {
-    if (this.again !== null && this.again < this.given.length) return void this.child.stdin.write(`${this.given[this.again++]}\n`);
+    if (this.again !== null && this.again < this.given.length) {
+      return void this.child.stdin.write(`${this.given[this.again++]}\n`);
+    }
     if (this.again !== null) this.stand_again();
     else if (this.busy_on !== null) this.given.push(this.busy_on);
     this.busy_on = null;
@@ -168,7 +178,10 @@ class Asked {
     this.rl.prompt();
   }
 
-  /** Ends the program that is busy, with all lines that were typed meanwhile, and begins one that comes to where it was before. */
+  /**
+   * Ends the program that is busy, with all lines that were typed meanwhile, and begins one that comes to where it was
+   * before.
+   */
   break_off() {
     const { child } = this;
     if (this.busy_on === null) return void child.kill("SIGINT"); // it hasn't asked for a line yet
@@ -197,10 +210,16 @@ class Asked {
   }
 }
 
-/** Runs a command that asks for lines, at a terminal, and gives its exit status. The words of a person among its own are `given`. */
+/**
+ * Runs a command that asks for lines, at a terminal, and gives its exit status. The words of a person among its own are
+ * `given`.
+ */
 export function edited(command, args, given = args) {
   const output = shown();
-  const rl = createInterface({ input: single_keys(process.stdin), output, terminal: true, historySize: 1000, completer: completer_of(command, args, given) });
+  const rl = createInterface({
+    input: single_keys(process.stdin), output, terminal: true, historySize: 1000,
+    completer: completer_of(command, args, given),
+  });
   return new Asked(command, args, rl, output).over;
 }
 

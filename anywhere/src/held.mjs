@@ -1,6 +1,6 @@
-// Files that a program opens by a path, and that no folder has for WASI: texts that the caller holds; open streams of this
-// process, as /dev/fd/3, which a shell makes for a document of its own; and files whose path leads up from a link. They are read as
-// a whole.
+// Files that a program opens by a path, and that no folder has for WASI: texts that the caller holds; open streams of
+// this process, as /dev/fd/3, which a shell makes for a document of its own; and files whose path leads up from a link.
+// They are read as a whole.
 import { readFileSync, realpathSync } from "node:fs";
 import { resolve } from "node:path";
 import { read_all } from "./streams.mjs";
@@ -26,8 +26,8 @@ function real(path) {
 }
 
 /**
- * WASI takes `a/../b` for `b`; a host goes up from the folder that `a` leads to, if `a` is a link. These are the words for which that
- * makes a difference, by the paths that WASI is given for them.
+ * WASI takes `a/../b` for `b`; a host goes up from the folder that `a` leads to, if `a` is a link. These are the words
+ * for which that makes a difference, by the paths that WASI is given for them.
  */
 function up_from_links(words) {
   const up = words.filter((word) => typeof word === "string" && word.includes("/..") && process.platform !== "win32");
@@ -36,8 +36,8 @@ function up_from_links(words) {
 }
 
 /**
- * The calls of WASI, with such files. `texts` has the bytes of a path, without the `/` at its head; `words` are those of the
- * program, and `memory` gives its memory.
+ * The calls of WASI, with such files. `texts` has the bytes of a path, without the `/` at its head; `words` are those
+ * of the program, and `memory` gives its memory.
  */
 export function with_held(system, texts, words, memory) {
   const open = new Map();

@@ -1,5 +1,5 @@
-// The keys that were typed and not yet read, which two threads share: the one that has the terminal puts them in, and the one that
-// runs the machine takes them.
+// The keys that were typed and not yet read, which two threads share: the one that has the terminal puts them in, and
+// the one that runs the machine takes them.
 
 const ROOM = 1 << 16;
 const PUT = 0, TAKEN = 1, COUNTERS = 2;

@@ -1,5 +1,5 @@
-// The lines of programs in C, for the programs that take --lines: from what the compiler left, by the host's readelf. A FILE that
-// has none, or that can't be read, gets none. Of assembler sources the programs themselves know the lines.
+// The lines of programs in C, for the programs that take --lines: from what the compiler left, by the host's readelf. A
+// FILE that has none, or that can't be read, gets none. Of assembler sources the programs themselves know the lines.
 import { spawnSync } from "node:child_process";
 import { existsSync, readFileSync, statSync } from "node:fs";
 import { files_of } from "./words.mjs";
@@ -23,7 +23,9 @@ let tool;
 /** What readelf tells of a file, asked by these words; nothing if there is none. */
 function told_by_readelf(...words) {
   for (const name of tool ? [tool] : TOOLS) {
-    const { error, stdout } = spawnSync(name, ["-W", ...words], { maxBuffer: MOST_TOLD, stdio: ["ignore", "pipe", "ignore"] });
+    const { error, stdout } = spawnSync(name, ["-W", ...words], {
+      maxBuffer: MOST_TOLD, stdio: ["ignore", "pipe", "ignore"],
+    });
     if (error) continue;
     tool = name;
     return stdout.toString();
@@ -38,8 +40,8 @@ export function read_symbols(path) {
 }
 
 /**
- * The rows of an ELF file: {address, line}. The sequences that readelf tells end by a row with -; one that begins at 0 behind the
- * first is of a function that the linker left out.
+ * The rows of an ELF file: {address, line}. The sequences that readelf tells end by a row with -; one that begins at 0
+ * behind the first is of a function that the linker left out.
  */
 function of_program(path) {
   const from = existsSync(`${path}.debug`) ? `${path}.debug` : path;
@@ -60,8 +62,8 @@ function of_program(path) {
 }
 
 /**
- * The table of the lines of the FILEs among the words: a row PLACE ADDRESS LINE for each address from which on instructions are of
- * a line, where PLACE is the FILE's, from 0 on. A row without a LINE ends what is known.
+ * The table of the lines of the FILEs among the words: a row PLACE ADDRESS LINE for each address from which on
+ * instructions are of a line, where PLACE is the FILE's, from 0 on. A row without a LINE ends what is known.
  */
 function table_of(words) {
   const texts = files_of(words).map(String).flatMap((file, place) =>

@@ -1,5 +1,6 @@
-// --picture: draws a run, or a trace that standard input has. xv_why runs the programs and notes each event, and xv_picture draws
-// what was noted. If nothing was noted, since words, a FILE or the boot were refused, nothing is drawn.
+// --picture: draws a run, or a trace that standard input has. xv_why runs the programs and notes each event, and
+// xv_picture draws what was noted. If nothing was noted, since words, a FILE or the boot were refused, nothing is
+// drawn.
 import { module_of, run } from "./program.mjs";
 import { tell, tell_line, tell_why } from "./reports.mjs";
 
@@ -36,8 +37,8 @@ class Notes {
 }
 
 /**
- * Runs the words and draws the run on standard output; the status is that of the run, or 5 if the picture can't be written. Without
- * words it draws a trace.
+ * Runs the words and draws the run on standard output; the status is that of the run, or 5 if the picture can't be
+ * written. Without words it draws a trace.
  */
 export function picture(words) {
   const draw = module_of("xv_picture");

@@ -1,6 +1,6 @@
-// The programs of the machine as modules of WASI (preview 1), and how Node runs one. Node's own WASI does what a program
-// asks of its host; only words that are no text, streams that the caller has itself, streams that don't wait, and files that
-// no folder has (held.mjs) are done here.
+// The programs of the machine as modules of WASI (preview 1), and how Node runs one. Node's own WASI does what a
+// program asks of its host; only words that are no text, streams that the caller has itself, streams that don't wait,
+// and files that no folder has (held.mjs) are done here.
 import "./quiet.mjs";
 import { createRequire } from "node:module";
 import { setFlagsFromString } from "node:v8";
@@ -15,8 +15,8 @@ import { rest } from "./streams.mjs";
 const { WASI } = createRequire(import.meta.url)("node:wasi");
 const FOLDER = fileURLToPath(new URL("..", import.meta.url));
 
-// A function that has run for a while is compiled once more, for speed, and Node ends only after that. Up to Node 20 a while is
-// so short that the end of a short run would wait for it; this is about what later ones have.
+// A function that has run for a while is compiled once more, for speed, and Node ends only after that. Up to Node 20 a
+// while is so short that the end of a short run would wait for it; this is about what later ones have.
 const [V8] = process.versions.v8.split(".").map(Number);
 // Flags are of the process: a thread leaves them as they are.
 if (V8 < 12 && isMainThread) setFlagsFromString("--wasm-tiering-budget=10000000");
@@ -25,8 +25,8 @@ if (V8 < 12 && isMainThread) setFlagsFromString("--wasm-tiering-budget=10000000"
 const ERRORS = { EAGAIN: 6, EIO: 29, ENOSPC: 51, EPIPE: 64 };
 
 /**
- * The file of the module that has the program of this name: `xv_run`, or one of those around the machine, which are `xv_tools`.
- * XV_MODULES is another folder of modules: checks run others than those that stand here.
+ * The file of the module that has the program of this name: `xv_run`, or one of those around the machine, which are
+ * `xv_tools`. XV_MODULES is another folder of modules: checks run others than those that stand here.
  */
 export function file_of(name) {
   return join(process.env.XV_MODULES || FOLDER, name === "xv_run" ? "xv_run.wasm" : "xv_tools.wasm");
@@ -42,7 +42,9 @@ export function module_of(name) {
 }
 
 function compile(file) {
-  if (!existsSync(file)) throw new Error(`there is no module ${file}: a release has it, and in a clone anywhere/build.sh makes it`);
+  if (!existsSync(file)) {
+    throw new Error(`there is no module ${file}: a release has it, and in a clone anywhere/build.sh makes it`);
+  }
   try {
     return new WebAssembly.Module(readFileSync(file));
   } catch (error) {
@@ -65,7 +67,9 @@ function folder_now() {
 /** The folders that a program may open: all; on Windows the drives that its words name, and the one that stands. */
 function folders(words) {
   if (process.platform !== "win32") return { "/": "/" };
-  const drives = [folder_now(), ...words.map(String)].map((word) => /^(?:--[a-z]+=)?([A-Za-z]):/.exec(word)?.[1]).filter(Boolean);
+  const drives = [folder_now(), ...words.map(String)].map(
+    (word) => /^(?:--[a-z]+=)?([A-Za-z]):/.exec(word)?.[1]
+  ).filter(Boolean);
   const found = Object.fromEntries(drives.map((drive) => [`${drive}:`, `${drive}:\\`]));
   return { "/": "\\", ...found };
 }
@@ -91,8 +95,8 @@ function answer(call) {
 }
 
 /**
- * Runs a program until its end. `module` is that of `module_of(name)`, `words` are those behind its name, texts or Buffers.
- * `streams` may have
+ * Runs a program until its end. `module` is that of `module_of(name)`, `words` are those behind its name, texts or
+ * Buffers. `streams` may have
  *
  * - `input(most)`, which gives at most so many bytes, and none at the end;
  * - `output(bytes)` and `errors(bytes)`, which take all;
@@ -105,11 +109,15 @@ function answer(call) {
  */
 export function run(module, name, words, streams = {}) {
   const texts = [name, ...words].map((word) => Buffer.from(word));
-  const wasi = new WASI({ version: "preview1", args: [name], env: { PWD: folder_now() }, preopens: folders(words), returnOnExit: true });
+  const wasi = new WASI({
+    version: "preview1", args: [name], env: { PWD: folder_now() }, preopens: folders(words), returnOnExit: true,
+  });
   let memory;
   const view = () => new DataView(memory.buffer);
   const bytes = (at, size) => new Uint8Array(memory.buffer, at, size);
-  const parts = (list, count) => Array.from({ length: count }, (_, k) => [view().getUint32(list + 8 * k, true), view().getUint32(list + 8 * k + 4, true)]);
+  const parts = (list, count) => Array.from({ length: count }, (_, k) => [
+    view().getUint32(list + 8 * k, true), view().getUint32(list + 8 * k + 4, true),
+  ]);
   const system = { ...wasi.wasiImport, ...with_held(wasi.wasiImport, streams.files ?? {}, words, () => memory) };
   const own = {
     args_sizes_get(count, size) {
@@ -147,7 +155,8 @@ export function run(module, name, words, streams = {}) {
     },
   };
   if (streams.sleep) own.poll_oneoff = (wanted, happened, count, told) => {
-    // A subscription to the clock has the nanoseconds at 24; the event that tells of it has what the subscription has at 0.
+    // A subscription to the clock has the nanoseconds at 24; the event that tells of it has what the subscription has
+    // at 0.
     streams.sleep(Number(view().getBigUint64(wanted + 24, true)) / 1e6);
     bytes(happened, 32).fill(0);
     view().setBigUint64(happened, view().getBigUint64(wanted, true), true);

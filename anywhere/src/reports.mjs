@@ -1,4 +1,5 @@
-// --why: runs programs and tells why processes end or wait. The program xv_why does that; it gets the lines of programs in C.
+// --why: runs programs and tells why processes end or wait. The program xv_why does that; it gets the lines of programs
+// in C.
 import { lines_of } from "./lines.mjs";
 import { module_of, run } from "./program.mjs";
 import { by_lines, write_all } from "./streams.mjs";

@@ -1,5 +1,6 @@
-// Whether the modules in anywhere/ are of the code that stands here. anywhere/STATE says of which state they are, and has the sum of
-// its code, as anywhere/build/sources.py counts it. A release has no sources, and its modules count as they are.
+// Whether the modules in anywhere/ are of the code that stands here. anywhere/STATE says of which state they are, and
+// has the sum of its code, as anywhere/build/sources.py counts it. A release has no sources, and its modules count as
+// they are.
 import { createHash } from "node:crypto";
 import { existsSync, readFileSync, readdirSync } from "node:fs";
 import { fileURLToPath } from "node:url";
@@ -49,7 +50,9 @@ function code_sum() {
 }
 
 /** What anywhere/STATE says of a word. */
-const said = (word) => readFileSync(STATE, "utf8").split(/\r?\n/).find((line) => line.startsWith(`${word} `))?.slice(word.length + 1);
+const said = (word) => (
+  readFileSync(STATE, "utf8").split(/\r?\n/).find((line) => line.startsWith(`${word} `))?.slice(word.length + 1)
+);
 
 /** Of which state the modules are, in words. */
 export const made_of = () => said("state") ?? "";
@@ -64,8 +67,8 @@ function is_current() {
 }
 
 /**
- * What is known of the modules: "release", "current", "changed" (they are of an earlier state), "unknown" (nothing tells their state),
- * or "others" (XV_MODULES is another folder of modules, of which nobody knows).
+ * What is known of the modules: "release", "current", "changed" (they are of an earlier state), "unknown" (nothing
+ * tells their state), or "others" (XV_MODULES is another folder of modules, of which nobody knows).
  */
 export function state() {
   if (process.env.XV_MODULES) return "others";

@@ -1,5 +1,5 @@
-// The streams of this process, read and written at once. A stream may be one that doesn't wait, since another process has it
-// too; then this waits until it takes or gives something, so that nothing is lost.
+// The streams of this process, read and written at once. A stream may be one that doesn't wait, since another process
+// has it too; then this waits until it takes or gives something, so that nothing is lost.
 import { readSync, writeSync } from "node:fs";
 
 const nobody = new Int32Array(new SharedArrayBuffer(4));

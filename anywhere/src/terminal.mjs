@@ -15,7 +15,8 @@ import { value_of } from "./words.mjs";
 const NAME = "xv_terminal";
 const ITSELF = fileURLToPath(new URL("../../xv.mjs", import.meta.url));
 const HANGUP = 129;
-const SIGNALS = process.platform === "win32" ? { SIGINT: 130, SIGBREAK: 130 } : { SIGINT: 130, SIGQUIT: 131, SIGTERM: 143 };
+const SIGNALS = process.platform === "win32" ? { SIGINT: 130, SIGBREAK: 130 }
+  : { SIGINT: 130, SIGQUIT: 131, SIGTERM: 143 };
 const ENTER = 13, LINE_END = 10;
 // How long a machine may take to end, in milliseconds, if a signal asks for it.
 const PATIENCE = 1000;
@@ -86,7 +87,9 @@ function attend(module, words, files) {
   const terminal = process.stdin;
   const keys = new Keys();
   const restore = prepared(terminal);
-  const worker = new Worker(new URL("./terminal_worker.mjs", import.meta.url), { workerData: { module, words, files, shared: keys.shared } });
+  const worker = new Worker(new URL("./terminal_worker.mjs", import.meta.url), {
+    workerData: { module, words, files, shared: keys.shared },
+  });
   return new Promise((give, refuse) => {
     let has_ended = false;
     const end = (then) => {

@@ -1,13 +1,13 @@
-// node anywhere/try/grading.mjs FOLDER: what the pool of workers does with jobs that fail. Each gets a text that says why, no
-// result, and the others are done all the same.
+// node anywhere/try/grading.mjs FOLDER: what the pool of workers does with jobs that fail. Each gets a text that says
+// why, no result, and the others are done all the same.
 import { existsSync, mkdirSync, readFileSync, writeFileSync } from "node:fs";
 import { inside } from "../src/grading/paths.mjs";
 import { grade_all } from "../src/grading/pool.mjs";
 
 const COUNT = 20;
 
-// (module (func (export "_start") unreachable) (memory (export "memory") 1)): the head, and the sections of types, functions, the
-// memory, exports and code.
+// (module (func (export "_start") unreachable) (memory (export "memory") 1)): the head, and the sections of types,
+// functions, the memory, exports and code.
 const TRAPS = [
   "0061736d01000000",
   "010401600000",

@@ -1,5 +1,5 @@
-// node anywhere/try/little.mjs FOLDER: puts the modules into that folder, with a memory that may have 64 MiB and no more. So a
-// program meets a host with too little memory, while Node has enough of it.
+// node anywhere/try/little.mjs FOLDER: puts the modules into that folder, with a memory that may have 64 MiB and no
+// more. So a program meets a host with too little memory, while Node has enough of it.
 import { mkdirSync, readFileSync, writeFileSync } from "node:fs";
 import { file_of } from "../src/program.mjs";
 
@@ -33,7 +33,9 @@ function memory_section(bytes, at) {
 function little(bytes) {
   for (let at = HEAD; at < bytes.length; ) {
     const [size, body] = number_at(bytes, at + 1);
-    if (bytes[at] === MEMORY) return Buffer.concat([bytes.subarray(0, at), memory_section(bytes, body), bytes.subarray(body + size)]);
+    if (bytes[at] === MEMORY) {
+      return Buffer.concat([bytes.subarray(0, at), memory_section(bytes, body), bytes.subarray(body + size)]);
+    }
     at = body + size;
   }
   throw new Error("the module has no memory of its own");

@@ -1,7 +1,7 @@
 #!/usr/bin/env node
 // machine_room.mjs: whether what runs a machine (anywhere/machine) stands alone: each of its modules imports its
-// neighbours only, names nothing that a page or Node has and the other lacks, is told in the folder's README.md, and has
-// no line of more than 120 columns. The status is 1 if not, and each place is told. It needs nothing but Node.
+// neighbours only, names nothing that a page or Node has and the other lacks, is told in the folder's README.md, and
+// has no line of more than 120 columns. The status is 1 if not, and each place is told. It needs nothing but Node.
 import { readFileSync, readdirSync } from "node:fs";
 
 const FOLDER = new URL("../machine/", import.meta.url), MOST_COLUMNS = 120;
@@ -34,6 +34,8 @@ for (const name of names) {
   });
   await import(new URL(name, FOLDER));
 }
-for (const [, name] of told.matchAll(/^\| `(\w+\.mjs)` \|/gm)) if (!names.includes(name)) wrong("README.md", 0, `${name} isn't there`);
+for (const [, name] of told.matchAll(/^\| `(\w+\.mjs)` \|/gm)) {
+  if (!names.includes(name)) wrong("README.md", 0, `${name} isn't there`);
+}
 console.log(bad ? `${bad} not as they should be` : `the ${names.length} modules that run a machine stand alone`);
 process.exit(bad ? 1 : 0);

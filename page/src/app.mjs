@@ -55,7 +55,10 @@ export function tell(what, it) {
 export function once(...names) {
   return new Promise((done) => {
     for (const name of names) {
-      const call = (it) => { for (const other of names) listeners.set(other, listeners.get(other).filter((it) => it.promise !== done)); done({ name, it }); };
+      const call = (it) => {
+        for (const other of names) listeners.set(other, listeners.get(other).filter((it) => it.promise !== done));
+        done({ name, it });
+      };
       call.promise = done;
       on(name, call);
     }
@@ -93,7 +96,9 @@ export function write(node, text) {
   if (node.textContent !== text) node.textContent = text;
 }
 
-export const program_name = (place) => (place === null || place === undefined || !app.booted ? "" : app.booted.files[place]?.name ?? "");
+export const program_name = (place) => (
+  (place === null || place === undefined || !app.booted ? "" : app.booted.files[place]?.name ?? "")
+);
 
 const root = document.documentElement;
 const styles = new Map(); // those of the theme that were asked for, by their name or number
@@ -107,7 +112,9 @@ const HUES = [145, 215, 28, 285, 185, 345, 60, 250, 100, 320];
 /** The colour of a process. */
 export function color_of(pid, light = 0) {
   const hue = HUES[pid % HUES.length], dark = () => root.dataset.theme === "dark";
-  return style(1000 * light + hue, () => (dark() ? `hsl(${hue} 48% ${56 + light}%)` : `hsl(${hue} 55% ${42 + light}%)`));
+  return style(1000 * light + hue, () => (
+    dark() ? `hsl(${hue} 48% ${56 + light}%)` : `hsl(${hue} 55% ${42 + light}%)`
+  ));
 }
 export const style_of = (name) => style(name, () => getComputedStyle(root).getPropertyValue(name).trim());
 
@@ -164,7 +171,10 @@ export function in_time(draw, apart = () => 0) {
 /** Bytes as text, with what can't be shown as \n or \x07. */
 export function shown_bytes(bytes, most = 400) {
   let text = "";
-  for (const byte of bytes.subarray(0, most)) text += byte === 10 ? "\\n" : byte === 9 ? "\\t" : byte === 13 ? "\\r" : byte === 92 ? "\\\\" : byte < 32 || byte > 126 ? "\\x" + byte.toString(16).padStart(2, "0") : String.fromCharCode(byte);
+  for (const byte of bytes.subarray(0, most)) {
+    text += byte === 10 ? "\\n" : byte === 9 ? "\\t" : byte === 13 ? "\\r" : byte === 92 ? "\\\\"
+      : byte < 32 || byte > 126 ? "\\x" + byte.toString(16).padStart(2, "0") : String.fromCharCode(byte);
+  }
   return text + (bytes.length > most ? " .." : "");
 }
 

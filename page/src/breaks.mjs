@@ -12,7 +12,10 @@ const ADDRESS = /^(0x[0-9a-f]+|\d+)$/i;
 
 const place_of = (booted, program) => booted?.files.findIndex((it) => it.name === program) ?? -1;
 const LINE = /:\d+$/; // as sh.c:12
-const label_of = (booted, place, name) => (LINE.test(name) ? start_of_line(booted?.symbols[place], name) : booted?.symbols[place]?.names.find((it) => it.name === name)?.address ?? null);
+const label_of = (booted, place, name) => (
+  LINE.test(name) ? start_of_line(booted?.symbols[place], name)
+    : booted?.symbols[place]?.names.find((it) => it.name === name)?.address ?? null
+);
 
 /** The address of a line of a file in a machine, which may have the file as it was before it was edited. */
 function address_of_line(booted, file, { line, text }) {
@@ -26,18 +29,31 @@ function address_of_line(booted, file, { line, text }) {
 /** A break point as it is shown and as the worker takes it; `sent` is null while it doesn't count. */
 function of_line(booted, file, stop) {
   const found = address_of_line(booted, file, stop), words = `${file.name}, line ${stop.line}`;
-  return { words, sent: found && { kind: "address", address: found.address, program: found.place, name: `line ${stop.line} of ${file.name}` }, gone: () => { file.stops = file.stops.filter((it) => it !== stop); tell("stops", file); } };
+  return {
+    words,
+    sent: found
+      && { kind: "address", address: found.address, program: found.place, name: `line ${stop.line} of ${file.name}` },
+    gone: () => { file.stops = file.stops.filter((it) => it !== stop); tell("stops", file); },
+  };
 }
 
 function of_work(booted, it) {
-  const { kind, name, program } = it, gone = () => { app.work.breaks = app.work.breaks.filter((other) => other !== it); touch(); show(); };
-  if (kind === "call") { const number = number_of_call(name); return { words: `call ${call_name(number)}`, sent: { kind, number, name, program: null }, gone }; }
-  const place = program === null ? null : place_of(booted, program), address = ADDRESS.test(name) ? BigInt(name) : label_of(booted, place, name);
+  const { kind, name, program } = it;
+  const gone = () => { app.work.breaks = app.work.breaks.filter((other) => other !== it); touch(); show(); };
+  if (kind === "call") {
+    const number = number_of_call(name);
+    return { words: `call ${call_name(number)}`, sent: { kind, number, name, program: null }, gone };
+  }
+  const place = program === null ? null : place_of(booted, program);
+  const address = ADDRESS.test(name) ? BigInt(name) : label_of(booted, place, name);
   const words = `${kind === "store" ? "store to" : "at"} ${name}${address === null || ADDRESS.test(name) ? "" : " " + hex(address)}${program === null ? "" : ` in ${program}`}`;
   return { words, sent: address === null || place === -1 ? null : { kind, address, name, program: place }, gone };
 }
 
-const all = (booted) => [...app.files.filter(is_source).flatMap((file) => (file.stops ?? []).map((stop) => of_line(booted, file, stop))), ...app.work.breaks.map((it) => of_work(booted, it))];
+const all = (booted) => [
+  ...app.files.filter(is_source).flatMap((file) => (file.stops ?? []).map((stop) => of_line(booted, file, stop))),
+  ...app.work.breaks.map((it) => of_work(booted, it)),
+];
 /** Those that count in a machine, as the worker takes them. */
 export const counting = (booted) => all(booted).flatMap((it) => it.sent ?? []);
 
@@ -47,7 +63,14 @@ function show() {
   if (app.booted) ask("breaks", { list: counting(app.booted) });
   tell("stops shown");
   $("break-count").textContent = found.length || "";
-  $("break-list").replaceChildren(...found.map((it) => element("li", {}, element("span", { class: it.sent ? "" : "dim" }, it.words, it.sent ? "" : ": not in this machine"), element("button", { "aria-label": `Take away: ${it.words}`, onclick: it.gone }, "✕"))));
+  $("break-list").replaceChildren(
+    ...found.map(
+      (it) => element(
+        "li", {}, element("span", { class: it.sent ? "" : "dim" }, it.words, it.sent ? "" : ": not in this machine"),
+        element("button", { "aria-label": `Take away: ${it.words}`, onclick: it.gone }, "✕")
+      )
+    )
+  );
 }
 
 const number_of_call = (name) => Number(call_number(name) ?? name);
@@ -60,19 +83,25 @@ function places() {
 
 /** The break point that is asked for: {kind, name, program}; or words that say what is wrong. */
 function meant(kind, name) {
-  if (kind === "call") return number_of_call(name) >= 0 ? { kind, name, program: null } : `No such call: ${name}. Write its name, as write, or its number`;
+  if (kind === "call") {
+    return number_of_call(name) >= 0 ? { kind, name, program: null }
+      : `No such call: ${name}. Write its name, as write, or its number`;
+  }
   const place = places().find((it) => ADDRESS.test(name) || label_of(app.booted, it, name) !== null);
   if (place === undefined) return `No such label: ${name}. Write a label of a program, or an address, as 0x10`;
   return { kind, name, program: app.booted.files[place].name };
 }
 
 /** The lines in C of a program at which break points stand, as sh.c:12. */
-export const stops_in = (program) => app.work.breaks.filter((it) => it.kind === "address" && it.program === program && LINE.test(it.name)).map((it) => it.name);
+export const stops_in = (program) => app.work.breaks.filter(
+  (it) => it.kind === "address" && it.program === program && LINE.test(it.name)
+).map((it) => it.name);
 
 /** Sets a break point at a line in C of a program, or takes it away. */
 export function toggle_stop(name, program) {
   const is = (it) => it.kind === "address" && it.name === name && it.program === program;
-  app.work.breaks = app.work.breaks.some(is) ? app.work.breaks.filter((it) => !is(it)) : [...app.work.breaks, { kind: "address", name, program }];
+  app.work.breaks = app.work.breaks.some(is) ? app.work.breaks.filter((it) => !is(it))
+    : [...app.work.breaks, { kind: "address", name, program }];
   touch();
   show();
 }
@@ -92,7 +121,10 @@ export function start() {
   $("break-add").addEventListener("click", add);
   $("break-where").addEventListener("keydown", (event) => { if (event.key === "Enter") add(); });
   on("booted", () => {
-    $("labels").replaceChildren(...app.symbols.flatMap((it) => it.names.map(({ name }) => element("option", { value: name }))), ...all_calls().map((name) => element("option", { value: name })));
+    $("labels").replaceChildren(
+      ...app.symbols.flatMap((it) => it.names.map(({ name }) => element("option", { value: name }))),
+      ...all_calls().map((name) => element("option", { value: name }))
+    );
     show();
   });
   on("work", show);

@@ -20,7 +20,10 @@ function places() {
 export function step_line(how, back) {
   const symbols = places();
   if (!symbols) { say("The process that is looked at runs no program whose lines in C are known"); return; }
-  ask("line_step", { how, back, pid: app.view.pid, lines: symbols.table.lines.map(({ address, line }) => ({ address, line })), frames: symbols.table.frames, within: function_at(symbols, app.view.registers[0]) });
+  ask("line_step", {
+    how, back, pid: app.view.pid, lines: symbols.table.lines.map(({ address, line }) => ({ address, line })),
+    frames: symbols.table.frames, within: function_at(symbols, app.view.registers[0]),
+  });
 }
 
 // ---- the text
@@ -29,10 +32,26 @@ export function step_line(how, back) {
 function show_file(symbols, file) {
   const texts = symbols.text_of(file), program = program_of(app.view.pid);
   if (shown.file === file && shown.program === program && shown.rows.length) return;
-  Object.assign(shown, { file, program, line: 0, coded: new Set(symbols.table.lines.filter((it) => it.file === file).map((it) => it.number)) });
-  shown.rows = texts.map((text, k) => element("div", { role: "listitem", "data-line": k + 1, class: shown.coded.has(k + 1) ? "" : "no" },
-    element("button", { tabindex: -1, "aria-label": `Break point at line ${k + 1}`, disabled: !shown.coded.has(k + 1), onclick: () => toggle_stop(`${shown.file}:${k + 1}`, program_name(shown.program)) }, String(k + 1)), element("span", {}, text || " ")));
-  $("c-text").replaceChildren(...(texts.length ? shown.rows : [element("p", { class: "dim" }, `The page has no text of ${file}. Drop it beside its program.`)]));
+  Object.assign(shown, {
+    file, program, line: 0, coded: new Set(symbols.table.lines.filter((it) => it.file === file).map((it) => it.number)),
+  });
+  shown.rows = texts.map((text, k) => element("div", {
+    role: "listitem", "data-line": k + 1, class: shown.coded.has(k + 1) ? "" : "no",
+  },
+    element(
+      "button",
+      {
+        tabindex: -1, "aria-label": `Break point at line ${k + 1}`, disabled: !shown.coded.has(k + 1),
+        onclick: () => toggle_stop(`${shown.file}:${k + 1}`, program_name(shown.program)),
+      },
+      String(k + 1)
+    ), element("span", {}, text || " ")));
+  $("c-text").replaceChildren(
+    ...(
+      texts.length ? shown.rows
+        : [element("p", { class: "dim" }, `The page has no text of ${file}. Drop it beside its program.`)]
+    )
+  );
   show_stops();
 }
 
@@ -51,7 +70,9 @@ function show_line(number) {
   row.classList.add("pc");
   row.setAttribute("aria-current", "true");
   const top = row.offsetTop; // (the box is what it is measured from)
-  if (top < box.scrollTop + 20 || top > box.scrollTop + box.clientHeight - 50) box.scrollTop = top - box.clientHeight / 2.6;
+  if (top < box.scrollTop + 20 || top > box.scrollTop + box.clientHeight - 50) {
+    box.scrollTop = top - box.clientHeight / 2.6;
+  }
 }
 
 // ---- the calls
@@ -62,7 +83,14 @@ function show_calls(told, at) {
   if (words === shown.calls) return;
   shown.calls = words;
   $("c-calls").replaceChildren(...told.map(({ name, line }, k) => element("li", {},
-    element("button", { "aria-pressed": at === k ? "true" : "false", title: "Show its line", onclick: () => { shown.chosen = k; draw(); } }, name || "?", line ? element("span", { class: "dim" }, ` ${line.file}:${line.line}`) : ""))));
+    element(
+      "button",
+      {
+        "aria-pressed": at === k ? "true" : "false", title: "Show its line",
+        onclick: () => { shown.chosen = k; draw(); },
+      },
+      name || "?", line ? element("span", { class: "dim" }, ` ${line.file}:${line.line}`) : ""
+    ))));
 }
 
 /** The call that is shown: the one that was chosen, or the first whose line stands in a source in C. */
@@ -75,11 +103,15 @@ function draw() {
   box.hidden = !symbols;
   if (!symbols || $("instruction").hidden) return;
   const { view } = app, list = calls.key === key_of() && calls.list.length ? calls.list : [view.registers[0]];
-  const told = list.map((pc) => ({ pc, name: name_at(symbols, pc).replace(/\+.*/, ""), line: line_at(symbols, pc) })), at = call_shown(told), { name, line } = told[at] ?? told[0];
+  const told = list.map((pc) => ({ pc, name: name_at(symbols, pc).replace(/\+.*/, ""), line: line_at(symbols, pc) }));
+  const at = call_shown(told), { name, line } = told[at] ?? told[0];
   write($("c-where"), line ? `${name ? `${name}, ` : ""}${line.file}:${line.line}` : name || "no line is known here");
   if (line) { show_file(symbols, line.file); show_line(line.line); }
   show_calls(told, at);
-  if (!view.playing && !view.ended && calls.key !== key_of() && asked !== key_of()) { asked = key_of(); ask("calls", { key: asked, pid: view.pid, frames: symbols.table.frames }); }
+  if (!view.playing && !view.ended && calls.key !== key_of() && asked !== key_of()) {
+    asked = key_of();
+    ask("calls", { key: asked, pid: view.pid, frames: symbols.table.frames });
+  }
 }
 
 export function start() {
@@ -87,6 +119,13 @@ export function start() {
   on("panels", () => { if (app.view && key !== key_of()) { key = key_of(); shown.chosen = null; } draw(); });
   on("calls told", (told) => { calls = told; if (app.view?.registers) draw(); });
   on("stops shown", show_stops);
-  on("booted", () => { Object.assign(shown, { file: "", rows: [], line: 0, chosen: null, calls: "" }); asked = 0; calls = { key: "", list: [] }; $("c-source").hidden = true; });
-  for (const it of document.querySelectorAll("[data-line-step]")) it.addEventListener("click", () => step_line(it.dataset.lineStep, it.dataset.way === "back"));
+  on("booted", () => {
+    Object.assign(shown, { file: "", rows: [], line: 0, chosen: null, calls: "" });
+    asked = 0;
+    calls = { key: "", list: [] };
+    $("c-source").hidden = true;
+  });
+  for (const it of document.querySelectorAll("[data-line-step]")) {
+    it.addEventListener("click", () => step_line(it.dataset.lineStep, it.dataset.way === "back"));
+  }
 }

@@ -13,7 +13,10 @@ const WIDER = 32; // columns: by so many the paper grows
 const MANY = 1000, HIGHER = 50; // lines: a source of so many grows by so many, so that not each Enter lays it out anew
 const MOST_LETTERS = 2000; // of a line: a text with a longer one is shown without colours, as the browser does it
 const SETTLE = 120; // ms after the last key, until a source is assembled
-const state = { file: null, lines: [""], asked: 0, mistake: null, places: null, coded: null, pc: null, rows: { from: -1, to: -1 }, seen: { top: 0, height: 400 } };
+const state = {
+  file: null, lines: [""], asked: 0, mistake: null, places: null, coded: null, pc: null, rows: { from: -1, to: -1 },
+  seen: { top: 0, height: 400 },
+};
 
 const escape = (text) => text.replace(/[&<>]/g, (it) => ({ "&": "&amp;", "<": "&lt;", ">": "&gt;" })[it]);
 const REGISTER = /\b(x[12]?\d|x3[01]|zero|ra|sp|gp|tp|t[0-6]|s\d|s1[01]|fp|a[0-7])\b|(-?\b(?:0x[0-9a-fA-F]+|\d+)\b)|("(?:[^"\\]|\\.)*"?)/g;
@@ -46,7 +49,9 @@ export function coloured(line) {
   }
   let last = 0;
   for (const found of rest.matchAll(REGISTER)) {
-    made += escape(rest.slice(last, found.index)) + `<span class="${found[1] ? "r" : found[2] ? "d" : "t"}">${escape(found[0])}</span>`;
+    made += escape(
+      rest.slice(last, found.index)
+    ) + `<span class="${found[1] ? "r" : found[2] ? "d" : "t"}">${escape(found[0])}</span>`;
     last = found.index + found[0].length;
   }
   return made + escape(rest.slice(last)) + (comment ? `<span class="c">${escape(comment)}</span>` : "");
@@ -55,7 +60,9 @@ export function coloured(line) {
 const stops_of = (file) => file?.stops ?? [];
 
 /** How many columns of letters a line takes, at least: those that aren't ASCII may be wide. */
-const columns_of = (line) => (/^[ -~]*$/.test(line) ? line.length : [...line].reduce((sum, it) => sum + (it === "\t" ? 4 : it > "~" ? 2 : 1), 0));
+const columns_of = (line) => (
+  (/^[ -~]*$/.test(line) ? line.length : [...line].reduce((sum, it) => sum + (it === "\t" ? 4 : it > "~" ? 2 : 1), 0))
+);
 
 /** Gives the paper its size: that of all lines. */
 function measure() {
@@ -81,7 +88,10 @@ const may_stop = (line) => is_source(state.file) && !state.mistake && (state.cod
 const row_class = (line) => `row${line === state.pc ? " pc" : ""}${line === state.mistake?.line ? " bad" : ""}`;
 
 function number_of(line, stops) {
-  const name = [line === state.pc ? "pc" : "", line === state.mistake?.line ? "bad" : "", may_stop(line) ? "" : "no", stops.has(line) ? "stop" : ""].join(" ");
+  const name = [
+    line === state.pc ? "pc" : "", line === state.mistake?.line ? "bad" : "", may_stop(line) ? "" : "no",
+    stops.has(line) ? "stop" : "",
+  ].join(" ");
   return `<div class="${name}" data-line="${line}">${line}</div>`;
 }
 
@@ -93,7 +103,8 @@ function lines_seen() {
 
 /** Draws the lines that are seen, and some above and below. */
 function draw() {
-  const box = $("editor"), { lines, file } = state, is_plain = box.classList.contains("is-plain"), stops = new Set(stops_of(file).map((it) => it.line));
+  const box = $("editor"), { lines, file } = state, is_plain = box.classList.contains("is-plain");
+  const stops = new Set(stops_of(file).map((it) => it.line));
   const { first, last } = lines_seen(), from = Math.max(0, first - UNSEEN), to = Math.min(lines.length, last + UNSEEN);
   const ink = box.querySelector(".ink"), gutter = box.querySelector(".gutter"), numbers = [];
   const shown = is_source(file) ? coloured : escape;
@@ -129,7 +140,9 @@ function mark(pc) {
 /** Scrolls to a line, if it isn't seen. */
 function reveal(line) {
   const box = $("editor"), top = ABOVE + LINE * (line - 1);
-  if (top < box.scrollTop || top > box.scrollTop + box.clientHeight - 2 * LINE) box.scrollTop = top - box.clientHeight / 2;
+  if (top < box.scrollTop || top > box.scrollTop + box.clientHeight - 2 * LINE) {
+    box.scrollTop = top - box.clientHeight / 2;
+  }
 }
 
 function assemble() {
@@ -167,13 +180,28 @@ function toggle_break(line) {
 
 function break_at_caret() {
   const source = $("source"), line = source.value.slice(0, source.selectionStart).split("\n").length;
-  if (!toggle_break(line)) say(state.places ? `Line ${line} has no instruction, so no break point` : "The source isn't assembled, so it has no break point");
-  else say(stops_of(state.file).some((it) => it.line === line) ? `A break point at line ${line}` : `No break point at line ${line} any more`);
+  if (!toggle_break(line)) {
+    say(
+      state.places ? `Line ${line} has no instruction, so no break point`
+        : "The source isn't assembled, so it has no break point"
+    );
+  } else {
+    say(
+      stops_of(state.file).some((it) => it.line === line) ? `A break point at line ${line}`
+        : `No break point at line ${line} any more`
+    );
+  }
 }
 
 // ---- a file
 
-const words_of_bytes = ({ name, bytes }) => (is_elf(bytes) ? `${name}: a program file of ${bytes.length} bytes, built from C.\n\nIts source is shown at the right when it runs, if ${name}.lines is known (the page has it of its own programs), and its functions and instructions.` : `${name}: a file of ${bytes.length} bytes, which are no text.\n\nPrograms open it and read its bytes.`);
+const words_of_bytes = ({ name, bytes }) => (
+  is_elf(
+    bytes
+  )
+    ? `${name}: a program file of ${bytes.length} bytes, built from C.\n\nIts source is shown at the right when it runs, if ${name}.lines is known (the page has it of its own programs), and its functions and instructions.`
+    : `${name}: a file of ${bytes.length} bytes, which are no text.\n\nPrograms open it and read its bytes.`
+);
 
 /** Shows a file. */
 export function open(file) {
@@ -235,7 +263,8 @@ function told(it) {
 function line_of_pc() {
   const { view, booted } = app, { file, places } = state;
   if (!view?.registers || !booted || !file || !places) return null;
-  const place = view.ended ? view.ended.program : view.processes.find((it) => it.pid === view.pid)?.program, running = booted.files[place];
+  const place = view.ended ? view.ended.program : view.processes.find((it) => it.pid === view.pid)?.program;
+  const running = booted.files[place];
   if (!running || running.from !== file || running.text !== file.text) return null;
   return line_at(places, view.registers[0])?.line ?? null;
 }
@@ -256,7 +285,9 @@ export function start() {
     if (event.key === "F9") { event.preventDefault(); break_at_caret(); }
   });
   box.addEventListener("scroll", scrolled, { passive: true });
-  box.querySelector(".gutter").addEventListener("click", ({ target }) => { if (target.dataset.line) toggle_break(Number(target.dataset.line)); });
+  box.querySelector(".gutter").addEventListener("click", ({ target }) => {
+    if (target.dataset.line) toggle_break(Number(target.dataset.line));
+  });
   on("assembled", told);
   on("panels", show_pc);
   on("booted", () => mark(null));

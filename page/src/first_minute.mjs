@@ -9,11 +9,26 @@ import { is_slide } from "./place_links.mjs";
 const COMMANDS = ["ls", "echo hello | wc", "primes 50"];
 
 const TOUR = [
-  ["terminal", "The terminal: what you type goes to the machine. Type a command and Enter; the shell answers. `help` says what it knows."],
-  ["time", "Time: pause, go on by an instruction, an event, a call, a turn, or go back. Drag the slider: each place of the run is there."],
-  ["processes", "Processes: who runs, who sleeps and on what. Choose one to look at it. Below is the picture of turns; click into it to go there."],
-  ["right", "What the process is at: its next instruction and registers, its page table, its descriptors, what happened up to here, and why somebody faults or sleeps."],
-  ["left", "Your own: change a program here, and Boot runs it. Lessons, beside it, ask questions, and the machine tells whether you are right."],
+  [
+    "terminal",
+    "The terminal: what you type goes to the machine. Type a command and Enter; the shell answers. `help` says what it knows.",
+  ],
+  [
+    "time",
+    "Time: pause, go on by an instruction, an event, a call, a turn, or go back. Drag the slider: each place of the run is there.",
+  ],
+  [
+    "processes",
+    "Processes: who runs, who sleeps and on what. Choose one to look at it. Below is the picture of turns; click into it to go there.",
+  ],
+  [
+    "right",
+    "What the process is at: its next instruction and registers, its page table, its descriptors, what happened up to here, and why somebody faults or sleeps.",
+  ],
+  [
+    "left",
+    "Your own: change a program here, and Boot runs it. Lessons, beside it, ask questions, and the machine tells whether you are right.",
+  ],
 ];
 const ENOUGH = 3; // lines that were typed: who has typed so many needs no hint
 let step = -1, lines = 0;
@@ -21,8 +36,10 @@ let step = -1, lines = 0;
 /** A command, typed as by hand. */
 function command(text) {
   return element("button", { class: "mono", onclick: () => {
-    if (app.work.name !== "shell") { programs.choose("shell"); programs.boot().then(() => setTimeout(() => type(new TextEncoder().encode(text + "\n")), 300)); }
-    else type(new TextEncoder().encode(text + "\n"));
+    if (app.work.name !== "shell") {
+      programs.choose("shell");
+      programs.boot().then(() => setTimeout(() => type(new TextEncoder().encode(text + "\n")), 300));
+    } else type(new TextEncoder().encode(text + "\n"));
     $("screen").focus({ preventScroll: true });
   } }, text);
 }
@@ -48,7 +65,12 @@ function clear_marks() {
 function show_step(number) {
   step = number;
   clear_marks();
-  if (step < 0 || step >= TOUR.length) { $("tour").close(); step = -1; $("screen").focus({ preventScroll: true }); return; }
+  if (step < 0 || step >= TOUR.length) {
+    $("tour").close();
+    step = -1;
+    $("screen").focus({ preventScroll: true });
+    return;
+  }
   const [id, words] = TOUR[step], told = $("tour-told");
   told.innerHTML = words.replace(/`([^`]+)`/g, "<code>$1</code>");
   $("tour-step").textContent = `${step + 1} of ${TOUR.length}`;
@@ -76,7 +98,9 @@ export function start() {
   $("tour-next").addEventListener("click", () => show_step(step + 1));
   $("tour-back").addEventListener("click", () => show_step(step - 1));
   $("tour-skip").addEventListener("click", () => show_step(-1));
-  $("tour").addEventListener("keydown", (event) => { if (event.key === "Escape") { event.preventDefault(); show_step(-1); } });
+  $("tour").addEventListener("keydown", (event) => {
+    if (event.key === "Escape") { event.preventDefault(); show_step(-1); }
+  });
   on("typed", (bytes) => {
     lines += bytes.filter((it) => it === 10).length;
     if (lines >= ENOUGH && !first.hidden) hide();

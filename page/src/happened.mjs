@@ -20,7 +20,10 @@ let found = { key: "", before: [], behind: [], is_cut: false }; // what the work
 let asked_for = "";
 
 /** What is wanted, as the worker is asked. */
-const wanted = () => ({ pid: Number($("event-pid").value), what: $("event-what").value, answer: $("event-answer").value.trim().replace(/[−–]/g, "-") });
+const wanted = () => ({
+  pid: Number($("event-pid").value), what: $("event-what").value,
+  answer: $("event-answer").value.trim().replace(/[−–]/g, "-"),
+});
 
 /** Asks the worker for the events round a place, unless that is what it was asked last. */
 function ask_round(place) {
@@ -43,12 +46,21 @@ const on_last = new Map(); // who waits for the answers, by their numbers
 
 function row(it) {
   const { at } = it, pid = it.kind <= KIND.TURN ? it.pid : 0, told = known.get(at) ?? null;
-  const words = told ? told.words : words_of_event(it).replace(/^process \d+:? ?/, "").replace(/^turn of process \d+/, "has a turn");
-  const woke = told?.woke.length ? ` · woke ${told.woke.map((it) => `${it} (${program_name(app.names.get(it))})`).join(", ")}` : "";
-  const kind = it.kind === KIND.FAULT ? "bad" : it.kind === KIND.WAIT ? "waits" : it.value === -1 && it.kind === KIND.CALL ? "bad" : "";
-  const answer = told?.answer ? element("b", {}, ` = ${told.answer}`.replace(/ = (sleeps|ends)/, " $1")) : "", swatch = pid ? { class: "swatch", style: `background:${color_of(pid)}` } : {};
-  return element("button", { class: `event ${kind}`, "data-at": at, title: "Go there: before this event", onclick: () => { anchor = null; ask("go", { place: at }); } },
-    element("span", { class: "number dim" }, grouped(at)), element("span", swatch), element("span", { class: "dim" }, pid ? String(pid) : ""), element("span", {}, words, answer, woke));
+  const words = told ? told.words
+    : words_of_event(it).replace(/^process \d+:? ?/, "").replace(/^turn of process \d+/, "has a turn");
+  const woke = told?.woke.length
+    ? ` · woke ${told.woke.map((it) => `${it} (${program_name(app.names.get(it))})`).join(", ")}` : "";
+  const kind = it.kind === KIND.FAULT ? "bad" : it.kind === KIND.WAIT ? "waits"
+    : it.value === -1 && it.kind === KIND.CALL ? "bad" : "";
+  const answer = told?.answer ? element("b", {}, ` = ${told.answer}`.replace(/ = (sleeps|ends)/, " $1")) : "";
+  const swatch = pid ? { class: "swatch", style: `background:${color_of(pid)}` } : {};
+  return element("button", {
+    class: `event ${kind}`, "data-at": at, title: "Go there: before this event",
+    onclick: () => { anchor = null; ask("go", { place: at }); },
+  },
+    element("span", { class: "number dim" }, grouped(at)), element("span", swatch), element(
+      "span", { class: "dim" }, pid ? String(pid) : ""
+    ), element("span", {}, words, answer, woke));
 }
 
 let drawn = "";
@@ -65,8 +77,12 @@ function draw() {
   const told = JSON.stringify([found.key, view.at, all.map(({ at }) => [at, known.has(at)]), app.names.most]);
   if (told === drawn) return;
   drawn = told;
-  const here = element("p", { class: "here", role: "separator" }, `event ${grouped(view.at)}: here`), box = $("event-list"), rows = [];
-  for (const it of all) { if (!here.placed && it.at >= view.at) { rows.push(here); here.placed = true; } rows.push(row(it)); }
+  const here = element("p", { class: "here", role: "separator" }, `event ${grouped(view.at)}: here`);
+  const box = $("event-list"), rows = [];
+  for (const it of all) {
+    if (!here.placed && it.at >= view.at) { rows.push(here); here.placed = true; }
+    rows.push(row(it));
+  }
   if (!here.placed) rows.push(here);
   const focused = document.activeElement?.dataset?.at;
   const none = (words) => element("p", { class: "dim" }, words);
@@ -101,7 +117,10 @@ function fill_filters() {
   if (told === filled) return;
   filled = told;
   const chosen = $("event-pid").value;
-  $("event-pid").replaceChildren(element("option", { value: "0" }, "all"), ...pids.map((pid) => element("option", { value: pid }, `${pid} ${program_name(app.names.get(pid))}`)));
+  $("event-pid").replaceChildren(
+    element("option", { value: "0" }, "all"),
+    ...pids.map((pid) => element("option", { value: pid }, `${pid} ${program_name(app.names.get(pid))}`))
+  );
   $("event-pid").value = pids.includes(Number(chosen)) ? chosen : "0";
 }
 
@@ -175,11 +194,16 @@ export async function opened_by(pid, fd) {
     if (call) {
       const told = await told_at(call.at);
       ask("go", { place: call.at });
-      say(`${[...words, `process ${who} opened descriptor ${fd} by ${told?.words ?? call_name(call.number)}`].join("; ")}: event ${grouped(call.at)}`);
+      say(
+        `${[...words, `process ${who} opened descriptor ${fd} by ${told?.words ?? call_name(call.number)}`].join("; ")}: event ${grouped(call.at)}`
+      );
       return;
     }
     const { parent, from } = app.line.lives.of(who);
-    if (!parent) { say([...words, `process ${who} had descriptor ${fd} when the machine was booted`].join("; ")); return; }
+    if (!parent) {
+      say([...words, `process ${who} had descriptor ${fd} when the machine was booted`].join("; "));
+      return;
+    }
     before = from;
     words.push(`process ${who} had it from its parent ${parent}, by the fork at event ${grouped(before)}`);
     who = parent;
@@ -196,12 +220,18 @@ export function show_events(kind) {
 }
 
 export function start() {
-  $("event-what").replaceChildren(...Object.entries(WHAT).map(([value, [words]]) => element("option", { value }, words)));
-  on("ready", () => $("event-what").append(...all_calls().map((name) => element("option", { value: CALL + name }, name))));
+  $("event-what").replaceChildren(
+    ...Object.entries(WHAT).map(([value, [words]]) => element("option", { value }, words))
+  );
+  on(
+    "ready", () => $("event-what").append(...all_calls().map((name) => element("option", { value: CALL + name }, name)))
+  );
   const show = in_time(draw);
   on("panels", show);
   on("tab", () => { drawn = ""; if (app.view) show(); });
-  for (const it of ["event-pid", "event-what", "event-answer"]) $(it).addEventListener("input", () => { anchor = null; if (app.view) draw(); });
+  for (const it of ["event-pid", "event-what", "event-answer"]) {
+    $(it).addEventListener("input", () => { anchor = null; if (app.view) draw(); });
+  }
   $("earlier").addEventListener("click", () => further(-1));
   $("later").addEventListener("click", () => further(1));
   let at = -1;
@@ -217,16 +247,34 @@ export function start() {
     for (const it of list) known.set(it.at, it);
     if (app.view && !$("happened").hidden) draw();
   });
-  on("sought", (it) => { if (it.id === seeks) { if (it.left !== undefined) write($("seek-told"), `looking back .. ${grouped(it.left)} events are left`); else arrive(it); } });
+  on("sought", (it) => {
+    if (it.id === seeks) {
+      if (it.left !== undefined) {
+        write($("seek-told"), `looking back .. ${grouped(it.left)} events are left`);
+      } else {
+        arrive(it);
+      }
+    }
+  });
   on("stored here", (address) => last_store(address));
   $("back-break").addEventListener("click", () => look_back({ what: "stop" }));
   $("back-fault").addEventListener("click", last_fault);
   $("back-store").addEventListener("click", () => {
     const address = address_meant($("store-address").value);
-    if (address === undefined) say("Write an address, as 0x2fe0, a register or a label: the last store to it, by the process that is looked at, is looked for");
-    else last_store(address);
+    if (address === undefined) {
+      say(
+        "Write an address, as 0x2fe0, a register or a label: the last store to it, by the process that is looked at, is looked for"
+      );
+    } else last_store(address);
   });
   $("store-address").addEventListener("keydown", (event) => { if (event.key === "Enter") $("back-store").click(); });
   $("seek-stop").addEventListener("click", () => ask("seek_no_more"));
-  on("booted", () => { drawn = filled = asked_for = ""; anchor = null; known.clear(); seeks++; $("seek-stop").hidden = true; $("event-list").replaceChildren(); });
+  on("booted", () => {
+    drawn = filled = asked_for = "";
+    anchor = null;
+    known.clear();
+    seeks++;
+    $("seek-stop").hidden = true;
+    $("event-list").replaceChildren();
+  });
 }

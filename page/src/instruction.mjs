@@ -19,7 +19,9 @@ function who() {
   const { pid, ended } = app.view;
   if (!pid) return "";
   const name = `${pid} (${program_name(program_of(pid))})`;
-  return ended ? `${name}, as it ended at event ${grouped(ended.at)}${ended.is_fault ? ", by a fault" : ` with ${ended.number}`}` : name;
+  return ended
+    ? `${name}, as it ended at event ${grouped(ended.at)}${ended.is_fault ? ", by a fault" : ` with ${ended.number}`}`
+    : name;
 }
 
 /** Shows nothing: there is no process, or another machine. */
@@ -33,8 +35,16 @@ function clear() {
 
 /** The row of an instruction, and above it the name of what begins there. */
 function new_code_row() {
-  const name = element("span", { class: "fn" }), address = element("span", { class: "dim to-translate", title: "Translate this address", onclick: () => tell("translate", { text: address.textContent, access: "fetch" }) }), text = document.createTextNode(""), note = element("span", { class: "from" });
-  return { name, address, text, note, row: element("div", { role: "listitem" }, address, text, note), word: null, is_next: null };
+  const name = element("span", { class: "fn" });
+  const address = element("span", {
+    class: "dim to-translate", title: "Translate this address",
+    onclick: () => tell("translate", { text: address.textContent, access: "fetch" }),
+  });
+  const text = document.createTextNode(""), note = element("span", { class: "from" });
+  return {
+    name, address, text, note, row: element("div", { role: "listitem" }, address, text, note), word: null,
+    is_next: null,
+  };
 }
 
 /** Notes the word of a row, and whether it is the next one, if these are others than before. */
@@ -54,9 +64,12 @@ function draw_code() {
     code_rows = list.map((_, k) => code_rows[k] ?? new_code_row());
     box.replaceChildren(...code_rows.flatMap((it) => [it.name, it.row]));
   }
-  const heads = list.map((it) => name_at(symbols, it.address)).map((name) => (name && !name.includes("+") ? name + ":" : ""));
+  const heads = list.map((it) => name_at(symbols, it.address)).map((name) => (
+    name && !name.includes("+") ? name + ":" : ""
+  ));
   list.forEach((it, k) => {
-    const { name, address, text, note } = code_rows[k], line = line_at(symbols, it.address), is_next = it.address === pc;
+    const { name, address, text, note } = code_rows[k], line = line_at(symbols, it.address);
+    const is_next = it.address === pc;
     let words = line ? `${line.line}  ${line.text.replace(/^\w+:\s*/, "")}` : "";
     if (it.text === "ecall" && is_next) words = `call ${known_call(Number(view.registers[17])) ?? view.registers[17]}`;
     if (name.hidden !== !heads[k]) name.hidden = !heads[k];
@@ -67,7 +80,8 @@ function draw_code() {
     mark_row(code_rows[k], it.word, is_next);
   });
   // While the machine plays, the pc's row stands where it stood, if there are as many rows before it.
-  const at = list.findIndex((it) => it.address === pc), above = `${at} ${heads.slice(0, at + 1).filter((it) => it).length} ${list.length}`;
+  const at = list.findIndex((it) => it.address === pc);
+  const above = `${at} ${heads.slice(0, at + 1).filter((it) => it).length} ${list.length}`;
   if (at < 0 || (view.playing && above === scrolled)) return;
   scrolled = above;
   box.scrollTop = code_rows[at].row.offsetTop - box.offsetTop - box.clientHeight / 2.6;
@@ -79,11 +93,24 @@ function draw_registers() {
   // The last change stays coloured until the next event of this process.
   const key = `${view.pid} ${view.at}`;
   if (!before || before.pid !== view.pid) changed = new Set();
-  else if (before.key !== key) changed = new Set([...registers].flatMap((it, k) => (it !== before.registers[k] ? [k] : [])));
+  else if (before.key !== key) {
+    changed = new Set([...registers].flatMap((it, k) => (it !== before.registers[k] ? [k] : [])));
+  }
   before = { key, pid: view.pid, registers };
   if (!cells.length) {
     cells = REGISTERS.map((name) => ({ name, value: element("span"), told: null, is_new: false }));
-    $("registers").replaceChildren(...cells.map((it) => (it.row = element("div", { role: "listitem", onclick: () => tell("translate", { text: it.name, access: it.name === "pc" ? "fetch" : "load" }) }, element("b", {}, it.name), it.value))));
+    $("registers").replaceChildren(
+      ...cells.map((it) => (
+        it.row = element(
+          "div",
+          {
+            role: "listitem",
+            onclick: () => tell("translate", { text: it.name, access: it.name === "pc" ? "fetch" : "load" }),
+          },
+          element("b", {}, it.name), it.value
+        )
+      ))
+    );
   }
   cells.forEach((it, k) => {
     const is_new = changed.has(k);
@@ -103,21 +130,36 @@ function draw_memory() {
   const { at, bytes } = memory, pre = $("memory");
   const next = view.next === null || view.next === undefined ? -1 : Number(view.next - at);
   is_narrow ??= pre.clientWidth < 600;
-  const data = new DataView(bytes.buffer, bytes.byteOffset, bytes.length), columns = as === "text" ? 32 : as === "bytes" && is_narrow ? 8 : 16;
+  const data = new DataView(bytes.buffer, bytes.byteOffset, bytes.length);
+  const columns = as === "text" ? 32 : as === "bytes" && is_narrow ? 8 : 16;
   for (let row = 0; row < bytes.length; row += columns) {
     const is_next = next >= row && next < row + columns;
     let text = hex(at + BigInt(row)).padEnd(10) + (is_next ? ">" : " ");
     const part = bytes.subarray(row, row + columns);
-    if (as === "words") for (let k = 0; k + 8 <= part.length; k += 8) text += number(data.getBigUint64(row + k, true)).padStart(19);
-    else if (as === "text") text += [...part].map((it) => (it > 31 && it < 127 ? String.fromCharCode(it) : it === 10 ? "↵" : it ? "·" : " ")).join("");
-    else text += [...part].map((it, k) => (k === 8 ? " " : "") + it.toString(16).padStart(2, "0")).join(" ") + "  " + [...part].map((it) => (it > 31 && it < 127 ? String.fromCharCode(it) : "·")).join("");
+    if (as === "words") {
+      for (let k = 0; k + 8 <= part.length; k += 8) text += number(data.getBigUint64(row + k, true)).padStart(19);
+    } else if (as === "text") {
+      text += [...part].map(
+        (it) => (it > 31 && it < 127 ? String.fromCharCode(it) : it === 10 ? "↵" : it ? "·" : " ")
+      ).join("");
+    } else {
+      text += [...part].map(
+        (it, k) => (k === 8 ? " " : "") + it.toString(16).padStart(2, "0")
+      ).join(" ") + "  " + [...part].map((it) => (it > 31 && it < 127 ? String.fromCharCode(it) : "·")).join("");
+    }
     lines.push({ is_next, text });
   }
   const told = JSON.stringify([hex(at), lines]);
   if (told === memory_told) return;
   memory_told = told;
   if (!lines.length) pre.textContent = `no page at ${hex(at)}`;
-  else pre.replaceChildren(...lines.flatMap(({ is_next, text }) => [is_next ? element("i", { title: "the next instruction loads from here, or stores to here" }, text) : text, "\n"]));
+  else {
+    pre.replaceChildren(
+      ...lines.flatMap(({ is_next, text }) => [
+        is_next ? element("i", { title: "the next instruction loads from here, or stores to here" }, text) : text, "\n",
+      ])
+    );
+  }
 }
 
 /** The address that is meant, a number, a register, or a label; undefined if none is. */

@@ -83,7 +83,10 @@ function take_view(view) {
 /** Another machine: nothing of the one before is drawn any more. */
 function take_boot({ id, took }) {
   app.booted = { ...programs.booting(id), id, took };
-  Object.assign(app, { view: null, line: new ThinnedRecord(), events: new EventsText(), names: new LastNames(), text: text_room.subarray(0, 0), faults: [], kills: [], chosen: 0 });
+  Object.assign(app, {
+    view: null, line: new ThinnedRecord(), events: new EventsText(), names: new LastNames(),
+    text: text_room.subarray(0, 0), faults: [], kills: [], chosen: 0,
+  });
   tell("booted");
   look();
 }
@@ -137,7 +140,12 @@ export function show_tab(tab) {
 globalThis.show_tab = (name) => show_tab($("tab-" + name));
 
 function look() {
-  ask("look", { pid: app.chosen || (app.view ? app.view.pid : 1), follow: $("follow").checked, panels: { instruction: !$("instruction").hidden, pages: !$("pages").hidden, translate: !$("translate").hidden, files: true } });
+  ask("look", {
+    pid: app.chosen || (app.view ? app.view.pid : 1), follow: $("follow").checked,
+    panels: {
+      instruction: !$("instruction").hidden, pages: !$("pages").hidden, translate: !$("translate").hidden, files: true,
+    },
+  });
 }
 
 function tabs() {
@@ -170,7 +178,11 @@ function theme() {
 /** What is scrolled to doesn't stand below the bar that stays at the top. */
 function keep_clear() {
   const bar = $("time"), root = document.documentElement;
-  new ResizeObserver(() => { root.style.scrollPaddingTop = getComputedStyle(bar).position === "sticky" ? `${bar.offsetHeight + 6}px` : "6px"; }).observe(bar);
+  new ResizeObserver(
+    () => {
+      root.style.scrollPaddingTop = getComputedStyle(bar).position === "sticky" ? `${bar.offsetHeight + 6}px` : "6px";
+    }
+  ).observe(bar);
 }
 
 /** The ways to the first machine, in their order: where the address leads, what was here last time, the shell. */
@@ -192,7 +204,9 @@ async function first_machine() {
   }
   await sharing.first_is_there();
   const is_narrow = matchMedia("(max-width: 820px)").matches;
-  if (!is_narrow && !is_embedded() && document.activeElement === document.body) $("screen").focus({ preventScroll: true });
+  if (!is_narrow && !is_embedded() && document.activeElement === document.body) {
+    $("screen").focus({ preventScroll: true });
+  }
 }
 
 const PARTS = {
@@ -221,7 +235,15 @@ function begin() {
   on("taken", () => show_tab($("tab-programs")));
   on("resized", redraw);
   ask("module", { bytes: base64.of(DATA.wasm) });
-  on("view", () => { if (!globalThis.ready) { globalThis.ready = true; globalThis.took = { page: began, boot: app.booted?.took, shown: performance.now() }; } });
-  globalThis.page = { app, ask, problems: messages.problems, on, time, programs, sharing, works, drawn: () => drawn, short_place, calls_in_words, manual: manual.pages };
+  on("view", () => {
+    if (!globalThis.ready) {
+      globalThis.ready = true;
+      globalThis.took = { page: began, boot: app.booted?.took, shown: performance.now() };
+    }
+  });
+  globalThis.page = {
+    app, ask, problems: messages.problems, on, time, programs, sharing, works, drawn: () => drawn, short_place,
+    calls_in_words, manual: manual.pages,
+  };
 }
 begin();

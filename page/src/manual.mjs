@@ -17,14 +17,22 @@ const title_of_page = (name) => /<h1[^>]*>(.*?)<\/h1>/.exec(pages()[name])?.[1].
 
 /** The part of the page's own page of the manual that helps with a panel. */
 export function help_of(heading) {
-  const part = pages().page.split(/(?=<h2 )/).find((it) => it.startsWith("<h2 ") && it.slice(it.indexOf(">") + 1).startsWith(`${heading}</h2>`));
+  const part = pages().page.split(/(?=<h2 )/).find(
+    (it) => it.startsWith("<h2 ") && it.slice(it.indexOf(">") + 1).startsWith(`${heading}</h2>`)
+  );
   return part ?? "";
 }
 
 /** Lists the pages, once. */
 function list_pages() {
   const list = $("manual-page");
-  if (!list.options.length) list.append(...Object.keys(pages()).map((name) => element("option", { value: name }, name === "README" ? "all pages" : title_of_page(name))));
+  if (!list.options.length) {
+    list.append(
+      ...Object.keys(pages()).map(
+        (name) => element("option", { value: name }, name === "README" ? "all pages" : title_of_page(name))
+      )
+    );
+  }
 }
 
 /** Shows a page of the manual, at a heading. */
@@ -64,9 +72,13 @@ export function start() {
   $("manual-page").addEventListener("change", () => open_manual($("manual-page").value));
   $("manual-back").addEventListener("click", () => { const last = seen.pop(); if (last) show(last); });
   $("open-manual").addEventListener("click", () => open_manual(shown?.name ?? "README"));
-  for (const it of document.querySelectorAll("[data-help]")) it.addEventListener("click", () => open_help(it.dataset.help));
+  for (const it of document.querySelectorAll("[data-help]")) {
+    it.addEventListener("click", () => open_help(it.dataset.help));
+  }
   on("help", open_help);
-  for (const it of ["dialog", "manual"]) $(it).addEventListener("click", (event) => { if (event.target === $(it)) $(it).close(); });
+  for (const it of ["dialog", "manual"]) {
+    $(it).addEventListener("click", (event) => { if (event.target === $(it)) $(it).close(); });
+  }
   // A link to the manual opens it over what is shown, and leaves the address as it is.
   addEventListener("click", (event) => {
     const link = event.target.closest?.('a[href^="#manual="]');

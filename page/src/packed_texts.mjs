@@ -4,7 +4,11 @@
 export function unpacked({ size, base64 }) {
   const from = Uint8Array.from(atob(base64), (it) => it.charCodeAt(0)), to = new Uint8Array(size);
   let at = 0, end = 0;
-  const length = (most) => { let sum = most; if (most === 15) for (let more = 255; more === 255; sum += more) more = from[at++]; return sum; };
+  const length = (most) => {
+    let sum = most;
+    if (most === 15) for (let more = 255; more === 255; sum += more) more = from[at++];
+    return sum;
+  };
   while (at < from.length) {
     const token = from[at++], literals = length(token >> 4);
     to.set(from.subarray(at, at + literals), end);

@@ -9,7 +9,10 @@ const BITS = [[2, "R", "read"], [4, "W", "write"], [8, "X", "execute"], [16, "U"
 let before = null, changed = new Set(), new_pages = new Set(), last_pages = null, point = 0, opened = new Map();
 
 function bits(rights) {
-  return element("span", { class: "bits", title: BITS.filter(([bit]) => rights & bit).map(([, , words]) => words).join(", ") }, ...BITS.map(([bit, letter]) => element("span", { class: rights & bit ? "on" : "" }, rights & bit ? letter : "-")));
+  return element(
+    "span", { class: "bits", title: BITS.filter(([bit]) => rights & bit).map(([, , words]) => words).join(", ") },
+    ...BITS.map(([bit, letter]) => element("span", { class: rights & bit ? "on" : "" }, rights & bit ? letter : "-"))
+  );
 }
 
 const address_of = (frame) => hex(RAM + BigInt(frame) * BigInt(PAGE));
@@ -21,24 +24,35 @@ function use_of(rights) {
 }
 
 /** The sign of what the last step changed, beside its colour. */
-const sign = () => element("span", { class: "changed", role: "img", "aria-label": "changed", title: "the last step changed it" }, "✱");
+const sign = () => (
+  element("span", { class: "changed", role: "img", "aria-label": "changed", title: "the last step changed it" }, "✱")
+);
 
 /** The frame of a table: the root of a process, or that of a level with this place. */
 function table_frame(kind, pid, place) {
   const { frames } = app.view;
-  for (let frame = 0; frame < frames.count; frame++) if (frames.kinds[frame] === kind && frames.pids[frame] === pid && (kind === 3 || frames.places[frame] === place)) return frame;
+  for (let frame = 0; frame < frames.count; frame++) {
+    if (frames.kinds[frame] === kind && frames.pids[frame] === pid && (kind === 3 || frames.places[frame] === place)) {
+      return frame;
+    }
+  }
   return null;
 }
 
 function branch(key, is_open, words, is_new, ...children) {
-  const made = element("details", { open: opened.has(key) ? opened.get(key) : is_open }, element("summary", { class: is_new ? "new" : "" }, is_new ? sign() : null, ...words), ...children);
+  const made = element(
+    "details", { open: opened.has(key) ? opened.get(key) : is_open },
+    element("summary", { class: is_new ? "new" : "" }, is_new ? sign() : null, ...words), ...children
+  );
   made.addEventListener("toggle", () => opened.set(key, made.open));
   return made;
 }
 
 function draw_table() {
   const { view } = app, { found, size } = view.pages, pid = view.pid, root = table_frame(3, pid, 0);
-  const at = view.registers ? Number(view.registers[0] / 4096n) : -1, sp = view.registers ? Number(view.registers[2] / 4096n) : -1, touched = view.next !== null && view.next !== undefined ? Number(view.next / 4096n) : -1;
+  const at = view.registers ? Number(view.registers[0] / 4096n) : -1;
+  const sp = view.registers ? Number(view.registers[2] / 4096n) : -1;
+  const touched = view.next !== null && view.next !== undefined ? Number(view.next / 4096n) : -1;
   const uppers = new Map();
   for (const it of found) {
     const two = Math.floor(it.page / 262144), one = Math.floor(it.page / 512);
@@ -56,15 +70,68 @@ function draw_table() {
         if (it.page === touched) notes.push("next load or store");
         const use = use_of(it.rights);
         if (use) notes.push(use);
-        return element("div", { class: `leaf mono${new_pages.has(it.page) ? " new" : ""}${it.page === at ? " at" : ""}`, title: `page ${it.page}: entry ${it.page % 512} of its last table` }, element("span", {}, new_pages.has(it.page) ? sign() : null, element("span", { class: "dim" }, `entry ${it.page % 512}`)), element("button", { class: "slight mono", title: "Translate this address", onclick: () => tell("translate", { text: hex(BigInt(it.page) * 4096n), access: "load" }) }, hex(BigInt(it.page) * 4096n)), bits(it.rights), element("span", {}, it.frame === null ? "" : `frame ${it.frame}`, notes.length ? element("span", { class: "dim" }, ` ${notes.join(", ")}`) : ""));
+        return element(
+          "div",
+          {
+            class: `leaf mono${new_pages.has(it.page) ? " new" : ""}${it.page === at ? " at" : ""}`,
+            title: `page ${it.page}: entry ${it.page % 512} of its last table`,
+          },
+          element(
+            "span", {}, new_pages.has(it.page) ? sign() : null,
+            element("span", { class: "dim" }, `entry ${it.page % 512}`)
+          ),
+          element(
+            "button",
+            {
+              class: "slight mono", title: "Translate this address",
+              onclick: () => tell("translate", { text: hex(BigInt(it.page) * 4096n), access: "load" }),
+            },
+            hex(BigInt(it.page) * 4096n)
+          ),
+          bits(it.rights),
+          element(
+            "span", {}, it.frame === null ? "" : `frame ${it.frame}`,
+            notes.length ? element("span", { class: "dim" }, ` ${notes.join(", ")}`) : ""
+          )
+        );
       });
       if (list.length > 600) leaves.push(element("div", { class: "leaf dim" }, `and ${list.length - 600} more`));
-      return branch(`${pid} ${two} ${one}`, true, [`entry ${one % 512}: last table`, element("span", { class: "dim" }, lower === null ? "" : ` in frame ${lower}, ${address_of(lower)}`), element("span", { class: "dim" }, ` · ${list.length} page${list.length > 1 ? "s" : ""} from ${hex(BigInt(one) * 512n * 4096n)}`)], lower !== null && changed.has(lower), ...leaves);
+      return branch(
+        `${pid} ${two} ${one}`, true,
+        [
+          `entry ${one % 512}: last table`,
+          element("span", { class: "dim" }, lower === null ? "" : ` in frame ${lower}, ${address_of(lower)}`),
+          element(
+            "span", { class: "dim" },
+            ` · ${list.length} page${list.length > 1 ? "s" : ""} from ${hex(BigInt(one) * 512n * 4096n)}`
+          ),
+        ],
+        lower !== null && changed.has(lower), ...leaves
+      );
     });
-    return branch(`${pid} ${two}`, true, [`entry ${two}: middle table`, element("span", { class: "dim" }, upper === null ? "" : ` in frame ${upper}, ${address_of(upper)}`)], upper !== null && changed.has(upper), ...below);
+    return branch(
+      `${pid} ${two}`, true,
+      [
+        `entry ${two}: middle table`,
+        element("span", { class: "dim" }, upper === null ? "" : ` in frame ${upper}, ${address_of(upper)}`),
+      ],
+      upper !== null && changed.has(upper), ...below
+    );
   });
   const summary = `${found.length} pages of ${Math.ceil(size / PAGE)} below the size ${hex(BigInt(size))}`;
-  $("table").replaceChildren(branch(`${pid}`, true, ["root table", element("span", { class: "dim" }, root === null ? "" : ` in frame ${root}, ${address_of(root)}, to which satp points`), element("span", { class: "dim" }, ` · ${summary}`)], false, ...tables));
+  $("table").replaceChildren(
+    branch(
+      `${pid}`, true,
+      [
+        "root table",
+        element(
+          "span", { class: "dim" }, root === null ? "" : ` in frame ${root}, ${address_of(root)}, to which satp points`
+        ),
+        element("span", { class: "dim" }, ` · ${summary}`),
+      ],
+      false, ...tables
+    )
+  );
 }
 
 // ---- the map of frames
@@ -83,7 +150,8 @@ function color_of_frame(kind, pid) {
 
 function cells() {
   const { count } = app.view.frames, width = $("frame-map").clientWidth;
-  const side = Math.max(2, Math.min(24, Math.floor(Math.sqrt((width * 220) / count)))), columns = Math.max(1, Math.floor(width / side));
+  const side = Math.max(2, Math.min(24, Math.floor(Math.sqrt((width * 220) / count))));
+  const columns = Math.max(1, Math.floor(width / side));
   return { side, columns, rows: Math.ceil(count / columns) };
 }
 
@@ -103,7 +171,11 @@ function draw_map() {
   }
   draw.strokeStyle = style_of("--ink");
   draw.lineWidth = 1.5;
-  if (changed.size < 400) for (const frame of changed) draw.strokeRect((frame % columns) * side + 0.5, Math.floor(frame / columns) * side + 0.5, side - 1, side - 1);
+  if (changed.size < 400) {
+    for (const frame of changed) {
+      draw.strokeRect((frame % columns) * side + 0.5, Math.floor(frame / columns) * side + 0.5, side - 1, side - 1);
+    }
+  }
   if (document.activeElement === canvas) {
     draw.strokeStyle = style_of("--bad");
     draw.lineWidth = 2;
@@ -112,13 +184,27 @@ function draw_map() {
   tell_point();
   const used = new Map();
   for (let frame = 0; frame < count; frame++) used.set(frames.kinds[frame], (used.get(frames.kinds[frame]) || 0) + 1);
-  $("frame-key").replaceChildren(...[...used].sort((a, b) => a[0] - b[0]).map(([kind, many]) => element("span", {}, element("i", { style: `background:${color_of_frame(kind, app.view.pid)}` }), `${many} ${kind === 1 ? "free" : USES[kind] + (many > 1 ? "s" : "")}`)));
+  $("frame-key").replaceChildren(
+    ...[...used].sort((a, b) => a[0] - b[0]).map(
+      ([kind, many]) => element(
+        "span", {}, element("i", { style: `background:${color_of_frame(kind, app.view.pid)}` }),
+        `${many} ${kind === 1 ? "free" : USES[kind] + (many > 1 ? "s" : "")}`
+      )
+    )
+  );
 }
 
 function tell_point() {
-  const { frames } = app.view, frame = Math.min(point, frames.count - 1), kind = frames.kinds[frame], pid = frames.pids[frame], place = frames.places[frame];
-  const what = { 1: "free", 2: `the trapframe of process ${pid}`, 3: `the root table of process ${pid}`, 4: `a middle table of process ${pid}, entry ${place} of its root`, 5: `a last table of process ${pid}, for pages from ${hex(BigInt(place) * 512n * 4096n)}`, 6: `page ${hex(BigInt(place) * 4096n)} of process ${pid}`, 7: "a pipe" }[kind] || "no frame";
-  $("frame-told").textContent = `frame ${frame} at ${address_of(frame)}: ${what}${changed.has(frame) ? "; the last step changed it" : ""}`;
+  const { frames } = app.view, frame = Math.min(point, frames.count - 1), kind = frames.kinds[frame];
+  const pid = frames.pids[frame], place = frames.places[frame];
+  const what = {
+    1: "free", 2: `the trapframe of process ${pid}`, 3: `the root table of process ${pid}`,
+    4: `a middle table of process ${pid}, entry ${place} of its root`,
+    5: `a last table of process ${pid}, for pages from ${hex(BigInt(place) * 512n * 4096n)}`,
+    6: `page ${hex(BigInt(place) * 4096n)} of process ${pid}`, 7: "a pipe",
+  }[kind] || "no frame";
+  $("frame-told").textContent =
+    `frame ${frame} at ${address_of(frame)}: ${what}${changed.has(frame) ? "; the last step changed it" : ""}`;
 }
 
 /** Takes a view: what changed since the last one is marked. */
@@ -130,12 +216,22 @@ function show() {
   const now = view.frames, key = `${view.at} ${view.edits}`;
   if (before && before.key !== key && before.frames.count === now.count) {
     changed = new Set();
-    for (let frame = 0; frame < now.count; frame++) if (now.kinds[frame] !== before.frames.kinds[frame] || now.pids[frame] !== before.frames.pids[frame] || now.places[frame] !== before.frames.places[frame]) changed.add(frame);
+    for (let frame = 0; frame < now.count; frame++) {
+      if (
+        now.kinds[frame] !== before.frames.kinds[frame] || now.pids[frame] !== before.frames.pids[frame]
+          || now.places[frame] !== before.frames.places[frame]
+      ) {
+        changed.add(frame);
+      }
+    }
   }
   if (view.pages) {
     const pages = new Map(view.pages.found.map((it) => [it.page, `${it.rights} ${it.frame}`]));
-    if (last_pages && last_pages.pid === view.pid && last_pages.key !== key) new_pages = new Set([...pages].filter(([page, told]) => last_pages.pages.get(page) !== told).map(([page]) => page));
-    else if (last_pages && last_pages.pid !== view.pid) new_pages = new Set();
+    if (last_pages && last_pages.pid === view.pid && last_pages.key !== key) {
+      new_pages = new Set(
+        [...pages].filter(([page, told]) => last_pages.pages.get(page) !== told).map(([page]) => page)
+      );
+    } else if (last_pages && last_pages.pid !== view.pid) new_pages = new Set();
     last_pages = { pid: view.pid, key, pages };
     draw_table();
   }
@@ -147,10 +243,14 @@ export function start() {
   on("panels", show);
   const canvas = $("frame-map");
   const at_pointer = (event) => {
-    const box = canvas.getBoundingClientRect(), { side, columns } = cells(), column = Math.floor((event.clientX - box.left) / side);
-    return column >= columns ? point : Math.min(app.view.frames.count - 1, Math.floor((event.clientY - box.top) / side) * columns + column);
+    const box = canvas.getBoundingClientRect(), { side, columns } = cells();
+    const column = Math.floor((event.clientX - box.left) / side);
+    return column >= columns ? point
+      : Math.min(app.view.frames.count - 1, Math.floor((event.clientY - box.top) / side) * columns + column);
   };
-  canvas.addEventListener("pointermove", (event) => { if (app.view?.frames) { point = at_pointer(event); tell_point(); } });
+  canvas.addEventListener("pointermove", (event) => {
+    if (app.view?.frames) { point = at_pointer(event); tell_point(); }
+  });
   canvas.addEventListener("click", (event) => {
     if (!app.view?.frames) return;
     point = at_pointer(event);

@@ -127,7 +127,10 @@ const panel_now = () => PANELS.find((it) => !$(it).hidden);
 export function seen_now() {
   const { chosen } = app, words = new URLSearchParams({ tab: panel_now() });
   if (chosen && !$("follow").checked) words.set("pid", chosen);
-  if (words.get("tab") === "translate") { words.set("address", $("translated-address").value || "pc"); words.set("access", $("translated-access").value); }
+  if (words.get("tab") === "translate") {
+    words.set("address", $("translated-address").value || "pc");
+    words.set("access", $("translated-access").value);
+  }
   if (words.get("tab") === "happened" && events_shown()) words.set("show", events_shown());
   return String(words);
 }
@@ -140,10 +143,17 @@ export function short_place() {
   const { work, booted, view } = app, { example, machine } = work;
   const name = example ?? Object.keys(DATA.examples).find((it) => work.name === `${it}, as a link has it`);
   if (!name || !booted?.how.rounds || booted.work !== work.name || !view) return null;
-  const shipped = shipped_files(name), is_same = (it, own) => it.name === own.name && (it.text === undefined ? own.built_in : it.text === own.text);
-  const is_shipped = work.files.length === shipped.length && shipped.every((it, k) => is_same(it, work.files[k])) && booted.files.every((it) => it.text === undefined || it.text === it.from.text);
+  const shipped = shipped_files(name);
+  const is_same = (it, own) => it.name === own.name && (it.text === undefined ? own.built_in : it.text === own.text);
+  const is_shipped = work.files.length === shipped.length && shipped.every((it, k) => is_same(it, work.files[k]))
+    && booted.files.every((it) => it.text === undefined || it.text === it.from.text);
   const keys = programs.keys_of(machine.keys), is_typed = keys_in(app.events.all()).some((it, k) => it !== keys[k]);
-  if (!is_shipped || is_typed || booted.config.frames !== Number(machine.frames) || booted.how.quantum !== Number(machine.quantum)) return null;
+  if (
+    !is_shipped || is_typed || booted.config.frames !== Number(machine.frames)
+      || booted.how.quantum !== Number(machine.quantum)
+  ) {
+    return null;
+  }
   const words = new URLSearchParams({ example: name }), usual = machine_of({ ...example_of(name), rounds: true });
   if (Number(machine.frames) !== Number(usual.frames)) words.set("frames", machine.frames);
   if (Number(machine.quantum) !== Number(usual.quantum)) words.set("rounds", machine.quantum);

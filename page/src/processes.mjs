@@ -41,13 +41,18 @@ export function choose(pid) {
 
 /** The row of a process, and what it shows: only what changes is written anew. */
 function new_row(pid) {
-  const name = element("button", { "aria-label": `Look at process ${pid}` }), state = element("span"), words = document.createTextNode(""), cells = [0, 1, 2, 3, 4].map((k) => element("td", { class: k > 2 ? "number" : null }));
+  const name = element("button", { "aria-label": `Look at process ${pid}` }), state = element("span");
+  const words = document.createTextNode("");
+  const cells = [0, 1, 2, 3, 4].map((k) => element("td", { class: k > 2 ? "number" : null }));
   const place = document.createTextNode("");
   const swatch = element("span", { class: "swatch" });
   cells[0].append(swatch, place);
   cells[1].append(name);
   cells[2].append(state, words);
-  return { row: element("tr", { onclick: () => choose(pid) }, ...cells), swatch, place, name, state, words, made: cells[3], size: cells[4], told: [] };
+  return {
+    row: element("tr", { onclick: () => choose(pid) }, ...cells), swatch, place, name, state, words, made: cells[3],
+    size: cells[4], told: [],
+  };
 }
 
 function show(held, told) {
@@ -65,7 +70,8 @@ function show(held, told) {
 
 let rows = new Map(), order = "";
 function draw() {
-  const { view } = app, { current } = view, made = tree_of(view.processes), now = made.map(({ process }) => process.pid).join(" ");
+  const { view } = app, { current } = view, made = tree_of(view.processes);
+  const now = made.map(({ process }) => process.pid).join(" ");
   if (now !== order) {
     order = now;
     rows = new Map(made.map(({ process: { pid } }) => [pid, rows.get(pid) || new_row(pid)]));
@@ -73,7 +79,10 @@ function draw() {
   }
   for (const { process: it, depth } of made) {
     const [kind, words] = state_of(it, current);
-    show(rows.get(it.pid), [it.pid === view.pid, `${depth ? "  ".repeat(depth - 1) + "└ " : ""}${it.pid}`, program_name(it.program) || "?", kind, words, grouped(it.made), it.lives ? bytes_words(it.size) : "", color_of(it.pid)]);
+    show(rows.get(it.pid), [
+      it.pid === view.pid, `${depth ? "  ".repeat(depth - 1) + "└ " : ""}${it.pid}`, program_name(it.program) || "?",
+      kind, words, grouped(it.made), it.lives ? bytes_words(it.size) : "", color_of(it.pid),
+    ]);
   }
 }
 
@@ -82,7 +91,8 @@ function draw() {
 /** So many of these pids at most: those whose lives are nearest to a place of the run, first those that go on there. */
 function fitting(all, most, at) {
   if (all.length <= most) return all;
-  const { from, reaped } = app.line.lives, distance = (pid) => (from[pid] > at ? from[pid] - at : reaped[pid] < at ? at - reaped[pid] : 0);
+  const { from, reaped } = app.line.lives;
+  const distance = (pid) => (from[pid] > at ? from[pid] - at : reaped[pid] < at ? at - reaped[pid] : 0);
   const limit = Float64Array.from(all, distance).sort()[most - 1];
   let room = most - all.filter((it) => distance(it) < limit).length;
   return all.filter((it) => distance(it) < limit || (distance(it) === limit && room-- > 0));
@@ -112,7 +122,8 @@ function draw_bars(draw, pid, { from, to, scale, x_of, bar }, top) {
   const { line } = app, own = line.work_of.get(pid) ?? [];
   // The stretch before the first one tells whether it sleeps at the beginning of the part that is shown.
   for (let k = Math.max(0, line.next(own, from) - 1); k < own.length && line.at[own[k]] < to; ) {
-    const last = end_of_bar(own, k, Math.max(1 / scale, line.apart(line.at[own[k]]))), x = x_of(line.at[own[k]]), end = x_of(line.end_of(own[last]));
+    const last = end_of_bar(own, k, Math.max(1 / scale, line.apart(line.at[own[k]]))), x = x_of(line.at[own[k]]);
+    const end = x_of(line.end_of(own[last]));
     draw.fillStyle = color_of(pid);
     if (line.end_of(own[last]) > from) draw.fillRect(x, top, Math.max(0.8, end - x), bar);
     k = last + 1;
@@ -134,7 +145,8 @@ function last_that_ran(at, most) {
 
 /** A life of the picture in words. */
 function life_words({ pid, parent, from, to, reaped, by }) {
-  const name = program_name(app.names.get(pid)), words = [parent ? `forked by process ${parent} at event ${grouped(from)}` : "the first"];
+  const name = program_name(app.names.get(pid));
+  const words = [parent ? `forked by process ${parent} at event ${grouped(from)}` : "the first"];
   if (to !== Infinity) words.push(`ended at event ${grouped(to)}`);
   if (reaped !== Infinity) words.push(`the wait of process ${by} took it away at event ${grouped(reaped)}`);
   return `process ${pid}${name ? ` (${name})` : ""}: ${words.join(", ")}`;
@@ -147,7 +159,10 @@ function tell_turns(lives_shown) {
   if (view.playing && now - told_at < 1000) return;
   told_at = now;
   const ran = last_that_ran(view.at, 12), { current } = view.facts;
-  const words = [current ? `process ${current} runs` : "nobody runs", ran.length ? `up to here ran, one behind another: ${ran.join(", ")}` : "no process has run"];
+  const words = [
+    current ? `process ${current} runs` : "nobody runs",
+    ran.length ? `up to here ran, one behind another: ${ran.join(", ")}` : "no process has run",
+  ];
   $("turns-told").replaceChildren(...[...words, ...lives_shown.map(life_words)].map((it) => element("li", {}, it)));
 }
 
@@ -181,9 +196,14 @@ function draw_life(draw, it, { view, from, to, x_of, bar, high, top_of }) {
 function draw_turns() {
   const canvas = $("turns"), { draw, width, height } = fresh(canvas), { view } = app, { from, to } = range();
   if (!view || width < 40) return;
-  const { lives } = app.line, shown = fitting(lives.within(from, to), Math.max(2, Math.floor((height - 14) / 7)), view.at).map((pid) => lives.of(pid));
-  const left = 74, scale = (width - left - 4) / (to - from), x_of = (at) => left + (Math.max(from, Math.min(to, at)) - from) * scale;
-  const high = Math.min(26, (height - 14) / Math.max(1, shown.length)), bar = Math.max(2, high - 6), top_of = new Map(shown.map((it, k) => [it.pid, 4 + k * high]));
+  const { lives } = app.line;
+  const shown = fitting(
+    lives.within(from, to), Math.max(2, Math.floor((height - 14) / 7)), view.at
+  ).map((pid) => lives.of(pid));
+  const left = 74, scale = (width - left - 4) / (to - from);
+  const x_of = (at) => left + (Math.max(from, Math.min(to, at)) - from) * scale;
+  const high = Math.min(26, (height - 14) / Math.max(1, shown.length)), bar = Math.max(2, high - 6);
+  const top_of = new Map(shown.map((it, k) => [it.pid, 4 + k * high]));
   const picture = { view, from, to, scale, x_of, bar, high, top_of };
   draw.font = `${Math.min(11, Math.max(7, high - 2))}px ui-monospace, monospace`;
   for (const it of shown) draw_life(draw, it, picture);
@@ -198,7 +218,9 @@ function draw_turns() {
   draw.fillRect(x_of(view.at) - 0.5, 0, 1, height - 10);
   draw.fillStyle = style_of("--dim");
   draw.font = "10px system-ui";
-  draw.fillText("solid: it runs · blue: it sleeps · lines: forks · dotted: an end is waited for", width < 480 ? 2 : left, height - 2);
+  draw.fillText(
+    "solid: it runs · blue: it sleeps · lines: forks · dotted: an end is waited for", width < 480 ? 2 : left, height - 2
+  );
 }
 
 export function start() {
@@ -216,5 +238,8 @@ export function start() {
     const box = event.currentTarget.getBoundingClientRect(), { from, to } = range(), x = event.clientX - box.left - 74;
     if (x >= 0) ask("go", { place: Math.round(from + (x / (box.width - 78)) * (to - from)) });
   });
-  $("follow").addEventListener("change", () => { app.chosen = app.view ? app.view.pid : 1; ask("look", { pid: app.chosen, follow: $("follow").checked }); });
+  $("follow").addEventListener("change", () => {
+    app.chosen = app.view ? app.view.pid : 1;
+    ask("look", { pid: app.chosen, follow: $("follow").checked });
+  });
 }

@@ -6,7 +6,10 @@ import { is_table } from "../../anywhere/machine/line_tables.mjs";
 import { shipped_source, shipped_table } from "./shipped_sources.mjs";
 import { is_elf, is_source } from "../../anywhere/machine/file_kinds.mjs";
 import { MOST_BYTES, boot_words, files_refused, too_large } from "../../anywhere/machine/file_refusals.mjs";
-import { add, bring_back, bytes_of_file, example_of, forget_work, is_changed, own_names, put, put_away, ship_anew, title_of, touch, work_of } from "./works.mjs";
+import {
+  add, bring_back, bytes_of_file, example_of, forget_work, is_changed, own_names, put, put_away, ship_anew, title_of,
+  touch, work_of,
+} from "./works.mjs";
 import { counting } from "./breaks.mjs";
 import { problem } from "./messages.mjs";
 import * as editor from "./editor.mjs";
@@ -20,23 +23,53 @@ const SETTINGS = ["frames", "order", "quantum", "keys"];
 
 function file_button(file) {
   const is_opened = file === editor.opened();
-  return element("button", { role: "option", "aria-selected": is_opened ? "true" : "false", class: file.text === undefined ? "plain" : "", title: file.text === undefined ? "a program, or another file of bytes" : "a text", onclick: () => { editor.open(file); show_files(); tell("opened", file); } }, file.name + (file.changed ? " *" : ""));
+  return element(
+    "button",
+    {
+      role: "option", "aria-selected": is_opened ? "true" : "false", class: file.text === undefined ? "plain" : "",
+      title: file.text === undefined ? "a program, or another file of bytes" : "a text",
+      onclick: () => { editor.open(file); show_files(); tell("opened", file); },
+    },
+    file.name + (file.changed ? " *" : "")
+  );
 }
 
 const named = (button) => button.getAttribute("aria-label") ?? button.textContent.replace(/ \*$/, "");
 
 function show_files() {
-  const last = app.work.gone.at(-1), focused = $("files").contains(document.activeElement) ? named(document.activeElement) : null;
+  const last = app.work.gone.at(-1);
+  const focused = $("files").contains(document.activeElement) ? named(document.activeElement) : null;
   $("files").replaceChildren(...app.files.map(file_button),
     element("button", { title: "A new source", "aria-label": "A new source", onclick: add_source }, "+"),
-    element("button", { title: "Take this file away", "aria-label": "Take this file away", onclick: remove_opened }, "−"),
-    ...(last ? [element("button", { id: "bring-back", title: `Bring ${last.name} back, as it was before it was taken away or another took its place`, "aria-label": `Bring ${last.name} back`, onclick: bring_last_back }, `↶ ${last.name}`)] : []),
-    element("button", { id: "save", title: "Save this file on your host", "aria-label": "Save this file", onclick: save_opened }, "Save"),
-    element("button", { title: "Program files, sources, texts, or the record of a run", onclick: ask_for_files }, "Open file.."));
+    element(
+      "button", { title: "Take this file away", "aria-label": "Take this file away", onclick: remove_opened }, "−"
+    ),
+    ...(
+      last ? [
+        element(
+          "button",
+          {
+            id: "bring-back",
+            title: `Bring ${last.name} back, as it was before it was taken away or another took its place`,
+            "aria-label": `Bring ${last.name} back`, onclick: bring_last_back,
+          },
+          `↶ ${last.name}`
+        ),
+      ] : []
+    ),
+    element(
+      "button",
+      { id: "save", title: "Save this file on your host", "aria-label": "Save this file", onclick: save_opened }, "Save"
+    ),
+    element(
+      "button", { title: "Program files, sources, texts, or the record of a run", onclick: ask_for_files },
+      "Open file.."
+    ));
   // The button that had the keys has them again.
   if (focused) [...$("files").children].find((it) => named(it) === focused)?.focus();
   const { frames, order, quantum } = app.work.machine;
-  $("config-words").textContent = `${frames} frames, ${order === "rounds" ? `in rounds of ${quantum} Runs` : "as a terminal"}`;
+  $("config-words").textContent =
+    `${frames} frames, ${order === "rounds" ? `in rounds of ${quantum} Runs` : "as a terminal"}`;
 }
 
 /** Asks the host for files, which are taken as if they were dropped. */
@@ -57,7 +90,10 @@ function add_source() {
   for (let k = 2; app.files.some((it) => it.name === name); k++) name = `prog${k}.s`;
   const asked = prompt("Name of the source (a program's name and .s), or of a text", name)?.trim();
   if (!asked) return;
-  if (app.files.some((it) => it.name === asked)) { say(`There is a file ${asked} already: it stays as it is. Choose another name`); return; }
+  if (app.files.some((it) => it.name === asked)) {
+    say(`There is a file ${asked} already: it stays as it is. Choose another name`);
+    return;
+  }
   add_and_open({ name: asked, text: asked.endsWith(".s") ? "  li a0, 0\n  li a7, 2          # exit\n  ecall\n" : "" });
 }
 
@@ -86,7 +122,12 @@ function bring_last_back() {
 
 /** Hands a file to the host, which saves it. */
 export function save(name, content) {
-  const made = element("a", { href: URL.createObjectURL(new Blob([content], { type: typeof content === "string" ? "text/plain" : "application/octet-stream" })), download: name });
+  const made = element("a", {
+    href: URL.createObjectURL(
+      new Blob([content], { type: typeof content === "string" ? "text/plain" : "application/octet-stream" })
+    ),
+    download: name,
+  });
   made.click();
   setTimeout(() => URL.revokeObjectURL(made.href), 60000);
 }
@@ -102,7 +143,10 @@ function save_opened() {
 function show_work() {
   const { work } = app;
   for (const it of SETTINGS) $(it).value = work.machine[it];
-  editor.open(app.files.find((it) => it.name === work.shown) || app.files.find((it) => it.text !== undefined && it.name.endsWith(".s")) || app.files[0] || null);
+  editor.open(
+    app.files.find((it) => it.name === work.shown)
+      || app.files.find((it) => it.text !== undefined && it.name.endsWith(".s")) || app.files[0] || null
+  );
   show_files();
   show_works();
   tell("work", work);
@@ -143,7 +187,14 @@ function show_works() {
   const chosen = $("example"), own = own_names(), { name } = app.work;
   if (!example_of(name) && !own.includes(name)) own.push(name);
   const option = (it, words) => element("option", { value: it }, words + (is_changed(it) ? " *" : ""));
-  chosen.replaceChildren(...Object.keys(DATA.examples).map((it) => option(it, words_of_example(it))), ...(own.length ? [element("optgroup", { label: "lessons, links, your own" }, ...own.map((it) => option(it, title_of(it))))] : []));
+  chosen.replaceChildren(
+    ...Object.keys(DATA.examples).map((it) => option(it, words_of_example(it))),
+    ...(
+      own.length
+        ? [element("optgroup", { label: "lessons, links, your own" }, ...own.map((it) => option(it, title_of(it))))]
+        : []
+    )
+  );
   chosen.value = name;
   $("as-shipped").hidden = !(app.work.example && app.work.is_touched);
   $("forget").hidden = !(!app.work.example && app.work.is_touched);
@@ -169,7 +220,12 @@ async function forget() {
 
 /** The keys that are written as text: \n, \t, \\ and \x04 stand for bytes. */
 export function keys_of(text) {
-  return new TextEncoder().encode(text.replace(/\\(x[0-9a-fA-F]{2}|.)/g, (_, it) => (it[0] === "x" && it.length === 3 ? String.fromCharCode(parseInt(it.slice(1), 16)) : { n: "\n", t: "\t", r: "\r" }[it] || it)));
+  return new TextEncoder().encode(
+    text.replace(/\\(x[0-9a-fA-F]{2}|.)/g, (_, it) => (
+      it[0] === "x" && it.length === 3 ? String.fromCharCode(parseInt(it.slice(1), 16))
+        : { n: "\n", t: "\t", r: "\r" }[it] || it
+    ))
+  );
 }
 
 function assembled(text) {
@@ -222,7 +278,9 @@ export function begin(what, { files, config, how, ...more }) {
   const id = ++boots;
   const booted = { files, config, how, work: app.work.name, symbols: files.map((it) => it.symbols) };
   bootings.set(id, booted);
-  ask(what, { id, config, how, files: files.map(({ name, bytes }) => ({ name, bytes })), breaks: counting(booted), ...more });
+  ask(what, {
+    id, config, how, files: files.map(({ name, bytes }) => ({ name, bytes })), breaks: counting(booted), ...more,
+  });
 }
 
 /** A boot that the kernel refuses: the machine before stays. */
@@ -234,7 +292,10 @@ export function refused({ id, refusal }) {
 
 /** The machine that settings mean: {config, how, keys}. */
 export function meant({ frames, order, quantum, keys }) {
-  return { config: { frames: Number(frames) || 0, trace: 0 }, how: { rounds: order === "rounds", quantum: Math.max(1, Number(quantum) || 1000) }, keys: [...keys_of(keys)] };
+  return {
+    config: { frames: Number(frames) || 0, trace: 0 },
+    how: { rounds: order === "rounds", quantum: Math.max(1, Number(quantum) || 1000) }, keys: [...keys_of(keys)],
+  };
 }
 
 /** Says which rows of the table of a program's lines, that was dropped, are none. */
@@ -248,7 +309,8 @@ function tell_wrong_rows({ from, symbols }) {
 
 /** The files of the machine, of those of the list; null if one is refused, which is told. */
 export async function made_of_all(list) {
-  const files = await Promise.all(list.filter((it) => !stands_beside(it)).map(made_of)), wrong = files.find((it) => it.mistake);
+  const files = await Promise.all(list.filter((it) => !stands_beside(it)).map(made_of));
+  const wrong = files.find((it) => it.mistake);
   if (wrong) {
     if (app.files.includes(wrong.from)) editor.open(wrong.from);
     show_files();
@@ -314,7 +376,9 @@ export async function take(list) {
     }
   }
   if (taken.length) { editor.open(taken.at(-1)); show_files(); tell("taken"); }
-  const words = taken.length ? `${taken.length} file${taken.length > 1 ? "s" : ""} taken. Boot runs the machine with ${taken.length > 1 ? "them" : "it"}.` : "";
+  const words = taken.length
+    ? `${taken.length} file${taken.length > 1 ? "s" : ""} taken. Boot runs the machine with ${taken.length > 1 ? "them" : "it"}.`
+    : "";
   if (refusals.length) {
     problem(`Not taken: ${refusals.join("; ")}.`);
     refuse([`Not taken: ${refusals.join("; ")}.`, words].join(" ").trim());
@@ -328,7 +392,9 @@ export function start() {
   $("boot").addEventListener("click", () => boot());
   $("open-file").addEventListener("click", ask_for_files);
   $("file").addEventListener("change", take_asked);
-  for (const it of SETTINGS) $(it).addEventListener("change", () => { app.work.machine[it] = $(it).value; touch(); show_files(); });
+  for (const it of SETTINGS) {
+    $(it).addEventListener("change", () => { app.work.machine[it] = $(it).value; touch(); show_files(); });
+  }
   on("touched", show_works);
   on("marked", show_files);
   on("opened", (file) => { app.work.shown = file.name; });
@@ -336,7 +402,15 @@ export function start() {
   let depth = 0;
   const has_files = (event) => [...(event.dataTransfer?.types || [])].includes("Files");
   addEventListener("dragenter", (event) => { if (has_files(event)) { depth++; $("drop").hidden = false; } });
-  addEventListener("dragleave", (event) => { if (has_files(event) && --depth <= 0) { depth = 0; $("drop").hidden = true; } });
+  addEventListener("dragleave", (event) => {
+    if (has_files(event) && --depth <= 0) { depth = 0; $("drop").hidden = true; }
+  });
   addEventListener("dragover", (event) => { if (has_files(event)) event.preventDefault(); });
-  addEventListener("drop", (event) => { if (!has_files(event)) return; event.preventDefault(); depth = 0; $("drop").hidden = true; take([...event.dataTransfer.files]); });
+  addEventListener("drop", (event) => {
+    if (!has_files(event)) return;
+    event.preventDefault();
+    depth = 0;
+    $("drop").hidden = true;
+    take([...event.dataTransfer.files]);
+  });
 }

@@ -28,7 +28,8 @@ export function run_now(is_whole = false) {
   // A file that was edited since is not what the machine has.
   const files = booted.files.map(({ name, from, text }) => {
     const place = app.files.indexOf(from);
-    return place >= 0 && from.text === text && !is_whole ? { name, place } : { name, file: packed_file(text !== undefined ? { name: from.name, text } : from) };
+    return place >= 0 && from.text === text && !is_whole ? { name, place }
+      : { name, file: packed_file(text !== undefined ? { name: from.name, text } : from) };
   });
   return {
     built: DATA.built, files, frames: booted.config.frames, how: booted.how, events: events.all(), end: view.end,
@@ -77,8 +78,15 @@ async function packed(value) {
  */
 function shared() {
   const { work } = app, { frames, order, quantum, keys } = work.machine;
-  const files = work.files.map((file) => (file.text !== undefined ? [file.name, file.text] : file.built_in ? [file.name] : [file.name, null, base64.to(bytes_of_file(file))]));
-  return { files, frames: Number(frames), rounds: order === "rounds", quantum: Number(quantum), keys: new TextDecoder().decode(programs.keys_of(keys)), stops: work.files.map((it) => it.stops ?? []), breaks: work.breaks, run: run_now() };
+  const files = work.files.map((file) => (
+    file.text !== undefined ? [file.name, file.text] : file.built_in ? [file.name]
+      : [file.name, null, base64.to(bytes_of_file(file))]
+  ));
+  return {
+    files, frames: Number(frames), rounds: order === "rounds", quantum: Number(quantum),
+    keys: new TextDecoder().decode(programs.keys_of(keys)), stops: work.files.map((it) => it.stops ?? []),
+    breaks: work.breaks, run: run_now(),
+  };
 }
 
 const page_address = () => location.href.split("#")[0].split("?")[0];
@@ -90,7 +98,9 @@ export const link = async () => of_packed(await packed(shared()));
 async function name_of(text) {
   const first = `link ${(await sum_of(new TextEncoder().encode(text.trim()))).slice(0, 6)}`;
   let name = first;
-  for (let k = 2; work_of(name)?.files.some((file) => file.changed) || work_of(name)?.gone.length; k++) name = `${first}, ${k}`;
+  for (let k = 2; work_of(name)?.files.some((file) => file.changed) || work_of(name)?.gone.length; k++) {
+    name = `${first}, ${k}`;
+  }
   return name;
 }
 
@@ -115,7 +125,9 @@ async function open(packed_text) {
     return true;
   }
   const is_there = await is_booted(() => programs.boot());
-  if (it.run) problem("The programs are there, and the run begins anew: this page is another one than that which made it.");
+  if (it.run) {
+    problem("The programs are there, and the run begins anew: this page is another one than that which made it.");
+  }
   return is_there;
 }
 
@@ -193,28 +205,55 @@ async function take_shared(text, name) {
 // ---- the dialog
 
 function share_words(length, run) {
-  const is_local = location.protocol === "file:", place = run ? `all keys that were typed, and the place: event ${grouped(run.at)} of ${grouped(run.end)}` : "the keys that are typed at the start";
+  const is_local = location.protocol === "file:";
+  const place = run ? `all keys that were typed, and the place: event ${grouped(run.at)} of ${grouped(run.end)}`
+    : "the keys that are typed at the start";
   return [`This link has the programs, the machine, its break points, ${place} (${grouped(length)} characters). ${run ? "Who opens it has the same run, and stands at the same place." : "The run is too long to be handed on: who opens it has it from its beginning."}`,
-    is_local ? "This page was opened from a file of your host: so the link works here alone, and elsewhere only where the page is served or lies at the same path. Hand on the file in its place: it has the same, and is opened by Open file.., or dropped on the page." : "",
-    length > MOST_LETTERS ? "So long a link is cut off by some programs: hand on the file in its place." : ""].filter((it) => it);
+    is_local
+      ? "This page was opened from a file of your host: so the link works here alone, and elsewhere only where the page is served or lies at the same path. Hand on the file in its place: it has the same, and is opened by Open file.., or dropped on the page."
+      : "",
+    length > MOST_LETTERS ? "So long a link is cut off by some programs: hand on the file in its place."
+      : ""].filter((it) => it);
 }
 
 /** The links that the dialog offers: what each is for, and the link. */
 function links_of(packed_run) {
   const seen = seen_now(), short = short_place(), run = short ?? `run=${packed_run}&${seen}`;
-  return [["all of it", of_packed(packed_run)], ["this place, with its panel", `${page_address()}#${run}`], ["a slide, with large letters", `${page_address()}#${run}&view=lecture`],
-    ["an iframe in a page of yours", `<iframe src="${page_address()}?embed#${run}" width="1000" height="560"></iframe>`]];
+  return [["all of it", of_packed(packed_run)], ["this place, with its panel", `${page_address()}#${run}`], [
+    "a slide, with large letters", `${page_address()}#${run}&view=lecture`,
+  ],
+    [
+      "an iframe in a page of yours",
+      `<iframe src="${page_address()}?embed#${run}" width="1000" height="560"></iframe>`,
+    ]];
 }
 
 async function share() {
-  const dialog = $("dialog"), body = dialog.querySelector("div"), text = element("textarea", { readonly: true, "aria-label": "Link" }), it = shared(), of_it = await packed(it), links = links_of(of_it);
-  const choice = element("select", { id: "share-what", onchange: () => { text.value = links[choice.value][1]; text.select(); } }, ...links.map(([words], k) => element("option", { value: k }, words)));
+  const dialog = $("dialog"), body = dialog.querySelector("div");
+  const text = element("textarea", { readonly: true, "aria-label": "Link" }), it = shared(), of_it = await packed(it);
+  const links = links_of(of_it);
+  const choice = element(
+    "select", { id: "share-what", onchange: () => { text.value = links[choice.value][1]; text.select(); } },
+    ...links.map(([words], k) => element("option", { value: k }, words))
+  );
   text.value = links[0][1];
-  const copy = element("button", { class: "main", onclick: () => { text.select(); navigator.clipboard?.writeText(text.value); } }, "Copy");
-  const file = element("button", { id: "save-shared", onclick: () => programs.save("nektavoly-run.txt", BEGINNING + of_it + "\n") }, "Save the same as a file");
-  const record = element("button", { onclick: async () => programs.save("run.txt", await run_as_record()) }, "Save the run as a record");
-  body.replaceChildren(element("h2", {}, "Share"), ...share_words(text.value.length, it.run).map((words) => element("p", {}, words)), element("p", {}, element("label", {}, "a link to ", choice)), text, element("p", {}, copy, " ", file, " ", record),
-    element("p", {}, "The record has each event of the run, and the sums of its programs, and no program: the terminal plays it too. Drop it on the page, or choose it by Open file.., to have the run again."),
+  const copy = element(
+    "button", { class: "main", onclick: () => { text.select(); navigator.clipboard?.writeText(text.value); } }, "Copy"
+  );
+  const file = element(
+    "button", { id: "save-shared", onclick: () => programs.save("nektavoly-run.txt", BEGINNING + of_it + "\n") },
+    "Save the same as a file"
+  );
+  const record = element(
+    "button", { onclick: async () => programs.save("run.txt", await run_as_record()) }, "Save the run as a record"
+  );
+  body.replaceChildren(element("h2", {}, "Share"), ...share_words(text.value.length, it.run).map(
+    (words) => element("p", {}, words)
+  ), element("p", {}, element("label", {}, "a link to ", choice)), text, element("p", {}, copy, " ", file, " ", record),
+    element(
+      "p", {},
+      "The record has each event of the run, and the sums of its programs, and no program: the terminal plays it too. Drop it on the page, or choose it by Open file.., to have the run again."
+    ),
     element("details", {}, element("summary", {}, "Twelve slides for a course"), listed_slides()));
   if (!dialog.open) dialog.showModal();
   text.select();
@@ -223,7 +262,9 @@ async function share() {
 // ---- records: the text of a run that the terminal plays too
 
 async function sum_of(bytes) {
-  return [...new Uint8Array(await crypto.subtle.digest("SHA-256", bytes))].map((it) => it.toString(16).padStart(2, "0")).join("");
+  return [
+    ...new Uint8Array(await crypto.subtle.digest("SHA-256", bytes)),
+  ].map((it) => it.toString(16).padStart(2, "0")).join("");
 }
 
 /** The text of a record of what the worker has told. */
@@ -241,7 +282,9 @@ export const run_as_record = () => new Promise((done) => {
 /** The files that a record may mean, by their sums: those of the list, and the programs of the page. */
 async function files_by_sum() {
   const found = new Map();
-  const built_in = Object.entries(DATA.programs).map(([name, bytes]) => ({ name, bytes: base64.of(bytes), built_in: true }));
+  const built_in = Object.entries(DATA.programs).map(([name, bytes]) => (
+    { name, bytes: base64.of(bytes), built_in: true }
+  ));
   for (const file of [...built_in, ...app.files]) {
     const made = await programs.made_of(file);
     if (!made.mistake) found.set(await sum_of(made.bytes), made);
@@ -252,9 +295,14 @@ async function files_by_sum() {
 /** Plays a record, of programs that are here. */
 async function play_record(text, name) {
   try {
-    const said = read_record(text), known = await files_by_sum(), missing = said.programs.find(({ sum }) => !known.has(sum));
+    const said = read_record(text), known = await files_by_sum();
+    const missing = said.programs.find(({ sum }) => !known.has(sum));
     const count = said.spans.reduce((sum, [, , many]) => sum + many, 0);
-    if (count > MOST_EVENTS) throw new Error(`it has ${grouped(count)} events, and the page plays ${grouped(MOST_EVENTS)} at most: the terminal plays it`);
+    if (count > MOST_EVENTS) {
+      throw new Error(
+        `it has ${grouped(count)} events, and the page plays ${grouped(MOST_EVENTS)} at most: the terminal plays it`
+      );
+    }
     if (missing) throw new Error(`the record wants another file ${missing.name}: add it first`);
     const files = said.programs.map((it) => ({ ...known.get(it.sum), name: it.name }));
     programs.begin("replay", { files, config: { frames: said.frames, trace: 0 }, how: {}, spans: said.spans });

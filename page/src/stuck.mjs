@@ -8,7 +8,8 @@ const MOST_TOLD = 4; // processes
 /** The processes that live, if nobody can go on; else null. */
 export function stuck() {
   const { view } = app;
-  return !view?.files || !view.processes || view.facts.halted ? null : deadlocked(view.processes, view.files.descriptors);
+  return !view?.files || !view.processes || view.facts.halted ? null
+    : deadlocked(view.processes, view.files.descriptors);
 }
 
 const sleep_words = ({ pid, program, call }) => `${pid} (${program_name(program)}) sleeps in ${call_name(call.number)}`;

@@ -4,7 +4,10 @@ import { $, app, ask, element, on, tell, say, write } from "./app.mjs";
 const MOST_LINES = 3000, MOST_HEARD = 30;
 const MOST_DRAWN = 1500, KEPT_DRAWN = 1000; // lines: so many may stand on the screen, and so many are left then
 const shown = { bytes: 0, lines: [""], count: 0, row: [], column: 0 };
-const drawn = { lines: document.createTextNode(""), left: document.createTextNode(""), caret: element("span", { class: "caret" }), right: document.createTextNode(""), from: 0, to: 0 };
+const drawn = {
+  lines: document.createTextNode(""), left: document.createTextNode(""), caret: element("span", { class: "caret" }),
+  right: document.createTextNode(""), from: 0, to: 0,
+};
 let heard = 0; // how many whole lines were told to readers of the screen
 const decoder = new TextDecoder();
 
@@ -37,7 +40,9 @@ function take(bytes) {
 
 /** Draws the whole lines that came: behind those that are there, which the browser needn't lay out anew. */
 function draw_lines() {
-  const text_from = (first) => shown.lines.slice(Math.max(0, shown.lines.length - (shown.count - first))).map((it) => it + "\n").join("");
+  const text_from = (first) => (
+    shown.lines.slice(Math.max(0, shown.lines.length - (shown.count - first))).map((it) => it + "\n").join("")
+  );
   if (shown.count - drawn.from > MOST_DRAWN) {
     drawn.from = shown.count - KEPT_DRAWN;
     drawn.lines.data = text_from(drawn.from);
@@ -52,7 +57,9 @@ function draw() {
   if (shown.bytes === text.length && shown.drawn) return;
   take(text.subarray(shown.bytes));
   shown.end = app.view.shown;
-  const screen = $("screen"), row = [...shown.row], left = decoder.decode(Uint8Array.from(row.slice(0, shown.column))), under = row[shown.column] === undefined ? " " : String.fromCharCode(row[shown.column]), right = decoder.decode(Uint8Array.from(row.slice(shown.column + 1)));
+  const screen = $("screen"), row = [...shown.row], left = decoder.decode(Uint8Array.from(row.slice(0, shown.column)));
+  const under = row[shown.column] === undefined ? " " : String.fromCharCode(row[shown.column]);
+  const right = decoder.decode(Uint8Array.from(row.slice(shown.column + 1)));
   const at_end = screen.scrollHeight - screen.scrollTop - screen.clientHeight < 60;
   draw_lines();
   write(drawn.left, left);
@@ -111,16 +118,24 @@ function key(event) {
   const byte = { Enter: 10, Backspace: 127, Tab: 9 }[event.key];
   if (event.key === "Tab" && event.shiftKey) return;
   if (byte !== undefined) { event.preventDefault(); type([byte]); return; }
-  if (event.key.length === 1 || [...event.key].length === 1) { event.preventDefault(); type(new TextEncoder().encode(event.key)); }
+  if (event.key.length === 1 || [...event.key].length === 1) {
+    event.preventDefault();
+    type(new TextEncoder().encode(event.key));
+  }
 }
 
 export function start() {
   const screen = $("screen"), typed = $("typed");
   screen.firstElementChild.append(drawn.lines, drawn.left, drawn.caret, drawn.right);
   screen.addEventListener("keydown", key);
-  typed.addEventListener("keydown", (event) => { if (event.key !== "Unidentified" && event.keyCode !== 229) key(event); });
+  typed.addEventListener("keydown", (event) => {
+    if (event.key !== "Unidentified" && event.keyCode !== 229) key(event);
+  });
   // (A phone's keyboard gives text, not keys.)
-  typed.addEventListener("input", () => { if (typed.value) type(new TextEncoder().encode(typed.value)); typed.value = ""; });
+  typed.addEventListener("input", () => {
+    if (typed.value) type(new TextEncoder().encode(typed.value));
+    typed.value = "";
+  });
   const paste = (event) => {
     const text = event.clipboardData.getData("text");
     event.preventDefault();
@@ -132,7 +147,9 @@ export function start() {
     it.addEventListener("focus", () => screen.classList.add("has-keys"));
     it.addEventListener("blur", () => screen.classList.remove("has-keys"));
   }
-  screen.addEventListener("click", () => { if (!String(getSelection()) && matchMedia("(pointer: coarse)").matches) typed.focus(); });
+  screen.addEventListener("click", () => {
+    if (!String(getSelection()) && matchMedia("(pointer: coarse)").matches) typed.focus();
+  });
   on("view", () => { draw(); tell_lines(); });
   on("booted", () => {
     clear();

@@ -9,7 +9,8 @@ import { Lives } from "../../anywhere/machine/process_lives.mjs";
 const MOST = 98304; // stretches, before they are thinned out
 const LAST = 8192; // of them are left in any case
 const MOST_THIN = 32768; // are left of those before, but for parts that are looked at
-const GRAINS = 8192; // into which a run is divided at most, of each of which a stretch is left: more than a picture has pixels
+// into which a run is divided at most, of each of which a stretch is left: more than a picture has pixels
+const GRAINS = 8192;
 
 export class ThinnedRecord extends Timeline {
   constructor() {
@@ -17,7 +18,8 @@ export class ThinnedRecord extends Timeline {
     this.lives = new Lives();
     this.whole_from = 0; // from this place on all stretches are here
     this.parts = new Map(); // parts of which all are here too, by their names: {from, to}
-    this.cell = 1; // events of a cell, one grain or many: of it so many stretches are left that each kind and each process is seen
+    // events of a cell, one grain or many: of it so many stretches are left that each kind and each process is seen
+    this.cell = 1;
     this.clear_lists();
   }
 
@@ -26,7 +28,9 @@ export class ThinnedRecord extends Timeline {
     this.work_of = new Map(); // the same, of each process
     this.marks = { call: [], end: [], fault: [], tick: [], key: [] };
     const { call, end, fault, tick, key } = this.marks;
-    this.mark_of = { [KIND.CALL]: call, [KIND.WAIT]: call, [KIND.EXIT]: end, [KIND.FAULT]: fault, [KIND.TICK]: tick, [KIND.KEY]: key };
+    this.mark_of = {
+      [KIND.CALL]: call, [KIND.WAIT]: call, [KIND.EXIT]: end, [KIND.FAULT]: fault, [KIND.TICK]: tick, [KIND.KEY]: key,
+    };
   }
 
   /** The list of a process's stretches. */
@@ -75,7 +79,9 @@ export class ThinnedRecord extends Timeline {
     this.lives.cut(place);
     super.cut(place);
     this.whole_from = Math.min(this.whole_from, place);
-    for (const [name, it] of this.parts) if (it.from >= place) this.parts.delete(name); else it.to = Math.min(it.to, place);
+    for (const [name, it] of this.parts) {
+      if (it.from >= place) this.parts.delete(name); else it.to = Math.min(it.to, place);
+    }
   }
 
   /** Whether all stretches of a part are here. */
@@ -90,7 +96,10 @@ export class ThinnedRecord extends Timeline {
 
   /** Leaves the last stretches, those of the parts, and so many others. */
   thin() {
-    const whole = this.length - LAST, of_parts = [...this.parts.values()].reduce((sum, it) => sum + this.find(it.to - 1) - this.find(it.from) + 1, 0);
+    const whole = this.length - LAST;
+    const of_parts = [...this.parts.values()].reduce(
+      (sum, it) => sum + this.find(it.to - 1) - this.find(it.from) + 1, 0
+    );
     this.whole_from = Math.max(this.whole_from, this.at[whole]);
     this.grain = 2 ** Math.max(0, Math.ceil(Math.log2(this.end / GRAINS)));
     this.cell = Math.max(this.cell, this.grain);
@@ -112,8 +121,10 @@ export class ThinnedRecord extends Timeline {
    * the last of a process, if it falls asleep there and the one before that is left does not, or the other way round.
    */
   left(some) {
-    const { at, pid, kind, cell, grain } = this, count = this.lives.most + 1, cells = new Int32Array(count).fill(-1), last = new Int32Array(count).fill(-1), held = new Int32Array(count);
-    const is_left = new Uint8Array(this.length), sleeps = (k) => kind[k] === KIND.WAIT, is_work = (k) => kind[k] <= KIND.FAULT;
+    const { at, pid, kind, cell, grain } = this, count = this.lives.most + 1, cells = new Int32Array(count).fill(-1);
+    const last = new Int32Array(count).fill(-1), held = new Int32Array(count);
+    const is_left = new Uint8Array(this.length), sleeps = (k) => kind[k] === KIND.WAIT;
+    const is_work = (k) => kind[k] <= KIND.FAULT;
     const rank = (k) => (is_work(k) ? (kind[k] === KIND.STEP ? 1 : 2) : 0);
     const leave = (k) => { is_left[k] = 1; if (is_work(k)) held[pid[k]] = Math.max(held[pid[k]], k); };
     const end_cell = (own) => { if (last[own] >= 0 && sleeps(last[own]) !== sleeps(held[own])) leave(last[own]); };
@@ -121,7 +132,12 @@ export class ThinnedRecord extends Timeline {
     let grains = -1, best = -1, all = -1, kinds = 0;
     for (const k of some) {
       const now = Math.floor(at[k] / cell), now_grain = Math.floor(at[k] / grain), bit = 1 << kind[k], own = pid[k];
-      if (now_grain !== grains) { if (best >= 0) leave(best); grains = now_grain; best = k; } else if (rank(k) > rank(best)) best = k;
+      if (now_grain !== grains) {
+        if (best >= 0) leave(best);
+        grains = now_grain;
+        best = k;
+      } else if (rank(k) > rank(best)) best =
+        k;
       if (now !== all) { all = now; kinds = 0; }
       const is_new = is_work(k) && cells[own] !== now;
       if (is_new) { end_cell(own); cells[own] = now; }

@@ -1,5 +1,7 @@
 // Time: play and pause, steps forward and back, the slider over the whole run, zoom.
-import { $, app, ask, color_of, element, fresh, in_time, on, program_name, say, style_of, tell, write } from "./app.mjs";
+import {
+  $, app, ask, color_of, element, fresh, in_time, on, program_name, say, style_of, tell, write,
+} from "./app.mjs";
 import { grouped } from "../../anywhere/machine/number_words.mjs";
 import { KIND } from "../../anywhere/machine/machine.mjs";
 import { call_name } from "../../anywhere/machine/calls.mjs";
@@ -19,7 +21,8 @@ export function range() {
 }
 
 function zoom(factor) {
-  const { from, to } = range(), at = app.view ? app.view.at : 0, middle = at >= from && at <= to ? at : (from + to) / 2, half = Math.max(10, ((to - from) * factor) / 2);
+  const { from, to } = range(), at = app.view ? app.view.at : 0, middle = at >= from && at <= to ? at : (from + to) / 2;
+  const half = Math.max(10, ((to - from) * factor) / 2);
   window_.whole = half * 2 >= app.line.end;
   window_.from = Math.max(0, middle - half);
   window_.to = middle + half;
@@ -103,7 +106,9 @@ function draw_slider() {
 /** What came of the event at a place, in words; none if the page doesn't have it. */
 export function event_words(place) {
   const { line } = app, found = line.find(place);
-  return found < 0 || !line.has(place, place) ? "" : words_of_event({ kind: line.kind[found], pid: line.pid[found], number: line.number[found], value: line.value[found] });
+  return found < 0 || !line.has(place, place) ? "" : words_of_event({
+    kind: line.kind[found], pid: line.pid[found], number: line.number[found], value: line.value[found],
+  });
 }
 
 /** An outcome in words. */
@@ -159,13 +164,24 @@ export function step(what, back) {
   if (app.booted) ask("step", { what, back });
 }
 
-const clock = { words: document.createTextNode(""), stuck: element("button", { id: "stuck", hidden: true, title: "To the call that sleeps, and to its line", onclick: () => tell("see stuck") }), last: element("span"), between: document.createTextNode(""), stopped: element("b") };
+const clock = {
+  words: document.createTextNode(""),
+  stuck: element("button", {
+    id: "stuck", hidden: true, title: "To the call that sleeps, and to its line", onclick: () => tell("see stuck"),
+  }),
+  last: element("span"), between: document.createTextNode(""), stopped: element("b"),
+};
 
 function told() {
   const { view } = app, { facts } = view;
   write($("play"), view.playing ? "❚❚ Pause" : "▶ Play");
-  const past = view.at < view.end, state = facts.halted ? `ended with ${facts.status}` : facts.current ? `${program_name(view.program)} (${facts.current}) runs` : "nobody runs";
-  write(clock.words, `event ${grouped(view.at)}${past ? ` of ${grouped(view.end)}` : ""} · tick ${grouped(facts.clock)} · ${state}`);
+  const past = view.at < view.end;
+  const state = facts.halted ? `ended with ${facts.status}`
+    : facts.current ? `${program_name(view.program)} (${facts.current}) runs` : "nobody runs";
+  write(
+    clock.words,
+    `event ${grouped(view.at)}${past ? ` of ${grouped(view.end)}` : ""} · tick ${grouped(facts.clock)} · ${state}`
+  );
   const last = view.playing || view.at === 0 ? "" : event_words(view.at - 1);
   write(clock.last, last && ` · last: ${last}`);
   const stopped = !view.playing && view.stopped !== "paused" ? view.stopped : "";
@@ -179,7 +195,9 @@ function tell_stuck() {
   const list = stuck(), words = list ? stuck_words(list) : "";
   write(clock.stuck, words);
   clock.stuck.hidden = !words;
-  if (words && words !== said_of) say(`${words[0].toUpperCase()}${words.slice(1)}. The tab Why tells who could wake whom.`);
+  if (words && words !== said_of) {
+    say(`${words[0].toUpperCase()}${words.slice(1)}. The tab Why tells who could wake whom.`);
+  }
   said_of = words;
 }
 
@@ -189,7 +207,9 @@ function tell_futures() {
   const list = app.view.futures, last = list.at(-1), button = $("take-back");
   button.hidden = !last;
   if (last) write(button, `↶ ${grouped(last.count)} events, cut off at ${grouped(last.at)}`);
-  if (list.length > futures) say(`The key has cut off the ${grouped(last.count)} events that came here before. The button ↶ takes them back.`);
+  if (list.length > futures) {
+    say(`The key has cut off the ${grouped(last.count)} events that came here before. The button ↶ takes them back.`);
+  }
   futures = list.length;
 }
 
@@ -218,15 +238,22 @@ function key(event) {
 
 function start_slider() {
   const slider = $("slider");
-  slider.addEventListener("pointerdown", (event) => { dragging = true; slider.setPointerCapture(event.pointerId); go(at_pointer(event)); });
+  slider.addEventListener("pointerdown", (event) => {
+    dragging = true;
+    slider.setPointerCapture(event.pointerId);
+    go(at_pointer(event));
+  });
   slider.addEventListener("pointermove", (event) => {
     if (dragging) go(at_pointer(event));
     else slider.title = event_words(Math.floor(at_pointer(event)));
   });
   slider.addEventListener("pointerup", () => { dragging = false; });
-  slider.addEventListener("wheel", (event) => { event.preventDefault(); zoom(event.deltaY > 0 ? 1.5 : 0.67); }, { passive: false });
+  slider.addEventListener("wheel", (event) => { event.preventDefault(); zoom(event.deltaY > 0 ? 1.5 : 0.67); }, {
+    passive: false,
+  });
   slider.addEventListener("keydown", (event) => {
-    const { from, to } = range(), by = { ArrowLeft: -1, ArrowRight: 1, PageDown: -(to - from) / 20, PageUp: (to - from) / 20 }[event.key];
+    const { from, to } = range();
+    const by = { ArrowLeft: -1, ArrowRight: 1, PageDown: -(to - from) / 20, PageUp: (to - from) / 20 }[event.key];
     if (event.key === "Home") go(0);
     else if (event.key === "End") go(app.line.end);
     else if (by === -1 || by === 1) step("one", by < 0);
@@ -242,10 +269,18 @@ function start_slider() {
 export function start() {
   $("clock").append(...Object.values(clock));
   $("play").addEventListener("click", toggle);
-  for (const it of document.querySelectorAll("[data-step]")) it.addEventListener("click", () => step(it.dataset.step, false));
-  for (const it of document.querySelectorAll("[data-back]")) it.addEventListener("click", () => step(it.dataset.back, true));
+  for (const it of document.querySelectorAll("[data-step]")) {
+    it.addEventListener("click", () => step(it.dataset.step, false));
+  }
+  for (const it of document.querySelectorAll("[data-back]")) {
+    it.addEventListener("click", () => step(it.dataset.back, true));
+  }
   $("speed").addEventListener("change", () => ask("settings", { speed: Number($("speed").value) }));
-  $("take-back").addEventListener("click", () => { futures = Infinity; ask("take_back"); say("What the key had cut off is back."); });
+  $("take-back").addEventListener("click", () => {
+    futures = Infinity;
+    ask("take_back");
+    say("What the key had cut off is back.");
+  });
   $("zoom-in").addEventListener("click", () => zoom(0.25));
   $("zoom-out").addEventListener("click", () => zoom(4));
   $("zoom-all").addEventListener("click", () => { window_.whole = true; tell("zoom"); });
@@ -256,7 +291,11 @@ export function start() {
   on("view", () => {
     const { from, to } = range(), { at } = app.view;
     // The window follows the place.
-    if (!window_.whole && (at < from || at > to)) { const width = to - from; window_.from = Math.max(0, at - width * 0.7); window_.to = window_.from + width; }
+    if (!window_.whole && (at < from || at > to)) {
+      const width = to - from;
+      window_.from = Math.max(0, at - width * 0.7);
+      window_.to = window_.from + width;
+    }
     told();
     show_slider();
   });

@@ -15,7 +15,8 @@ export const bytes_of_file = (file) => file.bytes || (file.bytes = base64.of(fil
 /** A file as it is kept: its own text or bytes, or that the page has it. */
 export function packed_file(file) {
   const { name, text, built_in, changed, stops } = file;
-  const what = text !== undefined ? { text } : built_in ? { built_in } : { base64: (file.base64 ??= base64.to(file.bytes)) };
+  const what = text !== undefined ? { text } : built_in ? { built_in }
+    : { base64: (file.base64 ??= base64.to(file.bytes)) };
   return { name, ...what, ...(changed ? { changed } : {}), ...(stops?.length ? { stops } : {}) };
 }
 
@@ -32,12 +33,17 @@ export const example_of = (name) => entry(DATA.examples, name);
 /** The files of an example as it was shipped. */
 export function shipped_files(example) {
   const { files, programs = [] } = example_of(example);
-  return [...files.map((it) => ({ ...it })), ...programs.map((name) => ({ name, bytes: base64.of(DATA.programs[name]), built_in: true }))];
+  return [
+    ...files.map((it) => ({ ...it })),
+    ...programs.map((name) => ({ name, bytes: base64.of(DATA.programs[name]), built_in: true })),
+  ];
 }
 
 const shown_keys = (keys) => keys.replace(/\\/g, "\\\\").replace(/\n/g, "\\n").replace(/\x04/g, "\\x04");
 /** The machine's settings, as the form has them: the keys are written with \n for Enter. */
-export const machine_of = ({ frames, rounds, quantum, keys }) => ({ frames: frames || 4096, order: rounds ? "rounds" : "live", quantum: quantum || 1000, keys: shown_keys(keys || "") });
+export const machine_of = ({ frames, rounds, quantum, keys }) => ({
+  frames: frames || 4096, order: rounds ? "rounds" : "live", quantum: quantum || 1000, keys: shown_keys(keys || ""),
+});
 
 // ---- opening
 
@@ -74,7 +80,10 @@ export function work_of(name, fresh = example_of(name) ? of_example(name) : null
 
 /** The names of the works that are no examples. */
 export function own_names() {
-  const names = new Set([...names_kept("work ").map((it) => it.slice(5)), ...[...opened.values()].filter((it) => it.is_touched).map((it) => it.name)]);
+  const names = new Set([
+    ...names_kept("work ").map((it) => it.slice(5)),
+    ...[...opened.values()].filter((it) => it.is_touched).map((it) => it.name),
+  ]);
   return [...names].filter((name) => !example_of(name)).sort();
 }
 export const is_changed = (name) => opened.get(name)?.is_touched ?? names_kept(`work ${name}`).includes(`work ${name}`);
@@ -93,7 +102,10 @@ export function flush() {
   clearTimeout(timer);
   for (const work of waiting) {
     const { title, example, how, files, machine, breaks, gone } = work;
-    keep(`work ${work.name}`, { title, example, how: plain(how), files: files.map(packed_file), machine, breaks: breaks.map(({ kind, name, program }) => ({ kind, name, program })), gone: gone.map(packed_file) });
+    keep(`work ${work.name}`, {
+      title, example, how: plain(how), files: files.map(packed_file), machine,
+      breaks: breaks.map(({ kind, name, program }) => ({ kind, name, program })), gone: gone.map(packed_file),
+    });
   }
   waiting.clear();
 }

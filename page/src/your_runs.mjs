@@ -33,7 +33,9 @@ function row(run) {
   const { length, when, work } = run, is_here = is_current(run);
   const what = element("td", {}, element("b", {}, name_of(run)), is_here ? " (shown now)" : "");
   const away = button("Take away", run, () => ask_away(run)), named = button("Name..", run, () => ask_name(run));
-  const go = element("button", { class: "main", "aria-label": `Open ${name_of(run)}`, onclick: () => open(run) }, "Open");
+  const go = element(
+    "button", { class: "main", "aria-label": `Open ${name_of(run)}`, onclick: () => open(run) }, "Open"
+  );
   const opens = is_here ? "" : run.run ? go : "too long to be kept";
   const told = [work, in_words.format(when)].map((it) => element("td", {}, it));
   told.splice(1, 0, element("td", { class: "number" }, `${grouped(length)} events`));

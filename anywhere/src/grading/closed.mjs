@@ -42,7 +42,9 @@ class Opened {
       this.made.set(key, file.parts);
     }
     if (!file) return -1;
-    return this.list.push({ kind: REGULAR_FILE, bytes: file.bytes, size: file.size ?? file.bytes.length, at: 0, parts: file.parts ?? [] }) - 1;
+    return this.list.push(
+      { kind: REGULAR_FILE, bytes: file.bytes, size: file.size ?? file.bytes.length, at: 0, parts: file.parts ?? [] }
+    ) - 1;
   }
 
   written(fd) {

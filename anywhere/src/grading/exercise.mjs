@@ -32,7 +32,9 @@ function file_at(path) {
     const size = fstatSync(fd).size;
     const bytes = Buffer.alloc(Math.min(size, MOST + 1));
     let got = 0;
-    for (let more = -1; more !== 0 && got < bytes.length; got += more) more = readSync(fd, bytes, got, bytes.length - got, null);
+    for (let more = -1; more !== 0 && got < bytes.length; got += more) {
+      more = readSync(fd, bytes, got, bytes.length - got, null);
+    }
     return { bytes: bytes.subarray(0, got), size };
   } catch {
     throw new Refusal(2, `${path}, which the exercise names, cannot be read`);
@@ -50,8 +52,8 @@ function sum_of(program, files) {
 /**
  * Reads the exercise at this path.
  *
- * @returns the module, its path as the program takes it, the names that are wanted, the files, the sum of the exercise's text,
- *   and that of all on which a result depends beside the submission
+ * @returns the module, its path as the program takes it, the names that are wanted, the files, the sum of the
+ *   exercise's text, and that of all on which a result depends beside the submission
  */
 export function read_exercise(given) {
   const here = is_whole(given) ? given : inside(process.cwd(), given);

@@ -58,7 +58,11 @@ async function grade(options) {
     await grade_all({ module, exercise }, left, Math.min(most, left.length));
     const { csv, missing } = write_results(work, jobs);
     show(csv);
-    if (missing > 0) throw new Refusal(2, `${missing} submissions are not graded; the files ${work}/jobs/*/failed say why. --resume tries them again`);
+    if (missing > 0) {
+      throw new Refusal(
+        2, `${missing} submissions are not graded; the files ${work}/jobs/*/failed say why. --resume tries them again`
+      );
+    }
   } finally {
     give_back();
   }

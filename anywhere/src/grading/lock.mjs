@@ -1,6 +1,7 @@
-// The lock of a work folder: one grader at a time works in it, whether this one or programs/course/grade.sh. It is a file of two
-// lines: the program, its process, when that began (field 22 of /proc/PID/stat, on Linux) and the host; and the exercise. It
-// comes by a hard link, so it is never there without its text. programs/course/lock.sh keeps to the same.
+// The lock of a work folder: one grader at a time works in it, whether this one or programs/course/grade.sh. It is a
+// file of two lines: the program, its process, when that began (field 22 of /proc/PID/stat, on Linux) and the host; and
+// the exercise. It comes by a hard link, so it is never there without its text. programs/course/lock.sh keeps to the
+// same.
 import { closeSync, linkSync, openSync, readFileSync, renameSync, rmSync, writeFileSync } from "node:fs";
 import * as os from "node:os";
 import { inside } from "./paths.mjs";
@@ -49,7 +50,8 @@ function refuse(path, folder) {
   const [program = "", process_id = "?", , host = "?"] = holder.split(" ");
   throw new Refusal(
     2,
-    `${folder} is in use: ${program || "another grader"}, process ${process_id} on ${host}, grades ${exercise} there\n` +
+    `${folder} is in use: ${program || "another grader"}, process ${process_id} on ${host}, grades ${exercise} there\n`
+      +
       `${PROGRAM}: take another folder by --work, or wait for its end. If it has ended on that host, remove ${path}`,
   );
 }

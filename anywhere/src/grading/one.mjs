@@ -1,5 +1,5 @@
-// Grades one submission from the folder of its job, as programs/course/grade_one.sh does. What it leaves is `out` in that
-// folder, which is there only when it is whole, or `failed`.
+// Grades one submission from the folder of its job, as programs/course/grade_one.sh does. What it leaves is `out` in
+// that folder, which is there only when it is whole, or `failed`.
 import { copyFileSync, mkdirSync, readFileSync, readdirSync, renameSync, rmSync, writeFileSync } from "node:fs";
 import { inside } from "./paths.mjs";
 import { key_of, run_closed } from "./closed.mjs";

@@ -23,7 +23,9 @@ function write_whole(work, name, parts) {
 /** A name as text of UTF-8: in one that isn't, what isn't ASCII is shown as \\xff. */
 function shown(bytes) {
   if (isUtf8(bytes)) return bytes.toString();
-  return [...bytes].map((byte) => (byte < 0x80 ? String.fromCharCode(byte) : `\\x${byte.toString(16).padStart(2, "0")}`)).join("");
+  return [...bytes].map(
+    (byte) => (byte < 0x80 ? String.fromCharCode(byte) : `\\x${byte.toString(16).padStart(2, "0")}`)
+  ).join("");
 }
 
 /** A field of CSV. */

@@ -1,6 +1,8 @@
-// The job of a submission: a folder with its name, its files, and why a file is not taken. Only plain files of the names
-// that the exercise has are taken, and copied before they are used; no link is followed.
-import { closeSync, constants, fstatSync, lstatSync, mkdirSync, openSync, readFileSync, readSync, rmSync, writeFileSync } from "node:fs";
+// The job of a submission: a folder with its name, its files, and why a file is not taken. Only plain files of the
+// names that the exercise has are taken, and copied before they are used; no link is followed.
+import {
+  closeSync, constants, fstatSync, lstatSync, mkdirSync, openSync, readFileSync, readSync, rmSync, writeFileSync,
+} from "node:fs";
 import { createHash } from "node:crypto";
 import { inside, is_whole, last_part, quoted, without_slashes } from "./paths.mjs";
 import { Refusal } from "./words.mjs";
@@ -11,7 +13,10 @@ export const MOST = 1048576;
 const sum_of = (bytes) => createHash("sha256").update(bytes).digest("hex");
 
 // What the C library says of a call that failed.
-const SAID = { EIO: "Input/output error", EACCES: "Permission denied", EPERM: "Operation not permitted", ENOSPC: "No space left on device", ESTALE: "Stale file handle" };
+const SAID = {
+  EIO: "Input/output error", EACCES: "Permission denied", EPERM: "Operation not permitted",
+  ENOSPC: "No space left on device", ESTALE: "Stale file handle",
+};
 const said = (error) => SAID[error.code] ?? error.code ?? error.message;
 
 /** That the host couldn't read a submission, or write what is made of it: then there is no mark. */
@@ -31,13 +36,15 @@ function kind_at(path) {
 function bytes_of(fd) {
   const room = Buffer.alloc(Math.min(fstatSync(fd).size, MOST) + 1);
   let size = 0;
-  for (let got = -1; got !== 0 && size < room.length; size += got) got = readSync(fd, room, size, room.length - size, null);
+  for (let got = -1; got !== 0 && size < room.length; size += got) {
+    got = readSync(fd, room, size, room.length - size, null);
+  }
   return room.subarray(0, size);
 }
 
 /**
- * Reads a plain file. Between a look at it and the opening it may become another thing: no link is followed then either, and
- * nothing is waited for.
+ * Reads a plain file. Between a look at it and the opening it may become another thing: no link is followed then
+ * either, and nothing is waited for.
  *
  * @returns its bytes, or null if it is no plain file any more
  */
@@ -96,7 +103,10 @@ function stamp_of(common, name, refused, files) {
   return `${sum_of([common, sum_of(name), sum_of(refused), ...lines].join("\n"))}\n`;
 }
 
-/** The files of a submission that are wanted, as pairs of name and bytes, and the lines that say why others aren't taken. */
+/**
+ * The files of a submission that are wanted, as pairs of name and bytes, and the lines that say why others aren't
+ * taken.
+ */
 function taken_of(submission, wanted) {
   const kind = kind_at(submission.path);
   const files = [];
@@ -132,8 +142,8 @@ function write_job(job, name, exercise, { files, lines }) {
  * @returns the folder, and the stamp; or `trouble`, why there can be no result
  */
 export function stage(work, { path, name }, exercise) {
-  // Folders of jobs are named by the sum of the exercise's text and the name: so a host needs no odd name, no two differ in
-  // capitals alone, and no result of one exercise is taken for another's.
+  // Folders of jobs are named by the sum of the exercise's text and the name: so a host needs no odd name, no two
+  // differ in capitals alone, and no result of one exercise is taken for another's.
   const job = inside(work, "jobs", sum_of(Buffer.concat([Buffer.from(`${exercise.text}\n`), name])).slice(0, 32));
   let found;
   try {
@@ -154,7 +164,8 @@ export function stage(work, { path, name }, exercise) {
 /** Whether a job has a result, and it is of what the stamp says. */
 export function has_result(job, stamp) {
   try {
-    return lstatSync(inside(job, "out", "result.csv")).isFile() && readFileSync(inside(job, "out", "stamp"), "latin1") === stamp;
+    return lstatSync(inside(job, "out", "result.csv")).isFile()
+      && readFileSync(inside(job, "out", "stamp"), "latin1") === stamp;
   } catch {
     return false;
   }

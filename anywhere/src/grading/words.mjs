@@ -11,7 +11,8 @@ export class Refusal extends Error {
 
 /** What a shell makes of a word: on Windows no shell does, and `FOLDER\\*` stands for all that is in the folder. */
 function by_shell(word) {
-  return process.platform === "win32" ? expanded(word.toString().replaceAll("\\", "/")).map((path) => Buffer.from(path)) : [word];
+  return process.platform === "win32" ? expanded(word.toString().replaceAll("\\", "/")).map((path) => Buffer.from(path))
+    : [word];
 }
 
 const OTHERS = "it is one of programs/course/grade.sh, on Linux";
