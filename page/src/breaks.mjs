@@ -46,7 +46,8 @@ function of_work(booted, it) {
   }
   const place = program === null ? null : place_of(booted, program);
   const address = ADDRESS.test(name) ? BigInt(name) : label_of(booted, place, name);
-  const words = `${kind === "store" ? "store to" : "at"} ${name}${address === null || ADDRESS.test(name) ? "" : " " + hex(address)}${program === null ? "" : ` in ${program}`}`;
+  const where = address === null || ADDRESS.test(name) ? "" : ` ${hex(address)}`;
+  const words = `${kind === "store" ? "store to" : "at"} ${name}${where}${program === null ? "" : ` in ${program}`}`;
   return { words, sent: address === null || place === -1 ? null : { kind, address, name, program: place }, gone };
 }
 

@@ -425,17 +425,17 @@ function asked(lesson, question, number) {
   }
   const place = `${LESSONS.indexOf(lesson)} ${number}`;
   const note = (given) => { answers.set(place, given); tell("lesson"); };
-  if (question.choices) return element("div", { class: "ask", role: "radiogroup", "aria-labelledby": name }, words, ...question.choices.map((it) => element("label", { style: "display:block" }, element("input", { type: "radio", name, value: it, checked: answers.get(place) === it, onchange: () => note(it) }), ` ${it}`)),
-    element(
-      "button",
-      {
-        class: "main",
-        onclick: (event) => judge(
-          lesson, question, event.target.parentElement.querySelector("input:checked")?.value || "", told
-        ),
-      },
-      "Check"
-    ), told);
+  if (question.choices) {
+    const choice = (it) => element("label", { style: "display:block" }, element("input", {
+      type: "radio", name, value: it, checked: answers.get(place) === it, onchange: () => note(it),
+    }), ` ${it}`);
+    const chosen_in = (box) => box.querySelector("input:checked")?.value || "";
+    const check = (event) => judge(lesson, question, chosen_in(event.target.parentElement), told);
+    return element(
+      "div", { class: "ask", role: "radiogroup", "aria-labelledby": name }, words, ...question.choices.map(choice),
+      element("button", { class: "main", onclick: check }, "Check"), told
+    );
+  }
   const input = element("input", {
     "aria-labelledby": name, size: 14, autocomplete: "off", value: answers.get(place) ?? "",
     oninput: () => note(input.value),
@@ -495,9 +495,9 @@ function draw() {
   }
   const text = element("div"), at = LESSONS.indexOf(chosen);
   text.innerHTML = chosen.text;
-  panel.replaceChildren(element(
-    "h2", {}, element("button", { onclick: () => { chosen = null; draw(); } }, "← all lessons"), help_button()
-  ), element("h3", {}, `${at + 1}. ${chosen.name}`), text,
+  const to_all = element("button", { onclick: () => { chosen = null; draw(); } }, "← all lessons");
+  panel.replaceChildren(
+    element("h2", {}, to_all, help_button()), element("h3", {}, `${at + 1}. ${chosen.name}`), text,
     element("pre", {}, DATA.examples[chosen.example].files[0].text.trimEnd()),
     element(
       "div", { class: "bar" }, element("button", { onclick: () => load(chosen) }, "Boot it anew"),
