@@ -86,8 +86,9 @@ async function lines(page) {
   // By keys, and the line of a caller.
   await page.eval(`document.activeElement.blur(); page.ask('go', { place: ${first} })`);
   await page.until(`page.app.view?.at === ${first}`);
+  const drawn = await page.eval("page.drawn()");
   await page.key("l");
-  await comes(page, `page.app.view?.at > ${first}`);
+  await comes(page, `page.app.view?.at > ${first} && page.drawn() > ${drawn}`);
   holds((await at(page)) > first, "L goes over a line");
   await comes(page, "document.querySelectorAll('#c-calls button').length > 1");
   await page.eval("document.querySelectorAll('#c-calls button')[1].click()");
