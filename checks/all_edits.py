@@ -48,6 +48,11 @@ def try_for_gate(run, name, names):
     found, bad = since.all_edits(run, name)
     wanted = [it for it in found if it.name in names]
     row.count, row.missed = len(names), sorted(set(names) - {it.name for it in wanted})
+    lacking = [it for it in run.here.below(name) if it not in run.stands]
+    if lacking:
+        since.say(f"{name}: its {len(names)} edits can't be tried, since {lacking[0]} has no library that stands")
+        row.missed = names
+        return row
     for path, text in bad:
         if f"{name}/{path.name}" in names:
             since.say(f"{name}/{path.name}: {text}")
