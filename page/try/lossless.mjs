@@ -383,7 +383,7 @@ async function deadlock(page) {
     holds((await text_of(page, "why-count")).includes("!"), `${order}: Why has a badge`);
     await page.picture(`${folder}/deadlock-${order}.png`);
     await page.eval("document.getElementById('stuck')?.click()");
-    await page.sleep(600);
+    await comes(page, "document.querySelector('.ink .row.pc')?.textContent.includes('ecall')");
     const row = await page.eval("document.querySelector('.ink .row.pc')?.textContent ?? ''");
     holds(row.includes("ecall") && (await page.eval("!document.getElementById('why').hidden && page.app.view?.at < page.app.line.end")), `${order}: from there to the call and its line: ${row.trim()}`);
   }
