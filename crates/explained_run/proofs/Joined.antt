@@ -1,20 +1,19 @@
 -- What is told of runs, one after another.
 use Rattle.std.proofs.Common.{◌≡◌, ℕ, zero, suc, Bool, true, false, List, [], ◌∷◌, ◌++◌, replicate, Option, None, Some}
-use Rattle.std.proofs.Common.{inl, inr, refl, sym, ◌∙◌, ap, subst, append_assoc, append-nil, if◌then◌else◌, Result, Ok, Err, OnOk, arith}
-use Rattle.std.specs.Prelude.{ℤ, ◌&&◌, is_ok}
-use Rattle.std.specs.Option.{option_or}
+use Rattle.std.proofs.Common.{inl, inr, refl, sym, ◌∙◌, ap, subst, append_assoc, append-nil, if◌then◌else◌, arith}
+use Rattle.std.specs.Prelude.{ℤ, ◌&&◌}
+use Rattle.std.proofs.lemmas.Bool.{and_parts}
 use Rattle.console_core.specs.Keys.{line}
 use Rattle.kcall_core.specs.Observers.{process_at}
-use Rattle.kernel_spec.specs.runs.Run.{World, Event, Run, Tick, Key, Send, Outcome, Step_of, Idle, Ticked, Typed, Sent, Halted, Happens, RunHappens, TickHappens, KeyHappens, first_sent}
+use Rattle.kernel_spec.specs.runs.Run.{World, Event, Run, Tick, Key, Send, Outcome, Step_of, Idle, Ticked, Typed, Sent, Halted, TickHappens, KeyHappens, first_sent}
 use Rattle.kernel_spec.specs.steps.Own.{Answer, Stepped}
-use Rattle.kernel_spec.specs.steps.Step.{own}
 use Rattle.kernel_spec.specs.views.State.{State, ProgramFile}
 use Rattle.kernel_spec.specs.views.Words.{or_zero}
 use Rattle.kernel_spec.specs.waking.Wakes.{IsPromised, Promised}
 use Rattle.xv_machine.specs.Drives.{AreRuns, Goes, Ran, SendsMade, done_by}
 use Rattle.xv_machine.specs.Meaning.{Meaning}
 use Rattle.xv_machine.specs.Reached.{IsEvent}
-use Rattle.xv_machine.specs.Sound.{IsHalted, IsSoundMachine}
+use Rattle.xv_machine.specs.Sound.{IsSoundMachine}
 use Rattle.xv_machine.proofs.Joins.{goes-one}
 use Rattle.xv_session.specs.Names.{NamesGo, asked_in, first_names, names_after, place_in}
 use Rattle.xv_session.specs.Recorded.{IsLed}
@@ -24,16 +23,16 @@ use Rattle.xv_session.specs.declared.running.Running.{Running}
 use Rattle.xv_session.proofs.NamesGo.{names-one}
 use Rattle.explained_run.specs.Chosen.{shows, shows_process}
 use Rattle.xv_session.proofs.RunsCounted.{count-sent}
-use Rattle.xv_session.proofs.RunsMade.{first-no-step, runs-on}
+use Rattle.xv_session.proofs.RunsMade.{first-no-step, runs-on, steps}
 use Rattle.explained_run.specs.Counts.{done_if, done_in, program_of, row, tallied}
 use Rattle.explained_run.specs.Counts.{counted as count_in, done_by as count_by}
-use Rattle.explained_run.specs.Lines.{told, told_by, told_of}
+use Rattle.explained_run.specs.Lines.{told, told_by}
 use Rattle.explained_run.specs.Seen.{Before, before, is_marked}
 use Rattle.explained_run.specs.Sent.{byte_sent, is_run}
 use Rattle.explained_run.specs.Told.{IsTold, ToldOf}
 use Rattle.explained_run.specs.declared.choice.Choice.{Choice}
 use Rattle.explained_run.specs.declared.counts.Count.{Count}
-use Rattle.explained_run.proofs.Rows.{tallied-join}
+use Rattle.explained_run.proofs.Rows.{option-or-self, tallied-join}
 
 either : (b : Bool) (text : List ℕ) → (if b then text else text) ≡ text
 either true text = refl
@@ -142,10 +141,6 @@ along choice xs ys w t a b same by go =
     subst (λ (zs : List (Event × Outcome)). ToldOf choice w a zs t b [] []) (sym same) (by (subst (λ (zs : List (Event × Outcome)). NamesGo w zs t a b) same go))
 
 -- instructions of process p, which runs: each is counted
-own-program : (o : Option ℕ) → option_or o o ≡ o
-own-program None = refl
-own-program (Some x) = refl
-
 pub instructed : (n : ℕ) (choice : Choice) (w t : World) (p : ℕ) (names : List Named) → w.turns.current ≡ Some p → IsPromised w (replicate n (done_by p)) t
     → ToldOf choice w names (replicate n (done_by p)) t names [] (replicate n (row p (place_in p names) 0 0 1))
 instructed zero choice w t p names is run = (run, refl, refl, refl)
@@ -157,7 +152,7 @@ instructed (suc n) choice w t p names is (mid, first, more) = (
   instructed n choice mid t p names (runs-on 1 w mid p is (mid, first, refl)) more,
   sym (append-nil (told choice w names (Step_of p Stepped) mid.state) ∙ (step-silent p).keeps choice w names mid.state),
   sym (ap (λ (cs : List Count). cs ++ replicate n (row p (place_in p names) 0 0 1))
-      (ap (λ (current : Option ℕ). done_if choice w names names current (Step_of p Stepped)) is ∙ ap (λ (place : Option ℕ). row p place 0 0 1 ∷ []) (own-program (place_in p names)))),
+      (ap (λ (current : Option ℕ). done_if choice w names names current (Step_of p Stepped)) is ∙ ap (λ (place : Option ℕ). row p place 0 0 1 ∷ []) (option-or-self (place_in p names)))),
 )
 
 -- ---- where nobody runs
@@ -258,8 +253,8 @@ told-on choice r s complete after counted counted-after old new more rows new-ro
 }
 
 -- of which nothing is told, and by which nothing is done
-pub told-silently : (choice : Choice) (r s : Running) (complete : Bool) (text : List ℕ) (counted : Bool) (rows : List Count) (list : List (Event × Outcome)) → IsTold choice r complete text counted rows
-    → ToldOf choice r.machine.world r.names list s.machine.world s.names [] [] → IsTold choice s complete text counted rows
+pub told-silently : (choice : Choice) (r s : Running) (complete : Bool) (text : List ℕ) (counted : Bool) (rows : List Count) (list : List (Event × Outcome))
+    → IsTold choice r complete text counted rows → ToldOf choice r.machine.world r.names list s.machine.world s.names [] [] → IsTold choice s complete text counted rows
 told-silently choice r s complete text counted rows list t go =
     told-on choice r s complete complete counted counted text text [] rows rows [] list t go (λ yes. (yes, sym (append-nil text))) (λ yes. (yes, refl))
 
@@ -293,38 +288,6 @@ told-other choice e o r s complete text counted rows t other one =
 
 -- ---- one step
 
--- what is known of a call that hasn't failed
-pub when-ok : {T E P : Type 0} (r : Result T E) → OnOk r P → is_ok r ≡ true → P
-when-ok (Ok t) held ok = held
-when-ok (Err e) held ok = cc
-
--- of a Run of a machine that is sound a step comes of the process that runs
-step-of : (m : Meaning) (t : World) (p : ℕ) (o : Outcome) → IsSoundMachine m → m.world.turns.current ≡ Some p → Happens m.world Run o t → (a : Answer) × (o ≡ Step_of p a)
-step-of m t p o sound is h = by m.world.turns.halted m.world.turns.current is sound.halted h
-  where
-    by : (halted : Option ℤ) (current : Option ℕ) → current ≡ Some p → IsHalted m.world.state m.world.turns halted → RunHappens m.world halted current o t → (a : Answer) × (o ≡ Step_of p a)
-    by (Some status) current e end h = let no : None ≡ Some p = sym end.1 ∙ is in let bad : ⊥ = cc in absurd bad
-    by None None e end h = let bad : ⊥ = cc in absurd bad
-    by None (Some q) e end h = let same : q ≡ p = cc in ((own h.before).answer, h.answer ∙ ap (λ r. Step_of r (own h.before).answer) same)
-
--- of one of a process whose lines aren't asked for nothing is told
-pub nothing-told : (choice : Choice) (w : World) (names : List Named) (p : ℕ) (o : Outcome) (s : State) (old : List ℕ) → w.turns.current ≡ Some p → shows_process choice p ≡ false
-    → old ≡ old ++ told choice w names o s
-nothing-told choice w names p o s old is unasked =
-    let nothing : told choice w names o s ≡ [] =
-    ap (λ (current : Option ℕ). told_by choice w names current o s) is ∙ ap (λ (b : Bool). if b then told_of choice (before w names p) s p o else []) unasked in
-    sym (append-nil old) ∙ ap (λ more. old ++ more) (sym nothing)
-
--- of one of a process whose lines are asked for its line is told
-pub line-told : (choice : Choice) (w : World) (names : List Named) (p : ℕ) (o : Outcome) (s : State) (old new : List ℕ) (b : Before) → w.turns.current ≡ Some p → shows_process choice p ≡ true
-    → b ≡ before w names p → new ≡ old ++ told_of choice b s p o → new ≡ old ++ told choice w names o s
-line-told choice w names p o s old new b is asked seen wrote =
-    let said : told choice w names o s ≡ told_of choice b s p o =
-    ap (λ (current : Option ℕ). told_by choice w names current o s) is
-    ∙ ap (λ (yes : Bool). if yes then told_of choice (before w names p) s p o else []) asked
-    ∙ ap (λ (x : Before). told_of choice x s p o) (sym seen) in
-    wrote ∙ ap (λ more. old ++ more) (sym said)
-
 -- what is done by a step is what is counted
 step-done : (choice : Choice) (w : World) (names after : List Named) (p : ℕ) (a : Answer) (o : Outcome) → w.turns.current ≡ Some p → o ≡ Step_of p a
     → done_in choice w names after o ≡ count_by choice p (program_of p names after) (is_marked (process_at w p)) o ∷ []
@@ -333,27 +296,19 @@ step-done choice w names after p a o is step =
     ∙ ap (λ (x : Outcome). done_if choice w names after (Some p) x) step
     ∙ sym (ap (λ (x : Outcome). count_by choice p (program_of p names after) (is_marked (process_at w p)) x ∷ []) step)
 
-pub and-left : (a b : Bool) → (a && b) ≡ true → a ≡ true
-and-left true b both = refl
-and-left false b both = both
-
-pub and-right : (a b : Bool) → (a && b) ≡ true → b ≡ true
-and-right true b both = both
-and-right false b both = cc
-
 -- after a step, of which this was told and counted
-pub told-step : (choice : Choice) (o : Outcome) (p : ℕ) (r s : Running) (complete is-told : Bool) (old new : List ℕ) (counted after : Bool) (rows new-rows : List Count) (place : Option ℕ) (marked : Bool)
-    → IsTold choice r complete old counted rows → IsSoundMachine r.machine → r.machine.world.turns.current ≡ Some p → Advances r Run o s
+pub told-step : (choice : Choice) (o : Outcome) (p : ℕ) (r s : Running) (complete is-told : Bool) (old new : List ℕ) (counted after : Bool) (rows new-rows : List Count)
+    (place : Option ℕ) (marked : Bool) → IsTold choice r complete old counted rows → IsSoundMachine r.machine → r.machine.world.turns.current ≡ Some p → Advances r Run o s
     → (is-told ≡ true → new ≡ old ++ told choice r.machine.world r.names o s.machine.world.state)
     → (after ≡ true → new-rows ≡ count_in choice rows (count_by choice p place marked o)) → (after ≡ true → counted ≡ true)
     → place ≡ program_of p r.names s.names → marked ≡ is_marked (process_at r.machine.world p) → IsTold choice s (complete && is-told) new after new-rows
 told-step choice o p r s complete is-told old new counted after rows new-rows place marked t sound is one line tally were placed mark =
     let w = r.machine.world in
-    let step = step-of r.machine s.machine.world p o sound is one.event.promised.0 in
+    let step = steps r.machine s.machine.world p o sound is one.event.promised.0 in
     told-on choice r s complete (complete && is-told) counted after old new (told choice w r.names o s.machine.world.state) rows new-rows (done_in choice w r.names s.names o) ((Run, o) ∷ []) t
     (subst (λ (ns : List Named). ToldOf choice w r.names ((Run, o) ∷ []) s.machine.world ns (told choice w r.names o s.machine.world.state) (done_in choice w r.names ns o)) (sym one.names)
     (told-one choice w s.machine.world Run o r.names one.event.promised))
-    (λ yes. (and-left complete is-told yes, line (and-right complete is-told yes)))
+    (λ yes. let both = and_parts complete is-told yes in (both.0, line both.1))
     (λ yes. (
       were yes,
       tally yes

@@ -80,11 +80,10 @@ rows-join c a b = λ i. row c.pid (option-or-joins b.program a.program c.program
 
 -- ---- more, and more again of the same process
 
-eq-self : (n : ℕ) → nat_eq n n ≡ true
-eq-self n = elim (eqb_tells n n) [ inl is ↦ is.0 | inr other ↦ absurd (other.1 refl) ]
-
 added-again : (a b : Count) (counts : List Count) → b.pid ≡ a.pid → added (added counts a) b ≡ added counts (both a b)
-added-again a b [] same = ap (λ (t : Bool). if t then both a b ∷ [] else a ∷ b ∷ []) (ap (λ (p : ℕ). nat_eq a.pid p) same ∙ eq-self a.pid)
+added-again a b [] same =
+    ap (λ (t : Bool). if t then both a b ∷ [] else a ∷ b ∷ [])
+    (ap (λ (p : ℕ). nat_eq a.pid p) same ∙ elim (eqb_tells a.pid a.pid) [ inl is ↦ is.0 | inr other ↦ absurd (other.1 refl) ])
 added-again a b (c ∷ cs) same = elim (tells (nat_eq c.pid a.pid)) [
   | inl is ↦
       ap (λ (t : Bool). added (if t then both c a ∷ cs else c ∷ added cs a) b) is
@@ -118,13 +117,13 @@ pub tallied-join : (choice : Choice) (counts xs ys : List Count) → tallied cho
 tallied-join choice counts [] ys = refl
 tallied-join choice counts (x ∷ xs) ys = tallied-join choice (counted choice counts x) xs ys
 
+pub option-or-self : (o : Option ℕ) → option_or o o ≡ o
+option-or-self None = refl
+option-or-self (Some x) = refl
+
 one-row : (place : Option ℕ) (p n : ℕ) → suc n < 2 ^ 64 → both (row p place 0 0 1) (row p place 0 0 n) ≡ row p place 0 0 (suc n)
 one-row place p n small = λ i. row p (option-or-self place i) 0 0 (sum i)
   where
-    option-or-self : (o : Option ℕ) → option_or o o ≡ o
-    option-or-self None = refl
-    option-or-self (Some x) = refl
-
     sum : sum_of 1 n ≡ suc n
     sum = omega (arith, small)
 

@@ -169,7 +169,7 @@ runs-on zero w t p is run = ap (λ (v : World). v.turns.current) run ∙ is
 runs-on (suc n) w t p is (mid, one, more) = runs-on n mid t p (one-stays w mid p is one.0) more
 
 -- of a Run a step of it comes
-steps : (m : Meaning) (t : World) (p : ℕ) (o : Outcome) → IsSoundMachine m → m.world.turns.current ≡ Some p → Happens m.world Run o t → (a : Answer) × (o ≡ Step_of p a)
+pub steps : (m : Meaning) (t : World) (p : ℕ) (o : Outcome) → IsSoundMachine m → m.world.turns.current ≡ Some p → Happens m.world Run o t → (a : Answer) × (o ≡ Step_of p a)
 steps m t p o sound is h = by m.world.turns.halted m.world.turns.current is sound.halted h
   where
     by : (halted : Option ℤ) (current : Option ℕ) → current ≡ Some p → IsHalted m.world.state m.world.turns halted → RunHappens m.world halted current o t → (a : Answer) × (o ≡ Step_of p a)

@@ -1,11 +1,12 @@
 use Rattle.std.proofs.Common.{rules, Bool, string_bytes, subst, sym, ◌∙◌}
 use Rattle.std.proofs.Math.Logic.{∥∥₁_map}
+use Rattle.std.proofs.lemmas.Bool.{and_parts}
 use Rattle.kernel_spec.specs.runs.Run.{Run}
 use Rattle.xv_machine.specs.Events.{outcome_of}
 use Rattle.xv_session.proofs.NamesLive.{advances-sound}
 use Rattle.explained_run.specs.Told.{IsTold}
 use Rattle.explained_run.proofs.Ends.{starts-more}
-use Rattle.explained_run.proofs.Joined.{and-left, and-right, told-step}
+use Rattle.explained_run.proofs.Joined.{told-step}
 use Rattle.explained_run.proofs.explained.Explained.step.Goals as goal
 
 pub invariant_of-self : goal.invariant_of-self
@@ -27,7 +28,7 @@ invariant_of-self c =
 pub returns-clause-text : goal.returns-clause-text
 returns-clause-text c = λ yes.
     let x = c.args.self.now in
-    let both = sym c.both-self.ensures ∙ yes in (
-      and-left x.complete c.tell_step-made.result.is_told both,
-      starts-more (string_bytes x.text) (string_bytes c.tell_step-made.new.text) _ (c.tell_step-made.ensures.told (and-right x.complete c.tell_step-made.result.is_told both)),
+    let both = and_parts x.complete c.tell_step-made.result.is_told (sym c.both-self.ensures ∙ yes) in (
+      both.0,
+      starts-more (string_bytes x.text) (string_bytes c.tell_step-made.new.text) _ (c.tell_step-made.ensures.told both.1),
     )
