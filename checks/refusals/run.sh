@@ -75,7 +75,9 @@ sed -n 's/^\$ //p' "$here/told.txt" | while IFS= read -r line; do
     set -- $line
     looked_at "$@" </dev/null 2>&1
     echo "= $?"
-done >"$room/told"
+done >"$room/all_told"
+# a clone says so if its modules are of an earlier state: that is no refusal
+sed '/^xv: the modules are of an earlier state than the code here: /d' "$room/all_told" >"$room/told"
 if [ "${1-}" = --store ]; then
     cp "$room/told" "$here/told.txt"
     exit
