@@ -4,7 +4,8 @@
 #
 #   checks/all-edits.sh [CRATE..]      of all crates, or of these; what was refused of the same sources isn't tried again
 #   checks/all-edits.sh --anew ..      all of them again
-#   checks/all-edits.sh --gate ..      those of checks/wrong-bodies/gate.txt, from nothing: the gate does so, once its proofs stand
+#   checks/all-edits.sh --gate ..      those of checks/wrong-bodies/gate.txt, from nothing: the gate does so, once its proofs stand. What
+#                                      was refused on this host, over the same sources and libraries, isn't tried again
 #   checks/all-edits.sh --definitions ..  turned definitions too, half a minute to ten each (checks/wrong-bodies/README.md)
 #   checks/all-edits.sh --base FOLDER ..  takes libraries that lack here from another clone, in which the gate has passed
 #

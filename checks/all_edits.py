@@ -1,4 +1,6 @@
 """Tries every edit of bodies over the libraries that a gate left; see all-edits.sh."""
+import os
+import pathlib
 import re
 import subprocess
 import sys
@@ -14,10 +16,38 @@ TOP = base.TOP
 GATE = TOP / "checks/wrong-bodies/gate.txt"
 
 
+# What decides whether an edit is refused, beside the kit and the crates.
+SCRIPTS = [TOP / "checks" / it for it in ("all_edits.py", "base.py", "edits.py", "since.py")]
+
+
+class Refused:
+    """What the gate saw refused on this host, by the checksums of all that a trial reads: beside what `rt ci` keeps of proofs."""
+    def __init__(self, run):
+        home = os.environ.get("XDG_CACHE_HOME") or pathlib.Path.home() / ".cache"
+        self.place, self.run = pathlib.Path(home) / "nektavoly" / "refused", run
+        self.common = base.sum_of(run.kit, *(it.read_bytes() for it in SCRIPTS))
+
+    def file_of(self, edit):
+        run, name = self.run, edit.name.split("/")[0]
+        low = sorted((it, run.idents[it]) for it in run.here.below(name))
+        return self.place / base.sum_of(self.common, name, run.sums[name], low, edit.path.read_bytes())
+
+    def has(self, edit):
+        return not self.run.options["anew"] and self.file_of(edit).is_file()
+
+    def keep(self, edit):
+        try:
+            self.place.mkdir(parents=True, exist_ok=True)
+            self.file_of(edit).write_text(f"{edit.name}\n", encoding="utf-8")
+        except OSError as error:
+            since.say(f"note: {edit.name} isn't kept, and the next gate tries it again: {error}")
+
+
 class Row:
     """What came of a crate's edits."""
     def __init__(self, name):
         self.name, self.count, self.refused, self.form, self.missed, self.seconds = name, 0, 0, 0, [], 0.0
+        self.before = 0  # of those that are refused: how many an earlier run has seen so
 
     def line(self):
         return f"{self.name:18} {self.count:6} {self.refused:8} {self.form:5} {len(self.missed) - self.form:12} {self.seconds / 60:8.1f}"
@@ -42,8 +72,9 @@ def try_crate(run, name):
     return row
 
 
-def try_for_gate(run, name, names):
-    """Tries these edits of a crate from nothing: a batch has the functions checked that it turns, and those that they call."""
+def try_for_gate(run, name, names, refused):
+    """Tries these edits of a crate from nothing: a batch has the functions checked that it turns, and those that they call. What was
+    refused on this host isn't tried again."""
     row, begun, sources = Row(name), time.monotonic(), since.texts_of(run.here.files[name])
     found, bad = since.all_edits(run, name)
     wanted = [it for it in found if it.name in names]
@@ -57,9 +88,13 @@ def try_for_gate(run, name, names):
         if f"{name}/{path.name}" in names:
             since.say(f"{name}/{path.name}: {text}")
     low = {it: run.stands[it] for it in run.here.below(name)}
+    new = [it for it in wanted if not refused.has(it)]
+    row.before = row.refused = len(wanted) - len(new)
 
     def told(edit, is_refused, text):
         since.say(f"{edit.name}: {text}")
+        if is_refused:
+            refused.keep(edit)
         row.refused += is_refused
         row.form += "REFUSED FOR ITS FORM" in text
         row.missed += [] if is_refused else [edit.name]
@@ -74,7 +109,7 @@ def try_for_gate(run, name, names):
                 # a name that fits several functions: then all are checked
                 return said if status != 2 else run.check(name, run.here, low, keeps / "kept", place, flags=["--allow-holes"])[1]
 
-        edits.try_all(name, wanted, sources, check, told)
+        edits.try_all(name, new, sources, check, told)
     row.seconds = time.monotonic() - begun
     return row
 
@@ -106,11 +141,11 @@ def main(words):
     if lost:
         since.refuse(f"there is no crate {lost[0]}")
     run.stand_all()
-    of_gate = gate_names() if options["gate"] else {}
+    of_gate, refused = gate_names() if options["gate"] else {}, Refused(run)
     crates = [it for it in run.here.ordered() if since.edit_paths(it) and (not names or it in names) and (not of_gate or it in of_gate)]
     crates.sort(key=lambda it: -len(since.edit_paths(it)) * run.here.work(it))
     with ThreadPoolExecutor(max(1, run.slots.count)) as pool:
-        jobs = [pool.submit(try_for_gate, run, it, of_gate[it]) if of_gate else pool.submit(try_crate, run, it) for it in crates]
+        jobs = [pool.submit(try_for_gate, run, it, of_gate[it], refused) if of_gate else pool.submit(try_crate, run, it) for it in crates]
         try:
             rows = [it.result() for it in jobs]
         except BaseException:
@@ -121,6 +156,9 @@ def main(words):
     missed = [it for row in rows for it in row.missed]
     if missed:
         print(f"not refused: {' '.join(sorted(missed))}")
+    before = sum(it.before for it in rows)
+    if before:
+        print(f"{before} of them were refused by an earlier run on this host, over the same sources and libraries")
     print(f"{sum(it.count for it in rows)} edits of {len(rows)} crates: {sum(it.refused for it in rows)} refused, {len(missed)} not,"
           f" in {since.lasted(time.monotonic() - since.BEGUN)} ({since.lasted(run.seconds)} of one processor for the checks)")
     return 1 if missed or not is_well else 0
