@@ -1,4 +1,37 @@
-// A mistake of a source in words: what is wrong in its line, and what to write in its place.
+// The mistakes of a source: all of them, what is wrong in each line in words, and the line that is to stand in its place.
+
+/** So many mistakes are told of one source. */
+export const MOST_MISTAKES = 20;
+
+const LABEL = /^\s*[A-Za-z_]\w*:/;
+
+/** A line without its mistake, so that others are found: its label alone, or, if this stands twice, all but the label. */
+function line_without(kind, text) {
+  const label = LABEL.exec(text)?.[0] ?? "";
+  return kind === "DuplicateLabel" ? text.slice(label.length) : label;
+}
+
+/**
+ * The mistakes of a source, by the order in which the assembler tells them: {line, kind, written} each, of which `written`
+ * is the line as it is meant, or null; and whether there are `more`. `first_of` tells the first mistake of a text, or
+ * nothing. A line that is told is written as it is meant then, if the assembler takes that; else it is left out, but for
+ * its label, so a mistake may come of one before it. A mistake of no line, as too little memory, is the last that is told.
+ */
+export function all_mistakes(source, first_of) {
+  const lines = source.split("\n"), mistakes = [];
+  const first_with = (place, text) => { lines[place] = text; return first_of(lines.join("\n")); };
+  let first = first_of(source);
+  while (first && mistakes.length < MOST_MISTAKES) {
+    const { line, kind } = first, place = line - 1, text = lines[place], written = text ? mended(first, text) : null;
+    let next = written === null ? first : first_with(place, written);
+    const is_meant = next?.line !== line;
+    mistakes.push({ line, kind, written: is_meant ? written : null });
+    if (!text) return { mistakes, more: false };
+    if (!is_meant) next = first_with(place, line_without(kind, text));
+    first = next;
+  }
+  return { mistakes, more: Boolean(first) };
+}
 
 /** Words of other assemblers, and what to write in place of each. */
 const SWAPS = {
@@ -132,11 +165,63 @@ function about(kind, line) {
 
 /** What to write in place of what is wrong in a line. */
 function hint(kind, line, what) {
+  if (kind === "BadOperand" && with_commas(parts(line).operands)) return "commas stand between operands";
   if (kind === "UnknownWord") return fitted(hint_of(kind, line), parts(line).operands);
   if (kind === "BadOperand" && is_no_register(what)) {
     return "there is no such register: a0 to a7, s0 to s11, t0 to t6, or x0 to x31";
   }
   return hint_of(kind, line);
+}
+
+// ---- what to write in a line's place
+
+/** Words of other assemblers that have another name here, with the same operands. */
+const OTHER_NAMES = {
+  tail: "j", lla: "la", ".string": ".asciz", ".ascii": ".asciz", ".zero": ".space", ".quad": ".dword", ".long": ".word",
+};
+/** Words of other assemblers that are left out here. */
+const LEFT_OUT = new Set([".globl", ".global"]);
+/** The sections of others, by how their names begin. */
+const SECTIONS = [[/^\.text\b/, ".text"], [/^\.(data|rodata|bss|sdata)\b/, ".data"]];
+
+/** Forms of other assemblers that have one meaning, and what stands in the place of each. */
+const FORMS = [
+  [/'(\\?.)'/g, (form, letter) => String(letter_of(letter).codePointAt(0))],
+  [/\b0[bB]([01]+)\b/g, (form, digits) => String(parseInt(digits, 2))],
+  [/\b0[oO]([0-7]+)\b/g, (form, digits) => String(parseInt(digits, 8))],
+  [/\b0X[0-9a-fA-F]+\b/g, (form) => form.toLowerCase()],
+  [/\/\/.*$/, (form) => `#${form.slice(2)}`],
+];
+
+/** The instruction in place of one that other assemblers know, with the same operands; null if none can be told. */
+function instruction_for(word, operands) {
+  if (Object.hasOwn(OTHER_NAMES, word)) return `${OTHER_NAMES[word]} ${operands}`;
+  if (LEFT_OUT.has(word)) return "";
+  if (word === ".section") return SECTIONS.find(([it]) => it.test(operands))?.[1] ?? null;
+  if (!Object.hasOwn(SWAPS, word)) return null;
+  const hint = SWAPS[word], code = fitted(hint, operands);
+  return code === hint ? null : /`([^`]+)`/.exec(code)[1];
+}
+
+/** The operands with commas between them; null if they have some, or aren't names and numbers. */
+function with_commas(operands) {
+  const given = operands.trim().split(/\s+/);
+  return given.length > 1 && given.every((it) => /^-?\w+(\(\w+\))?$/.test(it)) ? given.join(", ") : null;
+}
+
+/** The line of a source that has a mistake, as it is meant; null if that can't be told. */
+export function mended({ kind }, text) {
+  if (kind !== "UnknownWord" && kind !== "BadOperand") return null;
+  const [, before, code, comment] = /^(\s*(?:[A-Za-z_]\w*:)?\s*)((?:"(?:[^"\\]|\\.)*"?|'\\?.'|[^#"'])*)(.*)$/s.exec(text);
+  const [, word, operands, end] = /^(\.?[\w.]*)\s*(.*?)(\s*)$/s.exec(code);
+  const other = kind === "UnknownWord" ? instruction_for(word, operands) : null;
+  if (other !== null) return other || comment ? `${before}${other}${other ? end : ""}${comment}` : before.trimEnd();
+  if (!/"/.test(code)) {
+    const made = FORMS.reduce((so_far, [form, to]) => so_far.replace(form, to), code);
+    if (made !== code) return before + made + comment;
+  }
+  const listed = kind === "BadOperand" ? with_commas(operands) : null;
+  return listed === null ? null : `${before}${word} ${listed}${end}${comment}`;
 }
 
 /** A mistake of a source in words: the line, what is wrong in it, and what to write. */

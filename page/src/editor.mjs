@@ -14,7 +14,7 @@ const MANY = 1000, HIGHER = 50; // lines: a source of so many grows by so many, 
 const MOST_LETTERS = 2000; // of a line: a text with a longer one is shown without colours, as the browser does it
 const SETTLE = 120; // ms after the last key, until a source is assembled
 const state = {
-  file: null, lines: [""], asked: 0, mistake: null, places: null, coded: null, pc: null, rows: { from: -1, to: -1 },
+  file: null, lines: [""], asked: 0, mistakes: [], places: null, coded: null, pc: null, rows: { from: -1, to: -1 },
   seen: { top: 0, height: 400 },
 };
 
@@ -83,13 +83,14 @@ function measure() {
  * Whether a line may have a break point. Which lines have instructions is known once the source is assembled: until
  * then it is left open.
  */
-const may_stop = (line) => is_source(state.file) && !state.mistake && (state.coded === null || state.coded.has(line));
+const may_stop = (line) => is_source(state.file) && !state.mistakes.length && (state.coded === null || state.coded.has(line));
 
-const row_class = (line) => `row${line === state.pc ? " pc" : ""}${line === state.mistake?.line ? " bad" : ""}`;
+const is_bad = (line) => state.mistakes.some((it) => it.line === line);
+const row_class = (line) => `row${line === state.pc ? " pc" : ""}${is_bad(line) ? " bad" : ""}`;
 
 function number_of(line, stops) {
   const name = [
-    line === state.pc ? "pc" : "", line === state.mistake?.line ? "bad" : "", may_stop(line) ? "" : "no",
+    line === state.pc ? "pc" : "", is_bad(line) ? "bad" : "", may_stop(line) ? "" : "no",
     stops.has(line) ? "stop" : "",
   ].join(" ");
   return `<div class="${name}" data-line="${line}">${line}</div>`;
@@ -148,7 +149,7 @@ function reveal(line) {
 function assemble() {
   const { file } = state;
   state.asked++; // (what comes of a file that was open before is passed over)
-  if (!is_source(file)) { state.mistake = null; said("", ""); return; }
+  if (!is_source(file)) { take_mistakes([]); said("", ""); return; }
   ask("assemble", { text: file.text, id: state.asked });
 }
 
@@ -156,6 +157,62 @@ function said(text, kind) {
   const it = $("mistake");
   it.textContent = text;
   it.className = kind;
+}
+
+// ---- mistakes: all of them in a list, each with its line, and with what to write there if that can be told
+
+/** Takes the mistakes of the source, and lists them if the words of the first don't say all. */
+function take_mistakes(mistakes) {
+  state.mistakes = [...mistakes].sort((one, other) => one.line - other.line);
+  const list = $("mistakes"), is_listed = mistakes.length > 1 || mistakes.some(({ written }) => written !== null);
+  list.hidden = !is_listed;
+  list.replaceChildren(...(is_listed ? state.mistakes.map((it) => row_of_mistake(it, it === mistakes[0])) : []));
+}
+
+function button_of(words, act) {
+  const it = document.createElement("button");
+  it.type = "button";
+  it.textContent = words;
+  it.addEventListener("click", act);
+  return it;
+}
+
+/**
+ * The row of a mistake: a button that goes to its line, what is wrong, if that isn't told above the list, and a button that
+ * writes the line as it is meant.
+ */
+function row_of_mistake({ line, kind, written }, is_told) {
+  const row = document.createElement("li"), text = state.lines[line - 1];
+  const [, words] = /^line \d+: (.*)$/s.exec(mistake_words({ line, kind }, state.lines.join("\n")));
+  row.append(button_of(`line ${line}`, () => go_to(line)), is_told ? " " : ` ${words} `);
+  if (written === null) return row;
+  const write = () => { if (state.lines[line - 1] === text) write_line(line, written); };
+  row.append(button_of(written.trim() ? `write ${written.trim()}` : "leave it out", write));
+  return row;
+}
+
+/** Where a line of the source begins and ends, in letters. */
+function letters_of(line) {
+  const from = state.lines.slice(0, line - 1).reduce((sum, it) => sum + it.length + 1, 0);
+  return { from, to: from + state.lines[line - 1].length };
+}
+
+/** Goes to a line, and chooses it. */
+function go_to(line) {
+  if (line > state.lines.length) return;
+  const { from, to } = letters_of(line), source = $("source");
+  source.focus({ preventScroll: true });
+  source.setSelectionRange(from, to);
+  reveal(line);
+}
+
+/** Writes another text in a line's place, as if it were typed: so undo takes it back. */
+function write_line(line, text) {
+  const { from, to } = letters_of(line), source = $("source");
+  go_to(line);
+  if (document.execCommand(text ? "insertText" : "delete", false, text)) return;
+  source.setRangeText(text, from, to, "end");
+  edited();
 }
 
 /** Takes where the lines of the source lie; null while that isn't known. */
@@ -206,7 +263,7 @@ const words_of_bytes = ({ name, bytes }) => (
 /** Shows a file. */
 export function open(file) {
   state.file = file;
-  state.mistake = null;
+  take_mistakes([]);
   const is_text = file && file.text !== undefined, source = $("source");
   source.value = is_text ? file.text : file ? words_of_bytes(file) : "";
   source.readOnly = !is_text;
@@ -232,7 +289,7 @@ function edited() {
   file.text = state.ends === "\n" ? value : value.replace(/\n/g, state.ends);
   file.changed = true;
   state.pc = null;
-  state.mistake = null;
+  state.mistakes = []; // (those that are listed stay until the source is assembled: else the list would flicker)
   state.asked++;
   const stops = stops_of(file);
   if (stops.length) file.stops = moved(stops, before, state.lines);
@@ -248,13 +305,19 @@ function edited() {
   }, SETTLE);
 }
 
+/** The first mistake in words, and how many more there are. */
+function words_of_mistakes({ line, kind, mistakes, more }) {
+  const others = mistakes.length - 1, words = mistake_words({ line, kind }, state.lines.join("\n"));
+  return others ? `${words}. And ${others} more${more ? ", at least" : ""}` : words;
+}
+
 /** Shows what came of assembling the source. */
 function told(it) {
   if (it.id !== state.asked) return;
-  state.mistake = it.file ? null : it;
+  take_mistakes(it.file ? [] : it.mistakes);
   take_places(it.file ? places_of(state.file.text, it) : null);
   if (it.file) said(`assembles: ${it.file.length} bytes`, "good");
-  else said(mistake_words(it, state.file.text ?? ""), "bad");
+  else said(words_of_mistakes(it), "bad");
   draw();
   show_pc();
 }

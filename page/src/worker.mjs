@@ -1,5 +1,6 @@
 // The worker: it has the machine, plays it, and tells the page how it stands. So the page stays alive at full speed.
 // What runs a machine is in anywhere/machine; here are the messages, the time that they may take, and what is told.
+import { all_mistakes } from "../../anywhere/machine/assembler_mistakes.mjs";
 import { calls_of, line_step } from "../../anywhere/machine/line_steps.mjs";
 import { end_before, last_of, round } from "../../anywhere/machine/event_search.mjs";
 import { fault_in_words, faults_told, kill_in_words, kills_told } from "../../anywhere/machine/end_reports.mjs";
@@ -294,6 +295,12 @@ function reach_on(way) {
 
 // ---- messages
 
+/** The first mistake of a source, or nothing. */
+function first_mistake(text) {
+  const { file, line, kind } = machine.assemble(text);
+  return file ? null : { line, kind };
+}
+
 /** Boots a machine, and tells the page; false if it is refused. */
 function boot({ id, how = {}, ...asked }) {
   const before = performance.now(), order = { ...settings, ...how }, refusal = player.boot({ ...asked, how: order });
@@ -396,7 +403,10 @@ const obey = {
     search.gone = () => postMessage({ reached: { is: true, at: run.at } });
     reach_on(search);
   },
-  assemble({ text, id }) { postMessage({ assembled: { id, ...machine.assemble(text) } }); },
+  assemble({ text, id }) {
+    const made = machine.assemble(text);
+    postMessage({ assembled: { id, ...made, ...(made.file ? {} : all_mistakes(text, first_mistake)) } });
+  },
   record() {
     const files = run.files.map(({ name, bytes }) => ({ name, bytes }));
     postMessage({ record: { config: run.config, files, spans: run.events.spans() } });

@@ -57,6 +57,25 @@ async function panels(page, name) {
   for (const tab of ["instruction", "pages", "opened", "why"]) { await page.eval(`show_tab('${tab}')`); await page.sleep(500); await page.picture(`${folder}/${name}-${tab}.png`, { full: true }); }
 }
 
+/** All mistakes of a source are listed: a click goes to a line, another writes it, and undo takes that back. */
+async function mistakes(page) {
+  const rows = () => page.eval("[...document.querySelectorAll('#mistakes li')].map((it) => it.textContent)");
+  const line = (place) => page.eval(`document.getElementById('source').value.split('\\n')[${place}]`);
+  await page.eval("(() => { const it = document.getElementById('source'); it.value = '_start:\\n  bnez a0, _start\\n  li a0, 1\\n  mul a0, a0, a0\\n  addi a0 a0 1\\n  j nowhere\\n'; it.dispatchEvent(new Event('input')); })()");
+  await page.until("document.querySelectorAll('#mistakes li').length === 4");
+  holds((await page.eval("document.getElementById('mistake').textContent")).endsWith("And 3 more"), "the first mistake is told, and how many more there are");
+  holds((await page.eval("document.querySelectorAll('.gutter .bad').length")) === 4, "each line with a mistake is marked");
+  await page.picture(`${folder}/mistakes.png`);
+  await page.eval("document.querySelectorAll('#mistakes li')[1].firstElementChild.click()");
+  holds((await page.eval("(() => { const it = document.getElementById('source'); return it.value.slice(it.selectionStart, it.selectionEnd); })()")) === "  mul a0, a0, a0", "a click goes to the line of a mistake");
+  await page.eval("document.querySelectorAll('#mistakes li')[0].lastElementChild.click()");
+  await page.until("document.querySelectorAll('#mistakes li').length === 3");
+  holds((await line(1)) === "  bne a0, x0, _start", "a click writes the line as it is meant");
+  await page.key("z", { control: true });
+  await page.until("document.querySelectorAll('#mistakes li').length === 4").then(() => holds(true, "undo takes it back"), () => holds(false, "undo takes it back"));
+  holds((await rows()).every((it) => /^line \d+ /.test(it)), "each mistake has its line");
+}
+
 async function programs(page) {
   await page.eval("page.programs.choose('pipeline'); page.programs.boot({ play: false })");
   await page.until("page.app.booted.files[0].text && page.app.view?.at === 0");
@@ -66,9 +85,10 @@ async function programs(page) {
   await page.until("document.getElementById('mistake').textContent.includes('UnknownWord')");
   holds((await page.eval("document.getElementById('mistake').textContent")).includes("beq a0, x0"), "a mistake is told with a hint");
   holds((await page.eval("document.querySelectorAll('.gutter div:not(.no)').length")) === 0, "a source that is refused takes no break point");
+  await page.picture(`${folder}/mistake.png`);
+  await mistakes(page);
   const offered = await page.eval("[...document.getElementById('labels').children].map((it) => it.value)");
   holds(offered.includes("sbrklazy") && offered.length > 16, "labels and calls are offered for break points");
-  await page.picture(`${folder}/mistake.png`);
 }
 
 /** The text of an element, if it stands within the window; nothing if it doesn't. */
