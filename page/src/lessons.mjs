@@ -407,6 +407,10 @@ async function judge(lesson, question, given, told) {
     );
     if (place !== undefined) told.append(element("button", { onclick: () => ask("go", { place }) }, "See it"));
     question.done = right || question.done;
+    tell("answered", {
+      lesson: LESSONS.indexOf(lesson) + 1, question: lesson.questions.indexOf(question) + 1, is_right: right,
+      is_solved: lesson.questions.every((it) => it.done),
+    });
   } catch (error) {
     told.className = "wrong";
     told.textContent = String(error.message || error);

@@ -27,6 +27,7 @@ import * as manual from "./manual.mjs";
 import * as slides from "./slides.mjs";
 import * as first_minute from "./first_minute.mjs";
 import * as your_runs from "./your_runs.mjs";
+import * as frame from "./frame.mjs";
 import { problem } from "./messages.mjs";
 import { is_booted, is_embedded, short_place } from "./place_links.mjs";
 import { calls_in_words } from "../../anywhere/machine/event_words.mjs";
@@ -212,7 +213,7 @@ async function first_machine() {
 const PARTS = {
   messages, terminal, editor, works, time, breaks, processes, instruction, c_source, pages, descriptors, why, programs,
   sharing, lessons, session, happened, missing_stretches, translate, manual, slides, first_minute,
-  your_runs,
+  your_runs, frame,
 };
 
 function begin() {

@@ -141,6 +141,36 @@ export function shared_of(it) {
   };
 }
 
+// ---- what the page around a frame asks for
+
+/** A file of a message: {name, text} or {name, base64}. */
+function file_of_message(it, what) {
+  const name = text(own(it, "name"), `${what} its name`, MOST_NAME);
+  if (own(it, "text") !== undefined) return { name, text: text(own(it, "text"), `the text of ${name}`) };
+  return { name, bytes: bytes_of_base64(own(it, "base64"), `the bytes of ${name}`) };
+}
+
+const ASKED = {
+  boot: (it) => ({
+    files: list(own(it, "files"), "the list of files", MOST_FILES, file_of_message),
+    frames: frames(own(it, "frames")),
+    ...order(it),
+    keys: if_there(own(it, "keys"), "", (keys) => text(keys, "the text of keys", MOST_KEYS)),
+    play: own(it, "play") !== false,
+  }),
+  open: (it) => ({ link: text(own(it, "link"), "the link", MOST_TEXT) }),
+  go: (it) => ({ at: whole(own(it, "at"), "the place", 0, MOST_EVENTS) }),
+  play: () => ({}),
+  pause: () => ({}),
+};
+
+/** What a message from the page around asks for: {kind, ...}. */
+export function asked_by_frame(it) {
+  const kind = own(it, "nektavoly"), reader = entry(ASKED, kind);
+  if (!reader) refuse(`a message ${typeof kind === "string" ? kind.slice(0, 40) : ""}`, `is none of ${Object.keys(ASKED).join(", ")}`);
+  return { kind, ...reader(it) };
+}
+
 // ---- what the browser has kept
 
 const setting = (it, what) => text(String(it ?? ""), what, MOST_KEYS);

@@ -130,6 +130,33 @@ async function lecture(page) {
   holds(await page.eval("!document.documentElement.dataset.view && getComputedStyle(document.getElementById('left')).display !== 'none'"), "Escape leaves the slide");
 }
 
+/** A page that has this one in a frame is told what happens there, and asks for things. */
+async function messages_of_a_frame(page) {
+  await page.eval(`(() => {
+    globalThis.told = []; addEventListener("message", ({ data }) => told.push(data));
+    const it = document.createElement("iframe"); it.id = "framed"; it.src = "${url}?embed#example=fork&at=fork"; it.sandbox = "allow-scripts"; document.body.append(it);
+  })()`);
+  const ask = (it) => page.eval(`document.getElementById("framed").contentWindow.postMessage(${JSON.stringify(it)}, "*")`);
+  const is_told = (what, holds_of) => comes(page, `told.some((it) => it?.nektavoly === "${what}" && (${holds_of}))`, 20000).then(() => holds(true, `a frame tells: ${what}, ${holds_of}`), () => holds(false, `a frame tells: ${what}, ${holds_of}`));
+  await is_told("ready", "true");
+  await is_told("booted", "it.files[0] === 'init'");
+  await is_told("stands", "it.at > 0 && it.last.includes('fork')");
+  await ask({ nektavoly: "go", id: 1, at: 3 });
+  await is_told("answer", "it.id === 1 && it.is_done");
+  await is_told("stands", "it.at === 3");
+  await ask({ nektavoly: "boot", id: 2, files: [{ name: "init.s", text: "_start:\n  li a0, 7\n  li a7, 2\n  ecall\n" }], rounds: true });
+  await is_told("answer", "it.id === 2 && it.is_done");
+  await is_told("stands", "it.last.includes('7')");
+  await ask({ nektavoly: "boot", id: 3, files: [{ name: "init.s", text: "beqz a0, x\n" }] });
+  await is_told("refused", "it.words.includes('beqz')");
+  await is_told("answer", "it.id === 3 && !it.is_done");
+  for (const [id, it] of [{ nektavoly: "boot" }, { nektavoly: "go", at: -1 }, { nektavoly: "constructor" }, { nektavoly: 7 }, { nektavoly: "boot", files: [{ name: "a", base64: "*" }] }].entries()) {
+    await ask({ ...it, id: `bad ${id}` });
+    await is_told("answer", `it.id === "bad ${id}" && !it.is_done && it.words.length > 9`);
+  }
+  await page.eval("document.getElementById('framed').remove()");
+}
+
 async function embed(page) {
   await page.eval(`new Promise((done) => { const it = document.createElement('iframe'); it.src = '${url}?embed#example=hang&at=last&tab=why'; it.width = 1000; it.height = 560; it.style = "position: fixed; inset: 20px; z-index: 99; background: white"; it.onload = () => done(true); document.body.append(it); })`);
   await page.sleep(3000);
@@ -394,7 +421,7 @@ async function dark() {
   holds(page.logs.length === 0, `dark: no errors of the page: ${page.logs.join("; ")}`);
 }
 
-const CHECKS = { slides, links, own_work, shared_place, lecture, embed, happened, words_of_calls, who_stored, who_opened, reverse, translate, ends, first, manual }, ALONE = { phone, dark };
+const CHECKS = { slides, links, own_work, shared_place, lecture, embed, messages_of_a_frame, happened, words_of_calls, who_stored, who_opened, reverse, translate, ends, first, manual }, ALONE = { phone, dark };
 for (const [name, check] of Object.entries({ ...CHECKS, ...ALONE })) {
   if (names.length && !names.includes(name)) continue;
   if (ALONE[name]) { await check().catch((error) => holds(false, `${name}: ${error.stack}`)); continue; }
