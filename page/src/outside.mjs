@@ -269,6 +269,34 @@ export function link_of(hash, known) {
   return { words: Object.fromEntries(good), wrong };
 }
 
+// ---- slides
+
+export const SLIDES_BEGINNING = "nektavoly slides";
+const MOST_SLIDES = 500, MOST_WORDS = 4000;
+const PARTS_OF_A_SLIDE = ["slide", "link", "question", "answer"];
+
+/**
+ * The slides of a text: {title, link, question, answer} each. After its first line a line begins with `slide`, its title;
+ * `link`, what stands after the # of a link; `question` or `answer`. Blank lines and those that begin with # are passed over.
+ */
+export function slides_of(words) {
+  const slides = [];
+  for (const [place, line] of text(words, "the file").split(/\r?\n/).entries()) {
+    if (place === 0 || /^\s*(#|$)/.test(line)) continue;
+    const [, name, rest] = /^\s*(\w+)\s*(.*?)\s*$/.exec(line) ?? [], what = `line ${place + 1}`;
+    if (!PARTS_OF_A_SLIDE.includes(name)) refuse(what, `begins with none of ${PARTS_OF_A_SLIDE.join(", ")}`);
+    if (!rest) refuse(what, `says nothing after ${name}`);
+    if (name === "slide") slides.push({ title: text(rest, what, MOST_WORDS), link: "", question: "", answer: "" });
+    else if (!slides.length) refuse(what, "comes before the first slide");
+    else if (slides.at(-1)[name]) refuse(what, `is the second ${name} of its slide`);
+    else slides.at(-1)[name] = text(name === "link" ? rest.replace(/^#/, "") : rest, what, name === "link" ? MOST_TEXT : MOST_WORDS);
+    if (slides.length > MOST_SLIDES) refuse("the file", `has more than ${MOST_SLIDES} slides`);
+  }
+  const without = slides.findIndex((it) => !it.link);
+  if (without >= 0) refuse(`slide ${without + 1}`, "has no link");
+  return slides.length ? slides : refuse("the file", "has no slide");
+}
+
 // ---- packed texts
 
 /** The bytes of a stream, if they are not too many. */

@@ -8,7 +8,7 @@ import { problem } from "./messages.mjs";
 import { MOST_EVENTS, Refusal, shared_of, unpacked_value } from "./outside.mjs";
 import { arrive, follow_place, is_booted, is_slide, read_link, seen_now, short_place } from "./place_links.mjs";
 import { open_manual } from "./manual.mjs";
-import { listed_slides, note_slide } from "./slides.mjs";
+import { listed_slides, note_slide, words_of_slides } from "./slides.mjs";
 import * as programs from "./programs.mjs";
 
 const DATA = globalThis.PAGE_DATA;
@@ -254,7 +254,7 @@ async function share() {
       "p", {},
       "The record has each event of the run, and the sums of its programs, and no program: the terminal plays it too. Drop it on the page, or choose it by Open file.., to have the run again."
     ),
-    element("details", {}, element("summary", {}, "Twelve slides for a course"), listed_slides()));
+    element("details", {}, element("summary", {}, words_of_slides()), listed_slides()));
   if (!dialog.open) dialog.showModal();
   text.select();
 }

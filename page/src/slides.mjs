@@ -1,8 +1,11 @@
-// Slides: a place for the point of each lecture of the course (docs/COURSE.md), by the link that leads there, and the
-// view for a lecture: large letters, arrow keys, and nothing else.
+// Slides: a place for the point of each lecture of the course (docs/COURSE.md), or those of a file of the teacher's, by the
+// link that leads there; and the view for a lecture: large letters, arrow keys, a question with its answer, and nothing else.
 import { $, app, ask, element, on, write } from "./app.mjs";
 import { event_words, step, toggle } from "./time.mjs";
 import { is_lecture, set_view } from "./place_links.mjs";
+import { SLIDES_BEGINNING, slides_of } from "./outside.mjs";
+import { problem } from "./messages.mjs";
+import { take_texts } from "./programs.mjs";
 
 /**
  * What each slide shows, and the link that leads there. (\x10 is Ctrl-P, which the console passes over: while it comes,
@@ -44,12 +47,45 @@ export const SLIDES = [
   ["The store that did it: from the wrong number back to the line", "example=overrun&at=81&tab=instruction"],
 ];
 
-let here = -1; // the slide that is shown
+const COURSE = SLIDES.map(([title, link]) => ({ title, link, question: "", answer: "" }));
+const KEPT = "nektavoly slides"; // as long as the tab is open: a reload has the file's slides again
+let deck = COURSE; // the slides along which the keys go
+let here = -1; // the one that is shown
 
 /** Goes to a slide. */
 function open(number) {
-  if (number < 0 || number >= SLIDES.length) return;
-  location.hash = `${SLIDES[number][1]}&view=lecture`;
+  if (number < 0 || number >= deck.length) return;
+  const hash = `#${deck[number].link}&view=lecture`;
+  here = number;
+  if (location.hash === hash) note_slide(hash); else location.hash = hash;
+}
+
+/** Shows the slides of a file. */
+function take_slides(words, name) {
+  try {
+    deck = slides_of(words);
+  } catch (error) {
+    problem(`The slides ${name} aren't shown: ${error.message}.`);
+    return;
+  }
+  try { sessionStorage.setItem(KEPT, words); } catch { /* a reload has the course's again */ }
+  open(0);
+}
+
+/** Has the slides again that a file of this tab had. */
+function taken_before() {
+  try {
+    const words = sessionStorage.getItem(KEPT);
+    if (words) deck = slides_of(words);
+  } catch { /* those of the course */ }
+}
+
+/** Shows the answer to the slide's question, or hides it. */
+function reveal() {
+  const answer = $("lecture-answer"), is_shown = !answer.hidden;
+  if (!deck[here]?.answer) return;
+  answer.hidden = is_shown;
+  write($("lecture-reveal"), is_shown ? "Answer" : "Hide the answer");
 }
 
 function leave() {
@@ -65,7 +101,7 @@ const KEYS = {
   ), ArrowLeft: () => step("event", true), ArrowDown: () => step("call", false), ArrowUp: () => step("call", true),
   " ": toggle, Home: () => ask(
     "go", { place: 0 }
-  ), PageDown: () => open(here + 1), PageUp: () => open(here - 1), Escape: leave,
+  ), PageDown: () => open(here + 1), PageUp: () => open(here - 1), End: reveal, Escape: leave,
 };
 
 /** The keys of a lecture go before those of the panels. */
@@ -87,26 +123,39 @@ function draw() {
   );
 }
 
-/** Notes which slide a link leads to; its title stands above. */
+/** Notes which slide a link leads to: its title stands above, and its question with the answer hidden. */
 export function note_slide(hash) {
   const link = hash.replace(/^#/, "").replace(/&view=lecture$/, "");
-  here = SLIDES.findIndex(([, it]) => it === link);
-  write($("lecture-title"), here < 0 ? app.work.name : `${here + 1}. ${SLIDES[here][0]}`);
+  // (Two slides of one link: that which is shown, if it is one of them.)
+  if (deck[here]?.link !== link) here = deck.findIndex((it) => it.link === link);
+  const { title = app.work.name, question = "", answer = "" } = deck[here] ?? {};
+  write($("lecture-title"), here < 0 ? title : `${here + 1}. ${title}`);
+  write($("lecture-question"), question);
+  write($("lecture-answer"), answer);
+  write($("lecture-reveal"), "Answer");
+  $("lecture-asked").hidden = !question && !answer;
+  $("lecture-reveal").hidden = !answer;
+  $("lecture-answer").hidden = true;
 }
 
 /** The list of all slides, as links. */
 export const listed_slides = () => element(
   "ol", {},
-  ...SLIDES.map(
-    ([title, link]) => element(
+  ...deck.map(
+    ({ title, link }, place) => element(
       "li", {}, element("a", { href: `#${link}` }, title), " ",
-      element("a", { class: "dim", href: `#${link}&view=lecture` }, "as a slide")
+      element("a", { class: "dim", href: `#${link}&view=lecture`, onclick: () => { here = place; } }, "as a slide")
     )
   )
 );
+/** What the list of slides has: those of the course, or of a file. */
+export const words_of_slides = () => (deck === COURSE ? "Twelve slides for a course" : `${deck.length} slides of your file`);
 
 export function start() {
   addEventListener("keydown", key, true);
+  $("lecture-reveal").addEventListener("click", reveal);
+  take_texts(SLIDES_BEGINNING, take_slides);
+  taken_before();
   on("view", draw);
   on("lecture", draw);
 }

@@ -130,6 +130,37 @@ async function lecture(page) {
   holds(await page.eval("!document.documentElement.dataset.view && getComputedStyle(document.getElementById('left')).display !== 'none'"), "Escape leaves the slide");
 }
 
+/** Slides of a file: its titles, a question with its answer, the Page keys, and what is wrong in one. */
+async function own_slides(page) {
+  const take = (words) => page.eval(`page.programs.take([new File([${JSON.stringify(words)}], "mine.txt")])`);
+  const title = "document.getElementById('lecture-title').textContent";
+  await take("nektavoly slides 1\n\n# the first week\nslide fork answers twice\nlink #example=fork&rounds=1000&at=fork&tab=instruction&pid=2\nquestion What has <b>a0</b> in the child?\nanswer 0\nslide The same once more\nlink example=fork&rounds=1000&at=fork&tab=instruction&pid=2\nslide An end\nlink example=fork&rounds=1000&at=end\n");
+  await comes(page, `${title} === "1. fork answers twice"`);
+  holds((await text_of(page, "lecture-question")) === "What has <b>a0</b> in the child?", "a slide's question stands there, as it was written");
+  const shows = () => page.eval("!document.getElementById('lecture-answer').hidden");
+  const before = await shows();
+  await page.key("End");
+  await page.sleep(100);
+  holds(!before && (await shows()) && (await text_of(page, "lecture-answer")) === "0", "End shows the answer");
+  await page.picture(`${folder}/own-slide.png`);
+  await page.key("PageDown");
+  await comes(page, `${title} === "2. The same once more"`);
+  holds(await page.eval("document.getElementById('lecture-asked').hidden"), "a slide without a question shows none");
+  await page.key("PageDown");
+  await comes(page, `${title} === "3. An end"`);
+  await page.eval("location.reload()");
+  await page.sleep(1500);
+  await comes(page, `globalThis.ready === true && ${title} === "3. An end"`, 20000);
+  await page.key("PageUp");
+  await comes(page, `${title}.startsWith("2. ") || ${title}.startsWith("1. ")`);
+  holds(true, "a reload has the slides again");
+  await page.key("Escape");
+  for (const [words, said] of [["nektavoly slides 1\n", "has no slide"], ["nektavoly slides 1\nlink a=b\n", "before the first"], ["nektavoly slides 1\nslide a\n", "has no link"], ["nektavoly slides 1\nslide a\nlink x=1\nlink x=2\n", "second link"], ["nektavoly slides 1\nslides a\n", "begins with none"], ["nektavoly slides 1\nslide\n", "says nothing"]]) {
+    await take(words);
+    await comes(page, `document.body.textContent.includes(${JSON.stringify(said)})`, 5000).then(() => holds(true, `slides are refused: ${said}`), () => holds(false, `slides are refused: ${said}`));
+  }
+}
+
 /** A page that has this one in a frame is told what happens there, and asks for things. */
 async function messages_of_a_frame(page) {
   await page.eval(`(() => {
@@ -421,7 +452,7 @@ async function dark() {
   holds(page.logs.length === 0, `dark: no errors of the page: ${page.logs.join("; ")}`);
 }
 
-const CHECKS = { slides, links, own_work, shared_place, lecture, embed, messages_of_a_frame, happened, words_of_calls, who_stored, who_opened, reverse, translate, ends, first, manual }, ALONE = { phone, dark };
+const CHECKS = { slides, links, own_work, shared_place, lecture, embed, messages_of_a_frame, own_slides, happened, words_of_calls, who_stored, who_opened, reverse, translate, ends, first, manual }, ALONE = { phone, dark };
 for (const [name, check] of Object.entries({ ...CHECKS, ...ALONE })) {
   if (names.length && !names.includes(name)) continue;
   if (ALONE[name]) { await check().catch((error) => holds(false, `${name}: ${error.stack}`)); continue; }
