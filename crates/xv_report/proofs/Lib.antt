@@ -5,5 +5,6 @@ pub mod Finding
 pub mod Faulting
 pub mod CallNames
 pub mod Named
+mod WorkedCalls
 mod WorkedHints
 mod WorkedPlaces

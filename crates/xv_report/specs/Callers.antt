@@ -4,6 +4,9 @@ use Rattle.std.specs.Prelude.{ℕ, zero, suc, ◌+◌, ◌-◌, ◌*◌, ◌/◌
 use Rattle.xk_base.specs.declared.access.Rights.{Rights}
 use Rattle.xk_base.specs.declared.limits.TheConstants.{PAGE_BYTES, VPN_END}
 use Rattle.rv64i_core.specs.Registers.{Registers, reg}
+use Rattle.rv64i_core.specs.Table.{decoded}
+use Rattle.rv64i_core.specs.declared.instruction.Instr.{Instr}
+use Rattle.rv64i_core.specs.declared.instruction.Instr.TheVariants.{Jal, Jalr}
 use Rattle.kernel_spec.specs.views.State.{State}
 use Rattle.kcall_core.specs.Observers.{rights_at}
 use Rattle.xv_session.specs.Looking.{word_at}
@@ -35,9 +38,23 @@ may_execute (Some r) = r.execute && r.user
 abbrev pub is_code : State → ℕ → ℕ → Bool
 is_code s p address = nat_lt (address / PAGE_BYTES) VPN_END && may_execute (rights_at s p (address / PAGE_BYTES))
 
--- an instruction of process p may stand right before the address, as a call stands before its return address
+-- A call puts the address after it into ra: a JAL or a JALR does (Unprivileged ISA, "Unconditional Jumps")
+abbrev pub is_call : Option Instr → Bool
+is_call (Some (Jal d offset)) = d == RA
+is_call (Some (Jalr d s imm)) = d == RA
+is_call instr = false
+
+abbrev pub is_call_word : Option ℕ → Bool
+is_call_word None = false
+is_call_word (Some word) = is_call (decoded word)
+
+-- a call of process p stands at the address
+abbrev pub is_call_at : State → ℕ → ℕ → Bool
+is_call_at s p address = is_code s p address && is_call_word (word_at s p address)
+
+-- a call of process p stands right before the address, so the address may be what a call returns to
 abbrev pub is_return : State → ℕ → ℕ → Bool
-is_return s p address = nat_le 4 address && is_code s p (address - 4)
+is_return s p address = nat_le 4 address && ((address % 4 == 0) && is_call_at s p (address - 4))
 
 -- the return address, where it is one
 abbrev pub return_in : State → ℕ → ℕ → Option ℕ

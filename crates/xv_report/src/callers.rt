@@ -1,15 +1,15 @@
 //! The calls that led a process to where it is.
-ghost use Rattle.std.specs.Prelude.{◌≡◌, ◌≤◌, ◌+◌, ◌%◌, ◌++◌, IfSome, IfNone, option_map};
+ghost use Rattle.std.specs.Prelude.{◌≡◌, Some, ◌≤◌, ◌+◌, ◌%◌, ◌++◌, IfSome, IfNone, option_map};
 ghost use Rattle.arrayvec.specs.ArrayVec.{array_vec_len};
 ghost use Rattle.rv64i_core.specs.Registers.{reg};
 ghost use Rattle.kcall_core.specs.Observers.{registers_of};
 ghost use Rattle.xv_session.specs.Looking.{word_at};
 ghost use Rattle.xv_report.specs.Callers as meant;
-ghost use Rattle.xv_report.specs.Callers.{double_at, is_code, caller_at, callers_from, frames_told};
+ghost use Rattle.xv_report.specs.Callers.{double_at, is_code, is_call_at, is_call_word, caller_at, callers_from, frames_told};
 ghost use Rattle.xv_report.specs.Reports.{AreCallersWith, AreCallersOf};
 
 use arrayvec::ArrayVec;
-use rv64i_core::Regs;
+use rv64i_core::{Instr, Regs, decode};
 use xk_base::limits::{PAGE_BYTES, VPN_END};
 use xk_base::{Pid, Reg, Vpn};
 use xv_machine::Machine;
@@ -37,7 +37,7 @@ pub struct Callers {
     /// By the program's frame pointers, from the last call on. None if s0 leads to no frame: most programs are
     /// built without frame pointers.
     pub frames: ArrayVec<u64, CALLERS_MAX>,
-    /// By the register ra alone: an earlier call may have left it. None where no instruction stands before it.
+    /// By the register ra alone: an earlier call may have left it. None if no call stands right before it.
     pub ra: Option<u64>,
 }
 
@@ -77,11 +77,43 @@ fn is_code(machine: &Machine, pid: Pid, address: u64) -> bool
     }
 }
 
-/// Whether an instruction of a process may stand right before the address.
+/// Whether an instruction is a call: a JAL or a JALR that writes ra (RISC-V Unprivileged ISA, "Unconditional Jumps").
+fn is_call(instr: &Instr) -> bool
+    ensures { result ≡ meant.is_call (Some instr.now) }
+{
+    match instr {
+        Instr::Jal { rd, .. } => rd.number() == RETURN_ADDRESS,
+        Instr::Jalr { rd, .. } => rd.number() == RETURN_ADDRESS,
+        _ => false,
+    }
+}
+
+/// Whether a word spells a call.
+fn is_call_word(word: Option<u32>) -> bool
+    ensures { result ≡ is_call_word word }
+{
+    let Some(word) = word else {
+        return false;
+    };
+    match decode(word) {
+        Some(instr) => is_call(&instr),
+        None => false,
+    }
+}
+
+/// Whether a call of a process stands at an address.
+fn is_call_at(machine: &Machine, pid: Pid, address: u64) -> bool
+    requires { address % 4 ≡ 0 }
+    ensures { result ≡ is_call_at machine.now.world.state pid address }
+{
+    is_code(machine, pid, address) && is_call_word(word_at(machine, pid, address))
+}
+
+/// Whether a call of a process stands right before the address.
 fn is_return(machine: &Machine, pid: Pid, address: u64) -> bool
     ensures { result ≡ meant.is_return machine.now.world.state pid address }
 {
-    address >= 4 && is_code(machine, pid, address - 4)
+    address >= 4 && address % 4 == 0 && is_call_at(machine, pid, address - 4)
 }
 
 /// Whether two numbers of eight bytes can lie below the frame pointer.
@@ -190,8 +222,9 @@ pub(crate) fn callers_with(machine: &Machine, pid: Pid, regs: &Regs) -> Callers
 ///
 /// A program that was built with frame pointers keeps, below the address in s0, where the function returns to and its
 /// caller's s0 (RISC-V ABIs, "Frame Pointer Convention"). They are followed as long as each s0 is greater than the
-/// one before it, what stands there lies in the process's memory, and an instruction may stand right before the return
-/// address, [`CALLERS_MAX`] at most. A function that calls no other may keep only its caller's s0.
+/// one before it, what stands there lies in the process's memory, and a call stands right before the return address,
+/// [`CALLERS_MAX`] at most. A function that calls no other may keep only its caller's s0. A program that keeps no frame
+/// pointers has other numbers in s0, which may lead to such bytes by chance.
 pub fn callers_of(machine: &Machine, pid: Pid) -> Option<Callers>
     ensures some { IfSome result (AreCallersOf machine.now.world.state pid) }
     ensures none { IfNone result (registers_of machine.now.world.state pid ≡ None) }
