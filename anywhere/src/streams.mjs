@@ -10,7 +10,7 @@ export function rest(milliseconds) {
 }
 
 /** What the call gives, which is done again as long as the stream isn't ready. */
-function patiently(call) {
+export function patiently(call) {
   for (;;) {
     try {
       return call();
@@ -27,9 +27,9 @@ export function write_all(fd, what) {
   for (let at = 0; at < bytes.length; ) at += patiently(() => writeSync(fd, bytes, at));
 }
 
-/** Reads what is there, 65,536 bytes at most; none at the end. */
-export function read_some(fd) {
-  const bytes = Buffer.alloc(65536);
+/** Reads what is there, `most` bytes at most; none at the end. */
+export function read_some(fd, most = 65536) {
+  const bytes = Buffer.alloc(most);
   try {
     return bytes.subarray(0, patiently(() => readSync(fd, bytes, 0, bytes.length, null)));
   } catch (error) {
