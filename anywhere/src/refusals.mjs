@@ -5,9 +5,9 @@ import { copyFileSync, existsSync, mkdtempSync, readFileSync, rmSync, statSync, 
 import { tmpdir } from "node:os";
 import { join } from "node:path";
 import { module_of, path_of, run } from "./program.mjs";
-import { MODES, OPTIONS, option_of, options_of, rows_of, said, takes } from "./words.mjs";
+import { KINDS, MODES, OPTIONS, option_of, options_of, rows_of, said, takes } from "./words.mjs";
 
-const MOST = rows_of("most"), KINDS = rows_of("kind"), MEANINGS = rows_of("mistake");
+const MOST = rows_of("most"), MEANINGS = rows_of("mistake");
 const SOURCE = "dev/source.s";
 
 /** Why words are refused: texts, and the status. */
@@ -25,7 +25,7 @@ const refuse = (name, ...words) => {
 
 /** Kinds in words: `a run in rounds, --why and --gdb`. */
 function in_words(kinds) {
-  const words = kinds.map((kind) => KINDS.get(kind).replace(/^\S+ /, ""));
+  const words = kinds.map((kind) => KINDS.get(kind).called);
   return words.length < 2 ? words.join("") : `${words.slice(0, -1).join(", ")} and ${words.at(-1)}`;
 }
 

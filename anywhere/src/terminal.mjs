@@ -10,7 +10,7 @@ import { Keys } from "./keys.mjs";
 import { lines_of } from "./lines.mjs";
 import { module_of, run } from "./program.mjs";
 import { read_some, write_all } from "./streams.mjs";
-import { value_of } from "./words.mjs";
+import { said, value_of } from "./words.mjs";
 
 const NAME = "xv_terminal";
 const ITSELF = fileURLToPath(new URL("../../xv.mjs", import.meta.url));
@@ -53,7 +53,7 @@ function prepared(terminal) {
   try {
     terminal.setRawMode(true);
   } catch {
-    throw new Error("the terminal can't be set");
+    throw new Error(said("no-terminal").text);
   }
   const streams = terminals();
   if (process.platform !== "win32") stand_still_and_go_on(terminal);
@@ -114,7 +114,7 @@ function attend(module, words, files) {
 function may_record(words) {
   const record = value_of(words, "--record");
   if (!record || !existsSync(record) || statSync(record).size === 0) return true;
-  write_all(2, `${record} is there. Write over it? (y or n) `);
+  write_all(2, `${said("record-there", record).text} `);
   return ["y", "yes"].includes(read_some(0).toString().trim());
 }
 
@@ -123,7 +123,7 @@ export function at_terminal(words) {
   const module = module_of(NAME);
   const apart = isatty(1) && isatty(2) ? [] : ["--apart"];
   if (!isatty(0)) return run(module, NAME, [...apart, ...words]);
-  if (!may_record(words)) throw new Error("nothing is done: --record takes another path");
+  if (!may_record(words)) throw new Error(said("record-kept").text);
   const { option, files } = lines_of(words);
   return attend(module, ["--terminal", "--woken", ...option, ...apart, ...words], files);
 }

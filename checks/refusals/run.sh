@@ -27,7 +27,7 @@ looked_at() {
     if [ "$kind${XV_NODE-}" = serveyes ]; then
         node "$root/xv.mjs" --gdb "$@"
     elif [ "$kind" = serve ]; then
-        XV_GDB=true "$root/programs/host/modes.sh" --gdb "$@"
+        XV_AS_BUILT=yes XV_GDB=true "$root/xv" --gdb "$@"
     elif [ "${XV_NODE-}" = yes ]; then
         cat >"$room/look.mjs" <<END
 import { looked_at } from "$root/anywhere/src/refusals.mjs";

@@ -21,9 +21,10 @@ in_words() {
     for it; do
         shift
         row kind "$it"
+        row=${row#* * }
         case $said$# in
-            ?*0) said="$said and ${row#* }" ;;
-            ?*) said="$said${said:+, }${row#* }" ;;
+            ?*0) said="$said and $row" ;;
+            ?*) said="$said${said:+, }$row" ;;
         esac
     done
     echo "$said"
