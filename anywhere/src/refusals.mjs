@@ -106,9 +106,13 @@ function look_at_file(file, before) {
   if (file.endsWith(".s") && there.isFile()) look_at_source(file);
 }
 
-/** A copy of a FILE that is named init, with what is for debuggers. It goes when this process ends. */
-function copy_as_init(file) {
-  const bytes = bytes_of(file);
+const refuse_long = (file, size) => {
+  if (size > Number(MOST.get("file-bytes"))) refuse("too-long", file, MOST.get("file-bytes"));
+};
+
+/** A copy of a FILE of these bytes that is named init, with what is for debuggers. It goes when this process ends. */
+function copy_as_init(file, bytes) {
+  refuse_long(file, bytes.length);
   const folder = mkdtempSync(join(tmpdir(), "xv-"));
   process.on("exit", () => rmSync(folder, { recursive: true, force: true }));
   const copy = join(folder, file.endsWith(".s") ? "init.s" : "init");
@@ -123,10 +127,11 @@ function with_init(parts, names, say) {
   if (names.size > 1) refuse("no-init");
   const [[name, file]] = names, there = about(file);
   if (!there.isFile() && !there.isFIFO()) refuse("not-plain", file);
-  if (there.size > Number(MOST.get("file-bytes"))) refuse("too-long", file, MOST.get("file-bytes"));
+  refuse_long(file, there.size);
   if (file.endsWith(".c")) refuse("in-c", file);
-  const copy = copy_as_init(file);
+  const bytes = bytes_of(file);
   say(said(name === "sh" ? "shell-as-init" : "as-init", file, file).text);
+  const copy = copy_as_init(file, bytes);
   return parts.map((part) => (part.kind === "file" ? { ...part, word: copy } : part));
 }
 

@@ -111,6 +111,12 @@ first_mistake() {
     [ -n "$mistake" ]
 }
 
+# Whether a plain FILE has no more bytes than one may have, which are in $row.
+is_short() {
+    row most file-bytes
+    [ "$(wc -c <"$1")" -le "$row" ]
+}
+
 # Looks whether there is an init among the FILES, of which $file is the last.
 look_for_init() {
     alone=
@@ -118,7 +124,7 @@ look_for_init() {
     [ "$files" = 1 ] || refuse no-init
     [ -f "$file" ] || [ -p "$file" ] || refuse not-plain "$file"
     [ -r "$file" ] || refuse unread "$file" 'cannot be read'
-    [ ! -f "$file" ] || [ "$(wc -c <"$file")" -le "$(most file-bytes)" ] || refuse too-long "$file" "$(most file-bytes)"
+    [ ! -f "$file" ] || is_short "$file" || refuse too-long "$file" "$row"
     case $file in *.c) refuse in-c "$file" ;; esac
     alone=$file
     case $names in
