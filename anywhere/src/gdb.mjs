@@ -14,14 +14,17 @@ const ELF = "\x7fELF";
 /** A word as a shell reads it back. */
 const quoted = (word) => `'${word.replaceAll("'", "'\\''")}'`;
 
-/** Whether a FILE is a program: a source, or an ELF file by its first bytes. */
-function is_program(file) {
+/** What a plain file has, a letter each byte; nothing if there is none. */
+function text_of(path) {
   try {
-    return file.endsWith(".s") || (statSync(file).isFile() && readFileSync(file, "latin1").startsWith(ELF));
+    return statSync(path).isFile() ? readFileSync(path, "latin1") : "";
   } catch {
-    return false;
+    return "";
   }
 }
+
+/** Whether a FILE is a program: a source, or an ELF file by its first bytes. */
+const is_program = (file) => file.endsWith(".s") || text_of(file).startsWith(ELF);
 
 /** The program that GDB gets, if no word names one: the first FILE that is a program and isn't init, and else init. */
 const chosen = (files) => files.filter(is_program).map(name_of).find((name) => name !== "init") ?? "init";
@@ -37,14 +40,7 @@ function lines_for(path, words, wanted) {
 }
 
 /** Whether no file is there, or one that is empty or has such commands: so a forgotten path costs no program. */
-function is_free(path) {
-  try {
-    const about = statSync(path);
-    return !about.isFile() || about.size === 0 || readFileSync(path, "latin1").startsWith(BEGIN);
-  } catch {
-    return true;
-  }
-}
+const is_free = (path) => ["", BEGIN].includes(text_of(path).slice(0, BEGIN.length));
 
 /** Writes the commands, and gives the exit status. */
 function write_commands(path, words, wanted, say) {

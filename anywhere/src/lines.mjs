@@ -18,6 +18,9 @@ function bytes_of(path, most) {
   }
 }
 
+/** The file that has what the compiler tells debuggers of a program. */
+const from = (path) => (existsSync(`${path}.debug`) ? `${path}.debug` : path);
+
 let tool;
 
 /** What readelf tells of a file, asked by these words; nothing if there is none. */
@@ -35,8 +38,7 @@ function told_by_readelf(...words) {
 
 /** The names of the functions of an ELF file. */
 export function read_symbols(path) {
-  const from = existsSync(`${path}.debug`) ? `${path}.debug` : path;
-  return told_by_readelf("--symbols", from).split("\n").flatMap((row) => / FUNC .* (\S+)$/.exec(row)?.[1] ?? []);
+  return told_by_readelf("--symbols", from(path)).split("\n").flatMap((row) => / FUNC .* (\S+)$/.exec(row)?.[1] ?? []);
 }
 
 /**
@@ -44,12 +46,11 @@ export function read_symbols(path) {
  * behind the first is of a function that the linker left out.
  */
 function of_program(path) {
-  const from = existsSync(`${path}.debug`) ? `${path}.debug` : path;
-  const bytes = bytes_of(from, MOST_TOLD);
+  const bytes = bytes_of(from(path), MOST_TOLD);
   if (!bytes || !bytes.includes(".debug_line")) return [];
   const rows = [];
   let sequence = [];
-  for (const told of told_by_readelf("--debug-dump=decodedline", from).split("\n")) {
+  for (const told of told_by_readelf("--debug-dump=decodedline", from(path)).split("\n")) {
     const [file, line, place] = told.trim().split(/\s+/);
     if (!/^(\d+|-)$/.test(line) || !/^(0x[0-9a-f]+|0)$/.test(place)) continue;
     const address = Number(place);

@@ -2,13 +2,13 @@
 // this process.
 import { setFlagsFromString } from "node:v8";
 import {
-  closeSync, constants, existsSync, fstatSync, lstatSync, openSync, readFileSync, readSync, realpathSync,
+  closeSync, constants, existsSync, fstatSync, lstatSync, openSync, readFileSync, realpathSync,
 } from "node:fs";
 import { join, resolve } from "node:path";
 import { fileURLToPath } from "node:url";
 import { isMainThread } from "node:worker_threads";
-import { patiently, read_some, rest, write_all } from "./streams.mjs";
-import { CHARACTERS, FOLDER, HeldFile, LINK, REGULAR_FILE, SOCKET, Stream, is_trap, run_module } from "./wasi.mjs";
+import { read_into, rest, write_all } from "./streams.mjs";
+import { CHARACTERS, FOLDER, HeldFile, LINK, REGULAR_FILE, SOCKET, is_trap, run_module } from "./wasi.mjs";
 
 const ANYWHERE = fileURLToPath(new URL("..", import.meta.url));
 const IS_WINDOWS = process.platform === "win32";
@@ -77,14 +77,14 @@ function told(about) {
 class HostFile {
   constructor(path, { creates, excludes, empties, appends, reads, writes }) {
     const { O_RDONLY, O_WRONLY, O_RDWR, O_CREAT, O_EXCL, O_TRUNC, O_APPEND } = constants;
-    const flags = [[creates, O_CREAT], [excludes, O_EXCL], [empties, O_TRUNC], [appends, O_APPEND]];
     const way = writes ? (reads ? O_RDWR : O_WRONLY) : O_RDONLY;
-    this.fd = openSync(path, flags.reduce((sum, [is_set, flag]) => (is_set ? sum | flag : sum), way));
+    const flags = (creates && O_CREAT) | (excludes && O_EXCL) | (empties && O_TRUNC) | (appends && O_APPEND);
+    this.fd = openSync(path, way | flags);
     Object.assign(this, told(fstatSync(this.fd)));
   }
 
   read(room) {
-    return patiently(() => readSync(this.fd, room, 0, room.length, null));
+    return read_into(this.fd, room);
   }
 
   write(bytes) {
@@ -141,7 +141,7 @@ class HostFiles {
  * Runs a program until its end. `module` is that of `module_of(name)`, `words` are those behind its name, texts or
  * Buffers. `streams` may have
  *
- * - `input(most)`, which gives at most so many bytes, and none at the end;
+ * - `input`: an object with `read(room)`, which fills bytes, and gives how many: none at the end;
  * - `output(bytes)` and `errors(bytes)`, which take all;
  * - `sleep(milliseconds)`, which waits so long, or less;
  * - `files`, whose names are paths without the `/` at their head, and which have the bytes of these files.
@@ -151,8 +151,8 @@ class HostFiles {
  * @returns the exit status
  */
 export function run(module, name, words, streams = {}) {
-  const to = (fd, given) => new Stream({ write: given ?? ((bytes) => write_all(fd, bytes)) });
-  const input = new Stream({ read: streams.input ?? ((most) => read_some(0, most)) });
+  const input = streams.input ?? { read: (room) => read_into(0, room) };
+  const to = (fd, write = (bytes) => write_all(fd, bytes)) => ({ write });
   try {
     return run_module(module, {
       words: [name, ...words], environment: [`PWD=${folder_now()}`], files: new HostFiles(words, streams.files ?? {}),

@@ -5,6 +5,7 @@ import { copyFileSync, existsSync, mkdtempSync, readFileSync, rmSync, statSync, 
 import { tmpdir } from "node:os";
 import { join } from "node:path";
 import { module_of, path_of, run } from "./program.mjs";
+import { HeldFile } from "./wasi.mjs";
 import { KINDS, MODES, OPTIONS, option_of, options_of, rows_of, said, takes } from "./words.mjs";
 
 const MOST = rows_of("most"), MEANINGS = rows_of("mistake");
@@ -62,7 +63,8 @@ function bytes_of(file) {
 /** What the assembler says of a source first: {line, kind}, or {why} it can't be read; null if it says nothing. */
 function first_mistake(source) {
   let told = "";
-  const streams = { input: () => [], output() {}, errors: (bytes) => { told += bytes; }, files: { [SOURCE]: source } };
+  const errors = (bytes) => { told += bytes; };
+  const streams = { input: new HeldFile(), output() {}, errors, files: { [SOURCE]: source } };
   run(module_of("xv_run"), "xv_run", ["--rounds", "0", "--", `/${SOURCE}`], streams);
   const [, line, kind, why] = /: line (\d+): ([A-Za-z]+)\n|: (too long|not text)\n/.exec(told) ?? [];
   return told && (kind ? { line: Number(line), kind } : why ? { why } : null);

@@ -3,10 +3,11 @@
 import { lines_of } from "./lines.mjs";
 import { module_of, run } from "./program.mjs";
 import { by_lines, write_all } from "./streams.mjs";
+import { HeldFile } from "./wasi.mjs";
 import { rows_of } from "./words.mjs";
 
 const NOTE = new RegExp(rows_of("match").get("notes"));
-const PART = 1 << 16, UNWRITTEN = 5;
+const UNWRITTEN = 5;
 
 /** Runs the words by xv_why, and gives each line that it tells to `hand_on`. Gives the status. */
 function tell_why(words, hand_on, streams = {}) {
@@ -24,35 +25,10 @@ function tell(bytes) {
   } catch { /* nobody hears it */ }
 }
 
-const tell_line = (line) => tell(Buffer.from(`${line}\n`, "latin1"));
+const bytes_of = (line) => Buffer.from(`${line}\n`, "latin1");
 
 /** Runs the words, and tells why on standard error. */
-export const why = (words) => tell_why(words, tell_line);
-
-/** Notes, kept as bytes: many runs have millions. */
-class Notes {
-  constructor() {
-    this.parts = [];
-    this.begun = "";
-  }
-
-  add(line) {
-    this.begun += `${line}\n`;
-    if (this.begun.length >= PART) this.close();
-  }
-
-  close() {
-    if (this.begun) this.parts.push(Buffer.from(this.begun, "latin1"));
-    this.begun = "";
-  }
-
-  /** At most so many bytes, which are no longer kept; none at the end. */
-  take(most) {
-    const part = this.parts.shift() ?? Buffer.alloc(0);
-    if (part.length > most) this.parts.unshift(part.subarray(most));
-    return part.subarray(0, most);
-  }
-}
+export const why = (words) => tell_why(words, (line) => tell(bytes_of(line)));
 
 /**
  * Runs the words and draws the run on standard output; the status is that of the run, or 5 if the picture can't be
@@ -62,10 +38,9 @@ class Notes {
 export function picture(words) {
   const draw = (streams) => run(module_of("xv_picture"), "xv_picture", [], streams);
   if (words.length === 0) return draw();
-  const notes = new Notes();
-  const hand_on = (line) => (NOTE.test(line) ? notes.add(line) : tell_line(line));
+  const notes = new HeldFile(); // bytes: many runs have millions of notes
+  const hand_on = (line) => (NOTE.test(line) ? notes.write(bytes_of(line)) : tell(bytes_of(line)));
   const status = tell_why(["--notes", ...words], hand_on, { output: tell });
-  notes.close();
-  if (notes.parts.length === 0) return status;
-  return draw({ input: (most) => notes.take(most) }) === 0 ? status : UNWRITTEN;
+  notes.seek(0, 0);
+  return notes.size === 0 || draw({ input: notes }) === 0 ? status : UNWRITTEN;
 }

@@ -10,7 +10,7 @@ export function rest(milliseconds) {
 }
 
 /** What the call gives, which is done again as long as the stream isn't ready. */
-export function patiently(call) {
+function patiently(call) {
   for (;;) {
     try {
       return call();
@@ -27,25 +27,13 @@ export function write_all(fd, what) {
   for (let at = 0; at < bytes.length; ) at += patiently(() => writeSync(fd, bytes, at));
 }
 
-/** Reads what is there, `most` bytes at most; none at the end. */
-export function read_some(fd, most = 65536) {
-  const bytes = Buffer.alloc(most);
+/** Reads what is there, as far as there is room, and gives the number of bytes; 0 at the end. */
+export function read_into(fd, room) {
   try {
-    return bytes.subarray(0, patiently(() => readSync(fd, bytes, 0, bytes.length, null)));
+    return patiently(() => readSync(fd, room, 0, room.length, null));
   } catch (error) {
-    // So Windows tells the end of a pipe.
-    if (error.code === "EOF") return bytes.subarray(0, 0);
+    if (error.code === "EOF") return 0; // so Windows tells the end of a pipe
     throw error;
-  }
-}
-
-/** Reads up to the end. */
-export function read_all(fd) {
-  const parts = [];
-  for (;;) {
-    const part = read_some(fd);
-    if (part.length === 0) return Buffer.concat(parts);
-    parts.push(part);
   }
 }
 

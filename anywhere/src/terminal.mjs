@@ -9,7 +9,7 @@ import { edited } from "./editing.mjs";
 import { Keys } from "./keys.mjs";
 import { lines_of } from "./lines.mjs";
 import { module_of, run } from "./program.mjs";
-import { read_some, write_all } from "./streams.mjs";
+import { read_into, write_all } from "./streams.mjs";
 import { said, value_of } from "./words.mjs";
 
 const NAME = "xv_terminal";
@@ -115,7 +115,8 @@ function may_record(words) {
   const record = value_of(words, "--record");
   if (!record || !existsSync(record) || statSync(record).size === 0) return true;
   write_all(2, `${said("record-there", record).text} `);
-  return ["y", "yes"].includes(read_some(0).toString().trim());
+  const answer = Buffer.alloc(80);
+  return ["y", "yes"].includes(answer.subarray(0, read_into(0, answer)).toString().trim());
 }
 
 /** Runs the words at a terminal, and gives the exit status. Without one they are run as they are. */

@@ -25,20 +25,11 @@ class End {
 /** An error of a call, by the name that Node gives it. */
 const failure = (code) => Object.assign(new Error(code), { code, syscall: "wasi" });
 
-/** A stream of the caller: `read(most)` gives at most so many bytes, and `write(bytes)` takes all. */
-export class Stream {
-  constructor({ read = () => NOTHING, write = () => {} }) {
-    Object.assign(this, { kind: CHARACTERS, size: 0, give: read, write });
-  }
-
-  read(room) {
-    const bytes = this.give(room.length);
-    room.set(bytes);
-    return bytes.length;
-  }
-}
-
-/** A file that is held in memory. Its size is that of its bytes, if none is given. */
+/**
+ * A file that is held in memory. Its size is that of its bytes, if none is given. (Any file has `read(room)`, which
+ * fills bytes and gives how many, `write(bytes)`, which takes all, its `kind` and `size`, and perhaps `seek` and
+ * `close`.)
+ */
 export class HeldFile {
   constructor(bytes = NOTHING, size = bytes.length) {
     Object.assign(this, { kind: REGULAR_FILE, room: bytes, size, at: 0 });
@@ -104,8 +95,8 @@ class HeldFiles {
 }
 
 /**
- * One run of a module. `words` are bytes, its name first; `environment` has lines NAME=VALUE; `streams` are the first
- * three descriptors; `files` have the `names` of folders that paths begin at, and `open`, `about` and perhaps `remove`.
+ * One run of a module. `words` are bytes, its name first; `environment` has lines NAME=VALUE; `streams` are the files of
+ * the first three descriptors; `files` have the `names` of folders that paths begin at, and `open`, `about` and perhaps `remove`.
  * Without `sleep` it doesn't rest, and without `now`, in nanoseconds, the clock stands at 0.
  */
 class Host {
@@ -141,7 +132,7 @@ class Host {
       at += text.length;
     }
   }
-  put_about(stat, { kind, size }) {
+  put_about(stat, { kind = CHARACTERS, size = 0 }) {
     this.bytes(stat, 64).fill(0);
     this.view.setUint8(stat + 16, kind);
     this.put_long(stat + 32, size);
