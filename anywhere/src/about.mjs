@@ -6,11 +6,8 @@ import { ROOT, made_of, state } from "./sources.mjs";
 import { write_all } from "./streams.mjs";
 import { said } from "./words.mjs";
 
-/** The status that says that words, or what they name, are refused. */
-export const REFUSED = 1;
-
-/** The status that says that nothing could run. */
-export const NOTHING_RUNS = 125;
+/** The statuses that say that words, or what they name, are refused; and that nothing could run. */
+export const REFUSED = 1, NOTHING_RUNS = 125;
 
 const text_of = (name) => readFileSync(ROOT + name, "utf8");
 

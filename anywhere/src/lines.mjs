@@ -8,13 +8,13 @@ const TOOLS = ["riscv64-unknown-elf-readelf", "riscv64-linux-gnu-readelf", "read
 const TABLE = "dev/lines";
 const MOST_TOLD = 1 << 30;
 
-/** The bytes of a file, or null if it is none, or has more than `most`. */
-function bytes_of(path, most) {
+/** Whether a file has a section of lines, so that it is worth to ask readelf. */
+function has_lines(path) {
   try {
     const about = statSync(path);
-    return about.isFile() && about.size <= most ? readFileSync(path) : null;
+    return about.isFile() && about.size <= MOST_TOLD && readFileSync(path).includes(".debug_line");
   } catch {
-    return null;
+    return false;
   }
 }
 
@@ -46,8 +46,7 @@ export function read_symbols(path) {
  * behind the first is of a function that the linker left out.
  */
 function of_program(path) {
-  const bytes = bytes_of(from(path), MOST_TOLD);
-  if (!bytes || !bytes.includes(".debug_line")) return [];
+  if (!has_lines(from(path))) return [];
   const rows = [];
   let sequence = [];
   for (const told of told_by_readelf("--debug-dump=decodedline", from(path)).split("\n")) {

@@ -28,11 +28,6 @@ const WAYS = {
   gdb: async (_, words, given) => (await import("./gdb.mjs")).gdb(words, given, tell),
 };
 
-/** Serves an editor: the adapter takes no words, since the editor sends them. */
-async function serve_editor(words) {
-  return words.length > 0 ? tell(said("no-value", "--dap")) : (await import("../editor/main.mjs")).main("xv");
-}
-
 /** What xv answers itself, and its status; nothing if the words are for a program. */
 async function answered(first, others) {
   switch (first) {
@@ -50,7 +45,8 @@ async function answered(first, others) {
       tell_version("Nektavoly");
       write_all(1, `${modules().text}\n`);
       return 0;
-    case "--dap": return serve_editor(others);
+    case "--dap": // it takes no words: the editor sends them
+      return others.length > 0 ? tell(said("no-value", "--dap")) : (await import("../editor/main.mjs")).main("xv");
     case "--cc": return (await import("./c_compiler.mjs")).compile_by(others);
     default: return undefined;
   }

@@ -1,5 +1,5 @@
-// --why and --picture: xv_why runs programs, with the lines of programs in C, and tells why processes end or wait; or it
-// notes each event, and xv_picture draws what was noted.
+// --why and --picture: xv_why runs programs, with the lines of programs in C, and tells why processes end or wait; or
+// it notes each event, and xv_picture draws what was noted.
 import { lines_of } from "./lines.mjs";
 import { module_of, run } from "./program.mjs";
 import { by_lines, write_all } from "./streams.mjs";

@@ -14,9 +14,8 @@ import { said, value_of } from "./words.mjs";
 
 const NAME = "xv_terminal";
 const ITSELF = fileURLToPath(new URL("../../xv.mjs", import.meta.url));
-const HANGUP = 129;
-const SIGNALS = process.platform === "win32" ? { SIGINT: 130, SIGBREAK: 130 }
-  : { SIGINT: 130, SIGQUIT: 131, SIGTERM: 143 };
+const SIGNALS = process.platform === "win32" ? { SIGHUP: 129, SIGINT: 130, SIGBREAK: 130 }
+  : { SIGHUP: 129, SIGINT: 130, SIGQUIT: 131, SIGTERM: 143 };
 const ENTER = 13, LINE_END = 10;
 // How long a machine may take to end, in milliseconds, if a signal asks for it.
 const PATIENCE = 1000;
@@ -55,7 +54,7 @@ function prepared(terminal) {
   } catch {
     throw new Error(said("no-terminal").text);
   }
-  const streams = terminals();
+  const streams = [0, 1, 2].filter((fd) => isatty(fd)); // those that are terminals
   if (process.platform !== "win32") stand_still_and_go_on(terminal);
   return () => {
     try {
@@ -65,10 +64,7 @@ function prepared(terminal) {
   };
 }
 
-/** The streams of this process that are terminals. */
-const terminals = () => [0, 1, 2].filter((fd) => isatty(fd));
-
-/** Lets go of those terminals that are gone: Node would set them as it ends, and break. */
+/** Lets go of those streams that are gone: Node would set them as it ends, and break. */
 function let_go(streams) {
   if (process.platform === "win32") return;
   for (const fd of streams) if (!isatty(fd)) closeSync(fd);
@@ -98,14 +94,12 @@ function attend(module, words, files) {
       ended(worker, restore).then(then);
     };
     const stop = (status) => end(() => give(status));
-    const hang_up = () => stop(HANGUP);
     for (const [signal, status] of Object.entries(SIGNALS)) process.on(signal, () => stop(status));
-    process.on("SIGHUP", hang_up);
     worker.on("message", stop);
     worker.on("error", (error) => end(() => refuse(error)));
     worker.on("exit", () => end(() => refuse(new Error(`${NAME} broke`))));
     // A terminal that is gone is a hangup.
-    for (const happening of ["end", "error", "close"]) terminal.on(happening, hang_up);
+    for (const happening of ["end", "error", "close"]) terminal.on(happening, () => stop(SIGNALS.SIGHUP));
     hand_over(terminal, keys);
   });
 }

@@ -95,9 +95,9 @@ class HeldFiles {
 }
 
 /**
- * One run of a module. `words` are bytes, its name first; `environment` has lines NAME=VALUE; `streams` are the files of
- * the first three descriptors; `files` have the `names` of folders that paths begin at, and `open`, `about` and perhaps `remove`.
- * Without `sleep` it doesn't rest, and without `now`, in nanoseconds, the clock stands at 0.
+ * One run of a module. `words` are bytes, its name first; `environment` has lines NAME=VALUE; `streams` are the files
+ * of the first three descriptors; `files` have the `names` of folders that paths begin at, and `open`, `about` and
+ * perhaps `remove`. Without `sleep` it doesn't rest, and without `now`, in nanoseconds, the clock stands at 0.
  */
 class Host {
   constructor({ words, environment = [], streams, files, sleep = () => {}, now = () => 0n }) {

@@ -2,7 +2,7 @@
 #
 #   start KIND WORD..   runs the words, which were looked at, by the program of their kind
 #
-# A kind of HOW `lines` gets the lines of programs in C, from lines.sh. At a terminal those of `keys` are handed each key
+# A kind of HOW `lines` gets the lines of programs in C, from lines.sh. At a terminal those of `keys` get each key
 # by itself while the machine runs, and a look at it answers at once; it is as it was after every end that a script can
 # see, also one by a signal. Those of `prompt` begin once more there, by pipes, below Node's line editor; without Node
 # rlwrap does a part of that, if it is there. XV_WHY, and so on, is another program than bin/xv_why.

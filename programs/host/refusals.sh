@@ -9,12 +9,6 @@
 # What it knows nothing of, as the numbers of options, it leaves to the programs.
 # shellcheck shell=sh disable=SC2034,SC2154
 
-# A limit of the table.
-most() {
-    row most "$1"
-    echo "$row"
-}
-
 # Kinds in words: `a run in rounds, --why and --gdb`.
 in_words() {
     said=
@@ -86,7 +80,7 @@ look_at_source() {
     count=0
     while first_mistake "$copies/it.s"; do
         count=$((count + 1))
-        [ "$count" -le "$(most mistakes)" ] || { tell more-mistakes; break; }
+        [ "$count" -le "$most_mistakes" ] || { tell more-mistakes; break; }
         line=${mistake%% *}
         text=$(sed -n "$line"'{s/^[ 	]*//; s/[ 	]*#.*$//; s/[ 	]*$//; p; q;}' "$copies/it.s")
         row mistake "${mistake#* }"
@@ -146,7 +140,9 @@ look_at_part() {
 
 look_at() {
     for_kind=$1 run=$2 names=/ given='' files=0 file='' helps='' alone=''
-    most_files=$(most files) most_name_bytes=$(most name-bytes)
+    row most files && most_files=$row
+    row most name-bytes && most_name_bytes=$row
+    row most mistakes && most_mistakes=$row
     shift 2
     each_part find_help "$@"
     [ -z "$helps" ] || return 0
