@@ -157,7 +157,7 @@ export function run(module, name, words, streams = {}) {
     return run_module(module, {
       words: [name, ...words], environment: [`PWD=${folder_now()}`], files: new HostFiles(words, streams.files ?? {}),
       streams: [input, to(1, streams.output), to(2, streams.errors)], sleep: streams.sleep ?? rest,
-      now: process.hrtime.bigint,
+      now: (clock) => (clock === 0 ? BigInt(Date.now()) * 1000000n : process.hrtime.bigint()), // 0 is the time of day
     });
   } catch (error) {
     throw is_trap(error) ? new Error(`${name} broke: ${error.message}`) : error;

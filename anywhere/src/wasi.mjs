@@ -97,7 +97,7 @@ class HeldFiles {
 /**
  * One run of a module. `words` are bytes, its name first; `environment` has lines NAME=VALUE; `streams` are the files
  * of the first three descriptors; `files` have the `names` of folders that paths begin at, and `open`, `about` and
- * perhaps `remove`. Without `sleep` it doesn't rest, and without `now`, in nanoseconds, the clock stands at 0.
+ * perhaps `remove`. Without `sleep` it doesn't rest, and without `now`, in nanoseconds, each clock stands at 0.
  */
 class Host {
   constructor({ words, environment = [], streams, files, sleep = () => {}, now = () => 0n }) {
@@ -142,7 +142,7 @@ class Host {
   args_get(places, at) { this.put_texts(this.words, places, at); }
   environ_sizes_get(count, size) { this.put_sizes(this.environment, count, size); }
   environ_get(places, at) { this.put_texts(this.environment, places, at); }
-  clock_time_get(clock, precision, time) { this.put_long(time, this.now()); }
+  clock_time_get(clock, precision, time) { this.put_long(time, this.now(clock)); }
 
   fd_prestat_get(fd, told) {
     const name = this.files.names[fd - FIRST_FOLDER];
