@@ -116,9 +116,11 @@ class Host {
     return Array.from({ length: count }, (_, k) => this.bytes(number(2 * k), number(2 * k + 1)));
   }
 
-  file(fd) {
-    if (!this.opened[fd]) throw failure("EBADF");
-    return this.opened[fd];
+  /** The file of a descriptor, if it can do this. */
+  file(fd, what) {
+    const file = this.opened[fd];
+    if (!file || (what && !file[what])) throw failure("EBADF");
+    return file;
   }
 
   put_sizes(texts, count, size) {
@@ -174,7 +176,7 @@ class Host {
   path_remove_directory() { throw failure("ENOENT"); }
 
   fd_read(fd, list, count, got) {
-    const file = this.file(fd);
+    const file = this.file(fd, "read");
     let sum = 0;
     for (const room of this.parts(list, count)) {
       const read = file.read(room);
@@ -184,8 +186,8 @@ class Host {
     this.put(got, sum);
   }
   fd_write(fd, list, count, got) {
-    const parts = this.parts(list, count);
-    for (const bytes of parts) this.file(fd).write(Buffer.from(bytes));
+    const parts = this.parts(list, count), file = this.file(fd, "write");
+    for (const bytes of parts) file.write(Buffer.from(bytes));
     this.put(got, parts.reduce((sum, bytes) => sum + bytes.length, 0));
   }
   fd_seek(fd, offset, whence, at) {
