@@ -31,7 +31,7 @@ fi
 gdb-multiarch -q -nx -batch -l 60 game.debug -ex "target remote | $serve" -x "$here/gdb/game.gdb" >said 2>&1 </dev/null || true
 sed -e '/^warning:/d' -e '/^Remote debugging/d' -e "s|$room/||g" said >kept
 # The same by a file of commands, as ./xv --gdb --commands writes it.
-"$here/../programs/host/modes.sh" --gdb --commands run.gdb --frames 512 --file game "$bin/init" "$bin/sh" game rc 2>/dev/null
+XV_AS_BUILT=yes "$here/../xv" --gdb --commands run.gdb --frames 512 --file game "$bin/init" "$bin/sh" game rc 2>/dev/null
 gdb-multiarch -q -nx -batch -x run.gdb -ex 'break report' -ex continue -ex 'print game.rounds' -ex kill >other 2>&1 </dev/null || true
 grep -q '^\$1 = 82$' other || {
     echo "checks/gdb.sh: by a file of commands GDB says something else" >&2

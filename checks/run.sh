@@ -3,8 +3,8 @@
 # at a terminal and of the debugger, the stored runs, random programs and random words in rows and by single events, the
 # reports and the conversations with GDB by the programs that are built, reads the lines of all sources a second time, lets
 # the debugger show words as others' disassemblers do, grades submissions, runs the commands that the pages show, looks at
-# their links, at the cases by name and at the numbers of calls, counts what the proofs can do without, what stands twice and
-# what has to be believed, and tells of which state the modules and page/nektavoly.html are, in some 40 seconds. The gate does
+# their links, at the cases by name and at the numbers of calls, counts what the proofs can do without, what stands twice, the
+# launcher's lines and what has to be believed, and tells of which state the modules and page/nektavoly.html are, in some 40 seconds. The gate does
 # the same after `rt ci`.
 # `checks/run.sh --others` tells which other checks there are, how each is called, and how long it takes.
 #
@@ -96,6 +96,7 @@ case "$*" in
 '')
     do_all $quick $longer 'python3 -B checks/commands.py' 'python3 -B checks/links.py' 'python3 -B checks/lemmas.py' \
         'python3 -B checks/closure.py' 'python3 -B checks/once.py' 'python3 -B checks/cases.py' 'python3 -B checks/calls.py' \
+        'python3 -B checks/launcher_lines.py' \
         'python3 -B checks/edits_apply.py' \
         'anywhere/is_current.sh --tell' 'page/is_current.sh --tell' checks/shell.sh
     tell_others

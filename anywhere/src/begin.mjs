@@ -2,7 +2,7 @@
 // old Node reads this file too, so that it has nothing but old words, and imports all else late.
 import { writeSync } from "fs";
 
-/** Whether this Node has what is needed: WASI without a word for it. */
+/** Whether this Node is of a version that was tried. */
 function is_new_enough() {
   const numbers = process.versions.node.split(".").map(Number);
   return numbers[0] > 18 || (numbers[0] === 18 && numbers[1] >= 17);

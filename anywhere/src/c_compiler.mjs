@@ -7,7 +7,7 @@ import { run_compiler } from "./c_host.mjs";
 import { NotLinked, link } from "./c_linker.mjs";
 import { ROOT } from "./sources.mjs";
 import { write_all } from "./streams.mjs";
-import { as_taken, own_words } from "./words.mjs";
+import { as_taken } from "./words.mjs";
 
 const NAME = "xv --cc";
 // The module takes no path for an absolute one. So those of the library, and absolute ones, have a head of their own.
@@ -145,5 +145,3 @@ export function compile_by(words) {
     return REFUSED;
   }
 }
-
-export const main = () => compile_by(own_words());

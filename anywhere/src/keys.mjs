@@ -24,15 +24,14 @@ export class Keys {
     return count;
   }
 
-  /** Takes the oldest keys, `most` of them at most, or none. */
-  take(most) {
+  /** Takes the oldest keys, as many as there is room for, or none, and gives their number. */
+  read(room) {
     const taken = Atomics.load(this.counters, TAKEN);
     this.seen = Atomics.load(this.counters, PUT);
-    const count = Math.min(most, (this.seen - taken) >>> 0);
-    const keys = new Uint8Array(count);
-    for (let k = 0; k < count; k++) keys[k] = this.bytes[(taken + k) & (ROOM - 1)];
+    const count = Math.min(room.length, (this.seen - taken) >>> 0);
+    for (let k = 0; k < count; k++) room[k] = this.bytes[(taken + k) & (ROOM - 1)];
     Atomics.store(this.counters, TAKEN, taken + count);
-    return keys;
+    return count;
   }
 
   /** Waits for some milliseconds, or until a key comes that wasn't there at the last look. */

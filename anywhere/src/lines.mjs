@@ -8,15 +8,18 @@ const TOOLS = ["riscv64-unknown-elf-readelf", "riscv64-linux-gnu-readelf", "read
 const TABLE = "dev/lines";
 const MOST_TOLD = 1 << 30;
 
-/** The bytes of a file, or null if it is none, or has more than `most`. */
-function bytes_of(path, most) {
+/** Whether a file has a section of lines, so that it is worth to ask readelf. */
+function has_lines(path) {
   try {
     const about = statSync(path);
-    return about.isFile() && about.size <= most ? readFileSync(path) : null;
+    return about.isFile() && about.size <= MOST_TOLD && readFileSync(path).includes(".debug_line");
   } catch {
-    return null;
+    return false;
   }
 }
+
+/** The file that has what the compiler tells debuggers of a program. */
+const from = (path) => (existsSync(`${path}.debug`) ? `${path}.debug` : path);
 
 let tool;
 
@@ -35,8 +38,7 @@ function told_by_readelf(...words) {
 
 /** The names of the functions of an ELF file. */
 export function read_symbols(path) {
-  const from = existsSync(`${path}.debug`) ? `${path}.debug` : path;
-  return told_by_readelf("--symbols", from).split("\n").flatMap((row) => / FUNC .* (\S+)$/.exec(row)?.[1] ?? []);
+  return told_by_readelf("--symbols", from(path)).split("\n").flatMap((row) => / FUNC .* (\S+)$/.exec(row)?.[1] ?? []);
 }
 
 /**
@@ -44,12 +46,10 @@ export function read_symbols(path) {
  * behind the first is of a function that the linker left out.
  */
 function of_program(path) {
-  const from = existsSync(`${path}.debug`) ? `${path}.debug` : path;
-  const bytes = bytes_of(from, MOST_TOLD);
-  if (!bytes || !bytes.includes(".debug_line")) return [];
+  if (!has_lines(from(path))) return [];
   const rows = [];
   let sequence = [];
-  for (const told of told_by_readelf("--debug-dump=decodedline", from).split("\n")) {
+  for (const told of told_by_readelf("--debug-dump=decodedline", from(path)).split("\n")) {
     const [file, line, place] = told.trim().split(/\s+/);
     if (!/^(\d+|-)$/.test(line) || !/^(0x[0-9a-f]+|0)$/.test(place)) continue;
     const address = Number(place);

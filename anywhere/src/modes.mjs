@@ -1,17 +1,14 @@
 // What xv does by its words: which program runs them, and how. The modes may stand anywhere before the word `--`.
 import { isatty } from "node:tty";
-import { NOTHING_RUNS, REFUSED, status, tell_version } from "./about.mjs";
-import { compile_by } from "./c_compiler.mjs";
-import { gdb } from "./gdb.mjs";
-import { picture } from "./picture.mjs";
+import { REFUSED, modules, tell_version } from "./about.mjs";
 import { module_of, run } from "./program.mjs";
 import { looked_at } from "./refusals.mjs";
-import { why } from "./reports.mjs";
 import { write_all } from "./streams.mjs";
-import { at_terminal, debug } from "./terminal.mjs";
-import { MODES, as_taken, help, options_of, own_words, parts_of, said, takes, words_of } from "./words.mjs";
+import {
+  KINDS, MODES, as_taken, help, options_of, own_words, parts_of, rows_of, said, takes, words_of,
+} from "./words.mjs";
 
-const OF_THE_KIT = ["--build", "--unproved"];
+const OWN = rows_of("own");
 
 const say = (text) => write_all(2, `xv: ${text}\n`);
 
@@ -21,22 +18,18 @@ function tell({ text, status: ended }) {
   return ended;
 }
 
-const program = (name) => (words) => run(module_of(name), name, words);
-
-/** How the words of a kind are run. */
-const DOINGS = {
-  run: program("xv_run"), terminal: at_terminal, "--why": why, "--explain": program("xv_explain"), "--picture": picture,
-  "--debug": debug,
+/** How the words of a kind are run, by what the table says of it. What only some runs need is read late. */
+const WAYS = {
+  plain: (name, words) => run(module_of(name), name, words),
+  lines: async (_, words) => (await import("./reports.mjs")).why(words),
+  picture: async (_, words) => (await import("./reports.mjs")).picture(words),
+  keys: async (_, words) => (await import("./terminal.mjs")).at_terminal(words),
+  prompt: async (_, words) => (await import("./terminal.mjs")).debug(words),
+  gdb: async (_, words, given) => (await import("./gdb.mjs")).gdb(words, given, tell),
 };
 
-/** Serves an editor: the adapter takes no words, since the editor sends them. */
-function serve_editor(words) {
-  if (words.length > 1) return tell(said("no-value", "--dap"));
-  return import("../editor/main.mjs").then((adapter) => adapter.main("xv"));
-}
-
 /** What xv answers itself, and its status; nothing if the words are for a program. */
-function answered(first) {
+async function answered(first, others) {
   switch (first) {
     case undefined:
       write_all(2, help());
@@ -46,14 +39,16 @@ function answered(first) {
       write_all(1, help());
       return 0;
     case "--status":
-      say(status().text);
+      say(modules().text);
       return 0;
     case "--version":
       tell_version("Nektavoly");
-      write_all(1, `${status().text}\n`);
+      write_all(1, `${modules().text}\n`);
       return 0;
-    default:
-      return undefined;
+    case "--dap": // it takes no words: the editor sends them
+      return others.length > 0 ? tell(said("no-value", "--dap")) : (await import("../editor/main.mjs")).main("xv");
+    case "--cc": return (await import("./c_compiler.mjs")).compile_by(others);
+    default: return undefined;
   }
 }
 
@@ -80,26 +75,22 @@ function kind_of(parts) {
 }
 
 /** Does what the words of this process ask for, and gives the exit status. */
-export function main() {
-  const words = as_taken(own_words());
-  if (String(words[0]) === "--dap") return serve_editor(words);
-  if (String(words[0]) === "--cc") return compile_by(words.slice(1));
-  const own = answered(words[0] === undefined ? undefined : String(words[0]));
+export async function main() {
+  const words = as_taken(own_words()), [first, ...others] = words;
+  const own = await answered(first?.toString(), others);
   if (own !== undefined) return own;
   const all = parts_of(words), is_mode = ({ kind, word }) => kind === "option" && MODES.includes(String(word));
-  const foreign = options_of(all).find(({ name }) => OF_THE_KIT.includes(name));
+  const foreign = options_of(all).find(({ name }) => OWN.get(name) === "kit");
   if (foreign) return tell(said("of-the-kit", foreign.name));
   const { mode, option, clash } = one_of(all.filter(is_mode).map(({ word }) => String(word)));
   if (clash) return tell(said("two-modes", ...clash));
-  const known = status();
-  if (!known.runs) {
-    say(known.text);
-    return NOTHING_RUNS;
-  }
+  const known = modules();
+  if (known.status !== 0) return tell(known);
   if (known.warning) say(known.warning);
   const given = [...(option ? [{ kind: "option", word: option }] : []), ...all.filter((part) => !is_mode(part))];
   const kind = mode ?? kind_of(given);
   const { parts, status: refused } = looked_at(kind, given, say);
   if (!parts) return refused;
-  return kind === "--gdb" ? gdb(parts, given, tell) : DOINGS[kind](words_of(parts));
+  const { program, how } = KINDS.get(kind);
+  return WAYS[how](program, words_of(parts), given);
 }

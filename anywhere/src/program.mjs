@@ -1,19 +1,17 @@
-// The programs of the machine as modules of WASI (preview 1), and how Node runs one. Node's own WASI does what a
-// program asks of its host; only words that are no text, streams that the caller has itself, streams that don't wait,
-// and files that no folder has (held.mjs) are done here.
-import "./quiet.mjs";
-import { createRequire } from "node:module";
+// The programs of the machine as modules, and how Node runs one: wasi.mjs is their host, over the streams and files of
+// this process.
 import { setFlagsFromString } from "node:v8";
-import { existsSync, readFileSync } from "node:fs";
-import { join } from "node:path";
+import {
+  closeSync, constants, existsSync, fstatSync, lstatSync, openSync, readFileSync, realpathSync,
+} from "node:fs";
+import { join, resolve } from "node:path";
 import { fileURLToPath } from "node:url";
 import { isMainThread } from "node:worker_threads";
-import { with_held } from "./held.mjs";
-import { rest } from "./streams.mjs";
+import { read_into, rest, write_all } from "./streams.mjs";
+import { CHARACTERS, FOLDER, HeldFile, LINK, REGULAR_FILE, SOCKET, is_trap, run_module } from "./wasi.mjs";
 
-// At this time, since an import would come before quiet.mjs.
-const { WASI } = createRequire(import.meta.url)("node:wasi");
-const FOLDER = fileURLToPath(new URL("..", import.meta.url));
+const ANYWHERE = fileURLToPath(new URL("..", import.meta.url));
+const IS_WINDOWS = process.platform === "win32";
 
 // A function that has run for a while is compiled once more, for speed, and Node ends only after that. Up to Node 20 a
 // while is so short that the end of a short run would wait for it; this is about what later ones have.
@@ -21,15 +19,12 @@ const [V8] = process.versions.v8.split(".").map(Number);
 // Flags are of the process: a thread leaves them as they are.
 if (V8 < 12 && isMainThread) setFlagsFromString("--wasm-tiering-budget=10000000");
 
-// Errors of WASI, by the names that Node gives them.
-const ERRORS = { EAGAIN: 6, EIO: 29, ENOSPC: 51, EPIPE: 64 };
-
 /**
  * The file of the module that has the program of this name: `xv_run`, or one of those around the machine, which are
  * `xv_tools`. XV_MODULES is another folder of modules: checks run others than those that stand here.
  */
 export function file_of(name) {
-  return join(process.env.XV_MODULES || FOLDER, name === "xv_run" ? "xv_run.wasm" : "xv_tools.wasm");
+  return join(process.env.XV_MODULES || ANYWHERE, name === "xv_run" ? "xv_run.wasm" : "xv_tools.wasm");
 }
 
 const compiled = new Map();
@@ -53,7 +48,7 @@ function compile(file) {
 }
 
 /** A path of this host as a program takes it: on Windows with slashes. */
-export const path_of = (path) => (process.platform === "win32" ? path.replaceAll("\\", "/") : path);
+export const path_of = (path) => (IS_WINDOWS ? path.replaceAll("\\", "/") : path);
 
 /** The folder that stands; the highest one if it was removed. */
 function folder_now() {
@@ -64,33 +59,81 @@ function folder_now() {
   }
 }
 
-/** The folders that a program may open: all; on Windows the drives that its words name, and the one that stands. */
+/** The folders that paths begin at: the root; on Windows also the drives that words name, and the one that stands. */
 function folders(words) {
-  if (process.platform !== "win32") return { "/": "/" };
-  const drives = [folder_now(), ...words.map(String)].map(
-    (word) => /^(?:--[a-z]+=)?([A-Za-z]):/.exec(word)?.[1]
-  ).filter(Boolean);
-  const found = Object.fromEntries(drives.map((drive) => [`${drive}:`, `${drive}:\\`]));
-  return { "/": "\\", ...found };
+  if (!IS_WINDOWS) return ["/"];
+  const drive_of = (word) => /^(?:--[a-z]+=)?([A-Za-z]):/.exec(word)?.[1];
+  return ["/", ...new Set([folder_now(), ...words.map(String)].map(drive_of).filter(Boolean).map((it) => `${it}:`))];
 }
 
-/** What the call answers, which is done again as long as its stream isn't ready. */
-function patiently(call) {
-  for (;;) {
-    const error = call();
-    if (error !== ERRORS.EAGAIN) return error;
-    rest(5);
+/** What a file is, as WASI tells it, and its size. */
+function told(about) {
+  const kind = about.isFile() ? REGULAR_FILE : about.isDirectory() ? FOLDER : about.isSymbolicLink() ? LINK
+    : about.isCharacterDevice() ? CHARACTERS : SOCKET;
+  return { kind, size: about.size };
+}
+
+/** An open file of this host. */
+class HostFile {
+  constructor(path, { creates, excludes, empties, appends, reads, writes }) {
+    const { O_RDONLY, O_WRONLY, O_RDWR, O_CREAT, O_EXCL, O_TRUNC, O_APPEND } = constants;
+    const way = writes ? (reads ? O_RDWR : O_WRONLY) : O_RDONLY;
+    const flags = (creates && O_CREAT) | (excludes && O_EXCL) | (empties && O_TRUNC) | (appends && O_APPEND);
+    this.fd = openSync(path, way | flags);
+    Object.assign(this, told(fstatSync(this.fd)));
+  }
+
+  read(room) {
+    return read_into(this.fd, room);
+  }
+
+  write(bytes) {
+    write_all(this.fd, bytes);
+  }
+
+  close() {
+    closeSync(this.fd);
   }
 }
 
-/** The error of WASI that a stream of the caller ended with; 0 for none. */
-function answer(call) {
+/** The file that a path leads to, or null. */
+function real(path) {
   try {
-    call();
-    return 0;
-  } catch (error) {
-    if (!(error.code in ERRORS)) throw error;
-    return ERRORS[error.code];
+    return realpathSync.native(path);
+  } catch {
+    return null;
+  }
+}
+
+/**
+ * A program takes `a/../b` for `b`; a host goes up from the folder that `a` leads to, if `a` is a link. These are the
+ * words for which that makes a difference, by the paths that are asked for.
+ */
+function up_from_links(words) {
+  const up = words.filter((word) => typeof word === "string" && word.includes("/..") && !IS_WINDOWS);
+  return new Map(up.filter((word) => real(word) !== real(resolve(word))).map((word) => [resolve(word), word]));
+}
+
+/** The files of this host for a program with these words, and before them `held` ones: bytes, by their paths. */
+class HostFiles {
+  constructor(words, held) {
+    Object.assign(this, { names: folders(words), held, linked: up_from_links(words) });
+  }
+
+  /** The path of this host. */
+  whole(folder, path) {
+    const name = this.names[folder];
+    const whole = Buffer.concat([Buffer.from(name.endsWith("/") ? name : `${name}/`), path]);
+    return this.linked.get(whole.toString()) ?? whole;
+  }
+
+  open(folder, path, how) {
+    const bytes = this.held[path.toString()];
+    return bytes && !how.writes ? new HeldFile(bytes) : new HostFile(this.whole(folder, path), how);
+  }
+
+  about(folder, path) {
+    return told(lstatSync(this.whole(folder, path)));
   }
 }
 
@@ -98,7 +141,7 @@ function answer(call) {
  * Runs a program until its end. `module` is that of `module_of(name)`, `words` are those behind its name, texts or
  * Buffers. `streams` may have
  *
- * - `input(most)`, which gives at most so many bytes, and none at the end;
+ * - `input`: an object with `read(room)`, which fills bytes, and gives how many: none at the end;
  * - `output(bytes)` and `errors(bytes)`, which take all;
  * - `sleep(milliseconds)`, which waits so long, or less;
  * - `files`, whose names are paths without the `/` at their head, and which have the bytes of these files.
@@ -108,67 +151,15 @@ function answer(call) {
  * @returns the exit status
  */
 export function run(module, name, words, streams = {}) {
-  const texts = [name, ...words].map((word) => Buffer.from(word));
-  const wasi = new WASI({
-    version: "preview1", args: [name], env: { PWD: folder_now() }, preopens: folders(words), returnOnExit: true,
-  });
-  let memory;
-  const view = () => new DataView(memory.buffer);
-  const bytes = (at, size) => new Uint8Array(memory.buffer, at, size);
-  const parts = (list, count) => Array.from({ length: count }, (_, k) => [
-    view().getUint32(list + 8 * k, true), view().getUint32(list + 8 * k + 4, true),
-  ]);
-  const system = { ...wasi.wasiImport, ...with_held(wasi.wasiImport, streams.files ?? {}, words, () => memory) };
-  const own = {
-    args_sizes_get(count, size) {
-      view().setUint32(count, texts.length, true);
-      view().setUint32(size, texts.reduce((sum, text) => sum + text.length + 1, 0), true);
-      return 0;
-    },
-    args_get(places, at) {
-      for (const text of texts) {
-        view().setUint32(places, at, true);
-        bytes(at, text.length).set(text);
-        view().setUint8(at + text.length, 0);
-        places += 4;
-        at += text.length + 1;
-      }
-      return 0;
-    },
-    fd_read(fd, list, count, got) {
-      if (fd !== 0 || !streams.input) return patiently(() => system.fd_read(fd, list, count, got));
-      const [at, size] = parts(list, count)[0];
-      return answer(() => {
-        const read = streams.input(size);
-        bytes(at, read.length).set(read);
-        view().setUint32(got, read.length, true);
-      });
-    },
-    fd_write(fd, list, count, got) {
-      const stream = fd === 1 ? streams.output : fd === 2 ? streams.errors : null;
-      if (!stream) return patiently(() => system.fd_write(fd, list, count, got));
-      const all = Buffer.concat(parts(list, count).map(([at, size]) => bytes(at, size)));
-      return answer(() => {
-        stream(all);
-        view().setUint32(got, all.length, true);
-      });
-    },
-  };
-  if (streams.sleep) own.poll_oneoff = (wanted, happened, count, told) => {
-    // A subscription to the clock has the nanoseconds at 24; the event that tells of it has what the subscription has
-    // at 0.
-    streams.sleep(Number(view().getBigUint64(wanted + 24, true)) / 1e6);
-    bytes(happened, 32).fill(0);
-    view().setBigUint64(happened, view().getBigUint64(wanted, true), true);
-    view().setUint32(told, 1, true);
-    return 0;
-  };
-  const instance = new WebAssembly.Instance(module, { wasi_snapshot_preview1: { ...system, ...own } });
-  memory = instance.exports.memory;
+  const input = streams.input ?? { read: (room) => read_into(0, room) };
+  const to = (fd, write = (bytes) => write_all(fd, bytes)) => ({ write });
   try {
-    return wasi.start(instance);
+    return run_module(module, {
+      words: [name, ...words], environment: [`PWD=${folder_now()}`], files: new HostFiles(words, streams.files ?? {}),
+      streams: [input, to(1, streams.output), to(2, streams.errors)], sleep: streams.sleep ?? rest,
+      now: (clock) => (clock === 0 ? BigInt(Date.now()) * 1000000n : process.hrtime.bigint()), // 0 is the time of day
+    });
   } catch (error) {
-    const is_its = error instanceof WebAssembly.RuntimeError || error instanceof RangeError;
-    throw is_its ? new Error(`${name} broke: ${error.message}`) : error;
+    throw is_trap(error) ? new Error(`${name} broke: ${error.message}`) : error;
   }
 }

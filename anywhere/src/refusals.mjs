@@ -5,9 +5,10 @@ import { copyFileSync, existsSync, mkdtempSync, readFileSync, rmSync, statSync, 
 import { tmpdir } from "node:os";
 import { join } from "node:path";
 import { module_of, path_of, run } from "./program.mjs";
-import { MODES, OPTIONS, option_of, options_of, rows_of, said, takes } from "./words.mjs";
+import { HeldFile } from "./wasi.mjs";
+import { KINDS, MODES, OPTIONS, option_of, options_of, rows_of, said, takes } from "./words.mjs";
 
-const MOST = rows_of("most"), KINDS = rows_of("kind"), MEANINGS = rows_of("mistake");
+const MOST = rows_of("most"), MEANINGS = rows_of("mistake");
 const SOURCE = "dev/source.s";
 
 /** Why words are refused: texts, and the status. */
@@ -25,7 +26,7 @@ const refuse = (name, ...words) => {
 
 /** Kinds in words: `a run in rounds, --why and --gdb`. */
 function in_words(kinds) {
-  const words = kinds.map((kind) => KINDS.get(kind).replace(/^\S+ /, ""));
+  const words = kinds.map((kind) => KINDS.get(kind).called);
   return words.length < 2 ? words.join("") : `${words.slice(0, -1).join(", ")} and ${words.at(-1)}`;
 }
 
@@ -62,7 +63,8 @@ function bytes_of(file) {
 /** What the assembler says of a source first: {line, kind}, or {why} it can't be read; null if it says nothing. */
 function first_mistake(source) {
   let told = "";
-  const streams = { input: () => [], output() {}, errors: (bytes) => { told += bytes; }, files: { [SOURCE]: source } };
+  const errors = (bytes) => { told += bytes; };
+  const streams = { input: new HeldFile(), output() {}, errors, files: { [SOURCE]: source } };
   run(module_of("xv_run"), "xv_run", ["--rounds", "0", "--", `/${SOURCE}`], streams);
   const [, line, kind, why] = /: line (\d+): ([A-Za-z]+)\n|: (too long|not text)\n/.exec(told) ?? [];
   return told && (kind ? { line: Number(line), kind } : why ? { why } : null);
@@ -106,9 +108,13 @@ function look_at_file(file, before) {
   if (file.endsWith(".s") && there.isFile()) look_at_source(file);
 }
 
-/** A copy of a FILE that is named init, with what is for debuggers. It goes when this process ends. */
-function copy_as_init(file) {
-  const bytes = bytes_of(file);
+const refuse_long = (file, size) => {
+  if (size > Number(MOST.get("file-bytes"))) refuse("too-long", file, MOST.get("file-bytes"));
+};
+
+/** A copy of a FILE of these bytes that is named init, with what is for debuggers. It goes when this process ends. */
+function copy_as_init(file, bytes) {
+  refuse_long(file, bytes.length);
   const folder = mkdtempSync(join(tmpdir(), "xv-"));
   process.on("exit", () => rmSync(folder, { recursive: true, force: true }));
   const copy = join(folder, file.endsWith(".s") ? "init.s" : "init");
@@ -123,10 +129,11 @@ function with_init(parts, names, say) {
   if (names.size > 1) refuse("no-init");
   const [[name, file]] = names, there = about(file);
   if (!there.isFile() && !there.isFIFO()) refuse("not-plain", file);
-  if (there.size > Number(MOST.get("file-bytes"))) refuse("too-long", file, MOST.get("file-bytes"));
+  refuse_long(file, there.size);
   if (file.endsWith(".c")) refuse("in-c", file);
-  const copy = copy_as_init(file);
+  const bytes = bytes_of(file);
   say(said(name === "sh" ? "shell-as-init" : "as-init", file, file).text);
+  const copy = copy_as_init(file, bytes);
   return parts.map((part) => (part.kind === "file" ? { ...part, word: copy } : part));
 }
 

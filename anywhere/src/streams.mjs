@@ -27,25 +27,13 @@ export function write_all(fd, what) {
   for (let at = 0; at < bytes.length; ) at += patiently(() => writeSync(fd, bytes, at));
 }
 
-/** Reads what is there, 65,536 bytes at most; none at the end. */
-export function read_some(fd) {
-  const bytes = Buffer.alloc(65536);
+/** Reads what is there, as far as there is room, and gives the number of bytes; 0 at the end. */
+export function read_into(fd, room) {
   try {
-    return bytes.subarray(0, patiently(() => readSync(fd, bytes, 0, bytes.length, null)));
+    return patiently(() => readSync(fd, room, 0, room.length, null));
   } catch (error) {
-    // So Windows tells the end of a pipe.
-    if (error.code === "EOF") return bytes.subarray(0, 0);
+    if (error.code === "EOF") return 0; // so Windows tells the end of a pipe
     throw error;
-  }
-}
-
-/** Reads up to the end. */
-export function read_all(fd) {
-  const parts = [];
-  for (;;) {
-    const part = read_some(fd);
-    if (part.length === 0) return Buffer.concat(parts);
-    parts.push(part);
   }
 }
 

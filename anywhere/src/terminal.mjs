@@ -9,14 +9,13 @@ import { edited } from "./editing.mjs";
 import { Keys } from "./keys.mjs";
 import { lines_of } from "./lines.mjs";
 import { module_of, run } from "./program.mjs";
-import { read_some, write_all } from "./streams.mjs";
-import { value_of } from "./words.mjs";
+import { read_into, write_all } from "./streams.mjs";
+import { said, value_of } from "./words.mjs";
 
 const NAME = "xv_terminal";
 const ITSELF = fileURLToPath(new URL("../../xv.mjs", import.meta.url));
-const HANGUP = 129;
-const SIGNALS = process.platform === "win32" ? { SIGINT: 130, SIGBREAK: 130 }
-  : { SIGINT: 130, SIGQUIT: 131, SIGTERM: 143 };
+const SIGNALS = process.platform === "win32" ? { SIGHUP: 129, SIGINT: 130, SIGBREAK: 130 }
+  : { SIGHUP: 129, SIGINT: 130, SIGQUIT: 131, SIGTERM: 143 };
 const ENTER = 13, LINE_END = 10;
 // How long a machine may take to end, in milliseconds, if a signal asks for it.
 const PATIENCE = 1000;
@@ -53,9 +52,9 @@ function prepared(terminal) {
   try {
     terminal.setRawMode(true);
   } catch {
-    throw new Error("the terminal can't be set");
+    throw new Error(said("no-terminal").text);
   }
-  const streams = terminals();
+  const streams = [0, 1, 2].filter((fd) => isatty(fd)); // those that are terminals
   if (process.platform !== "win32") stand_still_and_go_on(terminal);
   return () => {
     try {
@@ -65,10 +64,7 @@ function prepared(terminal) {
   };
 }
 
-/** The streams of this process that are terminals. */
-const terminals = () => [0, 1, 2].filter((fd) => isatty(fd));
-
-/** Lets go of those terminals that are gone: Node would set them as it ends, and break. */
+/** Lets go of those streams that are gone: Node would set them as it ends, and break. */
 function let_go(streams) {
   if (process.platform === "win32") return;
   for (const fd of streams) if (!isatty(fd)) closeSync(fd);
@@ -98,14 +94,12 @@ function attend(module, words, files) {
       ended(worker, restore).then(then);
     };
     const stop = (status) => end(() => give(status));
-    const hang_up = () => stop(HANGUP);
     for (const [signal, status] of Object.entries(SIGNALS)) process.on(signal, () => stop(status));
-    process.on("SIGHUP", hang_up);
     worker.on("message", stop);
     worker.on("error", (error) => end(() => refuse(error)));
     worker.on("exit", () => end(() => refuse(new Error(`${NAME} broke`))));
     // A terminal that is gone is a hangup.
-    for (const happening of ["end", "error", "close"]) terminal.on(happening, hang_up);
+    for (const happening of ["end", "error", "close"]) terminal.on(happening, () => stop(SIGNALS.SIGHUP));
     hand_over(terminal, keys);
   });
 }
@@ -114,8 +108,9 @@ function attend(module, words, files) {
 function may_record(words) {
   const record = value_of(words, "--record");
   if (!record || !existsSync(record) || statSync(record).size === 0) return true;
-  write_all(2, `${record} is there. Write over it? (y or n) `);
-  return ["y", "yes"].includes(read_some(0).toString().trim());
+  write_all(2, `${said("record-there", record).text} `);
+  const answer = Buffer.alloc(80);
+  return ["y", "yes"].includes(answer.subarray(0, read_into(0, answer)).toString().trim());
 }
 
 /** Runs the words at a terminal, and gives the exit status. Without one they are run as they are. */
@@ -123,7 +118,7 @@ export function at_terminal(words) {
   const module = module_of(NAME);
   const apart = isatty(1) && isatty(2) ? [] : ["--apart"];
   if (!isatty(0)) return run(module, NAME, [...apart, ...words]);
-  if (!may_record(words)) throw new Error("nothing is done: --record takes another path");
+  if (!may_record(words)) throw new Error(said("record-kept").text);
   const { option, files } = lines_of(words);
   return attend(module, ["--terminal", "--woken", ...option, ...apart, ...words], files);
 }

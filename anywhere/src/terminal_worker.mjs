@@ -7,5 +7,5 @@ import { run } from "./program.mjs";
 const { module, words, files, shared } = workerData;
 const keys = new Keys(shared);
 const rest = (milliseconds) => keys.wait(milliseconds);
-const status = run(module, "xv_terminal", words, { input: (most) => keys.take(most), sleep: rest, files });
+const status = run(module, "xv_terminal", words, { input: keys, sleep: rest, files });
 parentPort.postMessage(status);

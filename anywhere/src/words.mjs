@@ -14,9 +14,13 @@ export const OPTIONS = new Map([...rows_of("option")].map(([name, rest]) => {
   return [name, { value: value === "-" ? null : value, takers }];
 }));
 
-const KINDS = [...rows_of("kind").keys()];
+/** The kinds: the program of each, how it is started, and what a text calls it. */
+export const KINDS = new Map([...rows_of("kind")].map(([name, rest]) => {
+  const [program, how, ...words] = rest.split(" ");
+  return [name, { program, how, called: words.join(" ") }];
+}));
 /** The kinds that are words of xv. */
-export const MODES = KINDS.filter((kind) => kind.startsWith("--"));
+export const MODES = [...KINDS.keys()].filter((kind) => kind.startsWith("--"));
 
 /** Whether a kind takes an option. */
 export const takes = (kind, option) => OPTIONS.get(option)?.takers.includes(kind) ?? false;
@@ -29,14 +33,19 @@ export function said(name, ...words) {
   return { status: Number(status), text: text.replace(/%s/g, () => words.shift()) };
 }
 
+/** The texts of a type that has no names. */
+export const texts_of = (type) => (
+  LINES.filter((line) => line.split(" ", 1)[0] === type).map((line) => line.slice(type.length + 1))
+);
+
 /** The help: `{KIND}` stands for the options that a kind takes, `{only KIND}` for those that no other kind takes. */
 export function help() {
   const shown = ([name, { value }]) => (value ? `${name} ${value}` : name);
   const of_kind = (kind) => [...OPTIONS].filter(([, { takers }]) => takers.includes(kind));
   const only = (kind) => of_kind(kind).filter(([, { takers }]) => takers.length === 1).map(shown).join(", ");
   const all = (kind) => of_kind(kind).map((it) => `[${shown(it)}]`).join(" ");
-  const lines = LINES.filter((line) => line.startsWith("help")).map((line) => `${line.slice(5)}\n`);
-  return lines.join("").replace(/\{(only )?(\S+)\}/g, (_, is_only, kind) => (is_only ? only(kind) : all(kind)));
+  const text = `${texts_of("help").join("\n")}\n`;
+  return text.replace(/\{(only )?(\S+)\}/g, (_, is_only, kind) => (is_only ? only(kind) : all(kind)));
 }
 
 /**

@@ -1,14 +1,14 @@
-// A client of the debug adapter: it starts anywhere/commands/xv_dap.mjs, sends requests, and waits for what comes.
+// A client of the debug adapter: it starts `node xv.mjs --dap`, sends requests, and waits for what comes.
 import { spawn } from "node:child_process";
 import { fileURLToPath } from "node:url";
 import { Reader, Writer } from "../../anywhere/editor/protocol.mjs";
 
-const ADAPTER = fileURLToPath(new URL("../../anywhere/commands/xv_dap.mjs", import.meta.url));
+const XV = fileURLToPath(new URL("../../xv.mjs", import.meta.url));
 const PATIENCE = 1000 * Number(process.env.PATIENCE ?? 60);
 
 export class Client {
   constructor(cwd) {
-    this.adapter = spawn(process.execPath, [ADAPTER], { cwd, stdio: ["pipe", "pipe", "inherit"] });
+    this.adapter = spawn(process.execPath, [XV, "--dap"], { cwd, stdio: ["pipe", "pipe", "inherit"] });
     this.writer = new Writer((text) => this.adapter.stdin.write(text));
     this.waiting = [];
     this.heard = []; // events that nobody has waited for yet

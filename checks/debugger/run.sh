@@ -5,8 +5,7 @@
 #   checks/debugger/run.sh [PROGRAM [--store]]
 #
 # PROGRAM is the debugger under its name, xv_debugger: without it, the one that is proved and built, or by XV_NODE=yes the
-# one that `node xv.mjs --debug` starts: WASI opens no /dev/fd/N, so that gets the table of lines in another way than by
-# programs/host/modes.sh --debug. --store writes the outputs anew: look at each line that changes.
+# one that `node xv.mjs --debug` starts. --store writes the outputs anew: look at each line that changes.
 #
 # NAME.needs names a command of the host without which a session is left out, and the verdict says so: the lines of a
 # program in C come by readelf. data/letters has such a program, and its names and lines as programs/c/build.sh leaves
@@ -22,7 +21,7 @@ debug() {
     if [ "${XV_NODE-}" = yes ]; then
         node xv.mjs --debug "$@"
     else
-        programs/host/modes.sh --debug "$@"
+        XV_AS_BUILT=yes ./xv --debug "$@"
     fi
 }
 

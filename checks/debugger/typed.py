@@ -6,7 +6,7 @@ labels, and Ctrl-D.
     checks/debugger/typed.py
 
 It needs node, whose line editor it is (anywhere/src/editing.mjs), and a host that has terminals (not Windows). Without
-node it says so, and its status is 0. With XV_NODE=yes `node xv.mjs --debug` is tried, and else programs/host/modes.sh --debug.
+node it says so, and its status is 0. With XV_NODE=yes `node xv.mjs --debug` is tried, and else ./xv --debug.
 """
 import os
 import pty
@@ -62,7 +62,7 @@ BUSY = [
 def command(files):
     if os.environ.get("XV_NODE") == "yes":
         return ["node", "xv.mjs", "--debug", *files]
-    return ["programs/host/modes.sh", "--debug", *files]
+    return ["env", "XV_AS_BUILT=yes", "./xv", "--debug", *files]
 
 
 def shown_until(terminal, wanted):

@@ -1,8 +1,8 @@
 #!/bin/sh
 # What xv says of words before a program gets them: the words of each line `$ KIND WORD..` of told.txt are looked at
-# in a folder of files, and what is told, and the status, are compared; with the KIND serve, what is told of the
-# program that GDB gets. The status is 0 if all is as it should be. With XV_NODE=yes it is anywhere/src/ that looks,
-# and else programs/host/.
+# in a folder of files, and what is told, and the status, are compared; with the KIND xv, all that is told and shown;
+# with serve, what is told of the program that GDB gets. The status is 0 if all is as it should be. With XV_NODE=yes it
+# is anywhere/src/ that looks, and else programs/host/.
 #
 #   checks/refusals/run.sh           compares
 #   checks/refusals/run.sh --store   keeps what is told now
@@ -17,17 +17,27 @@ program=${XV_RUN-$(program_path "$root" xv_run)}
 needs_program "$program"
 program=$(realpath -s -- "$program")
 room=$(mktemp -d) || exit 2
-trap 'rm -rf "$room"' EXIT
+writer=
+trap 'rm -rf "$room"; [ -z "$writer" ] || kill "$writer" 2>/dev/null' EXIT
 mkdir "$room/files" && cd "$room/files" || exit 2
 
-# Looks at words for the kind $1; or if that is `serve`, serves GDB, which asks for nothing.
+# xv, on this way.
+xv() {
+    if [ "${XV_NODE-}" = yes ]; then
+        node "$root/xv.mjs" "$@"
+    else
+        XV_AS_BUILT=yes "$root/xv" "$@"
+    fi
+}
+
+# Looks at words for the kind $1; or if that is `xv`, runs them; or if it is `serve`, serves GDB, which asks for nothing.
 looked_at() {
     kind=$1
     shift
-    if [ "$kind${XV_NODE-}" = serveyes ]; then
-        node "$root/xv.mjs" --gdb "$@"
+    if [ "$kind" = xv ]; then
+        xv "$@"
     elif [ "$kind" = serve ]; then
-        XV_GDB=true "$root/programs/host/modes.sh" --gdb "$@"
+        XV_GDB=true xv --gdb "$@"
     elif [ "${XV_NODE-}" = yes ]; then
         cat >"$room/look.mjs" <<END
 import { looked_at } from "$root/anywhere/src/refusals.mjs";
@@ -68,6 +78,9 @@ for n in $(seq 25); do echo "wrong$n a0"; done >worse.s
 printf 'nop\n\377' >odd.s
 head -c 1048577 /dev/zero >big
 head -c 1048577 /dev/zero | tr '\0' '#' >big.s
+mkfifo pipe
+head -c 1048577 /dev/zero >pipe &
+writer=$!
 
 sed -n 's/^\$ //p' "$here/told.txt" | while IFS= read -r line; do
     echo "$ $line"

@@ -16,7 +16,7 @@ fail() {
 }
 
 cc() {
-    node anywhere/commands/xv_cc.mjs "$@"
+    node xv.mjs --cc "$@"
 }
 
 # A refusal: its words are to have the text $1.
@@ -72,7 +72,7 @@ int main(void) { printf("%d %s\n", twice(21), NAME); return COUNT - 7; }
 END
 echo 'int twice(int n);' >"$work/two.h"
 echo 'int twice(int n) { return 2 * n; }' >"$work/two.c"
-(cd "$work" && node "$OLDPWD/anywhere/commands/xv_cc.mjs" one.c two.c -I. '-DNAME="x"' -DCOUNT=7 -o first) || fail "two files aren't compiled"
+(cd "$work" && node "$OLDPWD/xv.mjs" --cc one.c two.c -I. '-DNAME="x"' -DCOUNT=7 -o first) || fail "two files aren't compiled"
 cc "$work/one.c" "$work/two.c" -I "$work" '-DNAME="x"' -D COUNT=7 -o "$work/second" || fail "two files aren't compiled by whole paths"
 cmp "$work/first" "$work/second" || fail "the same sources give other bytes"
 

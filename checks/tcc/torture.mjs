@@ -47,7 +47,7 @@ function outcome(name) {
   }
   let told = "";
   const words = ["--frames", "8192", "--rounds", "3000", "--quantum", "100000", "/init"];
-  const status = run(machine, "xv_run", words, { files: { init: file }, input: () => [], output() {}, errors: (bytes) => { told += bytes; } });
+  const status = run(machine, "xv_run", words, { files: { init: file }, input: { read: () => 0 }, output() {}, errors: (bytes) => { told += bytes; } });
   return status === 0 ? { kind: "well", text: "" } : { kind: "wrong", text: told.trim().split("\n").pop() };
 }
 

@@ -2,7 +2,7 @@
 # Runs the programs of this folder under the shell, as a student would, and compares what is told of why they end or
 # wait. A report that is another is shown with what differs, and a verdict comes at the end; the status is 0 if all are
 # as they should be. XV_WHY is the program, and without it the one that stands in this repository. With XV_NODE=yes it is
-# `node xv.mjs --why` in place of programs/host/modes.sh --why: that is what tells a report on a host without a shell.
+# `node xv.mjs --why` in place of ./xv --why: that is what tells a report on a host without a shell.
 #
 #   checks/why/run.sh           compares
 #   checks/why/run.sh --store   keeps what is told now
@@ -38,7 +38,7 @@ tell_why() {
     if [ "${XV_NODE-}" = yes ]; then
         node "$root/xv.mjs" --why "$@"
     else
-        "$root/programs/host/modes.sh" --why "$@"
+        XV_AS_BUILT=yes "$root/xv" --why "$@"
     fi
 }
 

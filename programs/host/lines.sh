@@ -13,13 +13,9 @@ self=$(readlink -f -- "$0")
 here=${self%/*}
 . "$here/words.sh"
 
-# The first of the host's tools that knows the lines of a program.
-tool=:
-for name in riscv64-unknown-elf-readelf riscv64-linux-gnu-readelf readelf; do
-    if command -v "$name" >/dev/null; then
-        tool=$name
-        break
-    fi
+# The first of the host's tools that knows the lines of a program; the last one tells none.
+for tool in riscv64-unknown-elf-readelf riscv64-linux-gnu-readelf readelf :; do
+    ! command -v "$tool" >/dev/null || break
 done
 
 # The rows of the ELF file $2, which is FILE $1. Its sequences of rows end by a row with -; one that begins at 0

@@ -1,70 +1,74 @@
-#!/bin/sh
-# Runs programs in a mode of xv, natively, for ./xv: programs/host/modes.sh MODE WORD.., with the words of that mode.
+# Sourced by xv and terminal.sh, which have $host and $root: how each kind of the table words.txt is started natively.
 #
-#   --why      tells on standard error why processes end or wait
-#   --picture  writes a picture of the run (SVG) to standard output. What the programs write to the console goes to
-#              standard error, with the reports of --why. The status is that of the run, or 5 if the picture can't be
-#              written. Without words it draws the trace that standard input has
-#   --debug    the debugger, with a prompt if a person types. At a terminal lines are edited, kept and completed by
-#              Node's line editor, if there is Node: it starts this script once more, by pipes. Without Node rlwrap
-#              does a part of that, if it is there
-#   --gdb      serves GDB. With --commands PATH it writes commands for GDB into that file, by which GDB knows the
-#              symbols of all FILEs, as the C compiler's scripts leave them in FILE.debug, and starts the machine:
-#              gdb-multiarch -x PATH. GDB waits a minute for an answer then, since a machine may start slowly. A file
-#              that is there is written over only if it has such commands: so a forgotten PATH costs no program
+#   start KIND WORD..   runs the words, which were looked at, by the program of their kind
 #
-# The lines of programs in C come from lines.sh. XV_WHY, XV_PICTURE, XV_DEBUGGER and XV_GDB are other programs than
-# those that stand built.
-set -u
-self=$(readlink -f -- "$0")
-here=${self%/*}
-root=${here%/programs/host}
-. "$here/words.sh"
+# A kind of HOW `lines` gets the lines of programs in C, from lines.sh. At a terminal those of `keys` get each key
+# by itself while the machine runs, and a look at it answers at once; it is as it was after every end that a script can
+# see, also one by a signal. Those of `prompt` begin once more there, by pipes, below Node's line editor; without Node
+# rlwrap does a part of that, if it is there. XV_WHY, and so on, is another program than bin/xv_why.
+# shellcheck shell=sh disable=SC2154
+# shellcheck source=programs/host/words.sh
+. "$host/words.sh"
 
-why() {
-    table=$("$here/lines.sh" "$@")
-    exec "${XV_WHY:-$root/bin/xv_why}" --lines /dev/fd/3 "$@" 3<<END
-$table
+# Leaves the program of this name in $program.
+find_program() {
+    eval "program=\${$(echo "$1" | tr '[:lower:]' '[:upper:]'):-\$root/bin/\$1}"
+}
+
+# Starts the kind $1 with its words.
+start() {
+    row kind "$1"
+    shift
+    find_program "${row%% *}"
+    row=${row#* }
+    "start_${row%% *}" "$@"
+}
+
+start_plain() {
+    exec "$program" "$@"
+}
+
+start_lines() {
+    lines=$("$host/lines.sh" "$@")
+    exec "$program" --lines /dev/fd/3 "$@" 3<<END
+$lines
 END
 }
 
 # Hands on the lines of a trace; all others are for who runs it.
 lines_of_trace() {
-    awk '
-/^(turn|step|call|block|exit|fault|key|sent|name|waits) / || /^(idle|tick|halted)$/ { print; next }
-{ print | "cat >&5" }'
+    row match notes
+    NOTES=$row awk '$0 ~ ENVIRON["NOTES"] { print; next } { print | "cat >&5" }'
 }
 
 # Draws what is noted. If nothing is, since words, a FILE or the boot were refused, nothing is written.
 draw() {
     IFS= read -r first || return 0
-    { printf '%s\n' "$first"; cat; } | "$picture"
+    { printf '%s\n' "$first"; cat; } | "$program"
 }
 
-picture() {
-    picture=${XV_PICTURE:-$root/bin/xv_picture}
-    [ $# -gt 0 ] || exec "$picture"
+# Draws a run. What its programs write to the console goes to standard error, with the reports of --why; the status is
+# that of the run, or 5 if the picture can't be written. Without words it draws the trace that standard input has.
+start_picture() {
+    [ $# -gt 0 ] || exec "$program"
     exec 4>&1 5>&2
     status=$({
-        { (why --notes "$@") 2>&1 >&5 3>&- 4>&-; echo $? >&3; } |
+        { (start --why --notes "$@") 2>&1 >&5 3>&- 4>&-; echo $? >&3; } |
             lines_of_trace 3>&- 4>&- | { draw >&4 3>&- || echo 5 >&3; }
     } 3>&1 | tail -n 1)
     exit "$status"
 }
 
-debug() {
+start_prompt() {
     if [ -t 0 ] && [ -t 1 ] && [ -z "${XV_EDITED-}" ]; then
         if command -v node >/dev/null; then
-            exec node "$root/anywhere/edit.mjs" "$self" --debug --prompt "$@"
+            XV_AS_BUILT=yes exec node "$root/anywhere/edit.mjs" "$root/xv" --debug --prompt "$@"
         elif command -v rlwrap >/dev/null; then
-            XV_EDITED=yes exec rlwrap "$self" --debug "$@"
+            XV_EDITED=yes XV_AS_BUILT=yes exec rlwrap "$root/xv" --debug "$@"
         fi
     fi
-    table=$("$here/lines.sh" "$@")
     [ ! -t 0 ] || set -- --prompt "$@"
-    exec "${XV_DEBUGGER:-$root/bin/xv_debugger}" --lines /dev/fd/3 "$@" 3<<END
-$table
-END
+    start_lines "$@"
 }
 
 # Whether a FILE is a program: a source, or an ELF file by its first bytes.
@@ -75,7 +79,7 @@ is_program() {
 
 # Notes a part of the words of --gdb: the path of --commands, the program that GDB is to get, and if no option names
 # one, the first FILE that is a program and isn't init. All but the path is kept.
-note_part() {
+note_for_gdb() {
     value_of "$2" ${3+"$3"}
     case $1${2%%=*} in
         option--commands)
@@ -103,6 +107,9 @@ add-symbol-file '$2.debug' -o 0"
     fi
 }
 
+# Writes commands for GDB, by which it knows the symbols of all FILEs, as the C compiler's scripts leave them in
+# FILE.debug, and starts the machine; it waits a minute for an answer then. A file that is there is written over only if
+# it has such commands: so a forgotten PATH costs no program.
 write_commands() {
     begin='# gdb-multiarch -x '
     [ ! -s "$commands" ] || [ ! -f "$commands" ] || [ "$(head -c ${#begin} -- "$commands" | tr -d '\0')" = "$begin" ] ||
@@ -112,39 +119,100 @@ write_commands() {
     keep "$root/xv"
     {
         echo "$begin$commands"
-        echo 'set architecture riscv:rv64'
-        echo 'set remotetimeout 60'
-        echo 'set confirm off'
+        sed -n 's/^gdb //p' "$table_path"
         [ -z "$symbols" ] || echo "file '$symbols'"
         [ -z "$others" ] || echo "${others#?}"
         echo "target remote |$kept --gdb$words"
     } 2>/dev/null >"$commands" || refuse commands-unwritten "$commands"
-    tell commands-written "$commands"
+    refuse commands-written "$commands"
 }
 
-gdb() {
+start_gdb() {
     commands='' named='' first='' files=0 kept=''
-    each_part note_part "$@"
+    each_part note_for_gdb "$@"
     eval "set -- $kept"
     if [ -n "$commands" ]; then
         named=${named:-${first:-init}}
         write_commands "$@"
-        exit
-    fi
-    if [ -z "$named" ] && [ "$files" -gt 1 ]; then
+    elif [ -z "$named" ] && [ "$files" -gt 1 ]; then
         tell gdb-follows "${first:-init}"
         set -- "--file=${first:-init}" "$@"
     fi
-    exec "${XV_GDB:-$root/bin/xv_gdb}" "$@"
+    exec "$program" "$@"
 }
 
-read_table "$here"
-mode=${1-}
-[ $# = 0 ] || shift
-case $mode in
-    --why) why "$@" ;;
-    --picture) picture "$@" ;;
-    --debug) debug "$@" ;;
-    --gdb) gdb "$@" ;;
-    *) refuse no-option "$mode" ;;
-esac
+# Notes the path of --record.
+note_record() {
+    case $1${2%%=*} in option--record) value_of "$2" ${3+"$3"} && record=$value ;; esac
+}
+
+# A record that is there is written over only if the person at the terminal says so.
+ask_for_record() {
+    record=
+    each_part note_record "$@"
+    [ -s "$record" ] || return 0
+    row say record-there
+    # shellcheck disable=SC2059
+    printf "${row#* } " "$record" >&2
+    read -r answer || answer=
+    case $answer in y | yes) ;; *) refuse record-kept ;; esac
+}
+
+restore() {
+    stty "$before" 2>/dev/null
+}
+
+# A signal ends the machine first, so that nobody changes the terminal after it.
+stop() {
+    trap '' HUP INT QUIT TERM
+    [ -z "$machine" ] || { kill "$machine" 2>/dev/null; wait "$machine" 2>/dev/null; }
+    restore
+    exit "$1"
+}
+
+# Keys one by one, none of them a signal's; a read answers with what is there, or with nothing.
+take_keys() {
+    stty -icanon -echo -isig -iexten -ixon min 0 time 0
+}
+
+# Who stops the machine from outside gets the terminal as it was; after `fg` it is set anew.
+stand_still() {
+    restore
+    [ -z "$machine" ] || kill -STOP "$machine"
+    kill -STOP $$
+}
+
+go_on() {
+    take_keys
+    [ -z "$machine" ] || kill -CONT "$machine"
+}
+
+# Notes go to the terminal too, unless standard error leads elsewhere.
+start_keys() {
+    [ -t 1 ] && [ -t 2 ] || set -- --apart "$@"
+    [ -t 0 ] || exec "$program" "$@"
+    command -v stty >/dev/null || refuse no-stty
+    ask_for_record "$@"
+    lines=$("$host/lines.sh" "$@" 2>/dev/null)
+    before=$(stty -g) || refuse no-terminal
+    machine=
+    trap 'stop 129' HUP
+    trap 'stop 130' INT
+    trap 'stop 131' QUIT
+    trap 'stop 143' TERM
+    trap stand_still TSTP
+    trap go_on CONT
+    take_keys || { restore; refuse no-terminal; }
+    exec 3<&0
+    "$program" --terminal --lines /dev/fd/4 "$@" <&3 3<&- 4<<END &
+$lines
+END
+    machine=$!
+    while wait "$machine"; status=$?; [ "$status" -gt 128 ] && kill -0 "$machine" 2>/dev/null; do
+        : # It still runs: a signal ended the wait.
+    done
+    restore
+    exit "$status"
+}
+
+read_table "$host"

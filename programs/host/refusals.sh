@@ -9,21 +9,16 @@
 # What it knows nothing of, as the numbers of options, it leaves to the programs.
 # shellcheck shell=sh disable=SC2034,SC2154
 
-# A limit of the table.
-most() {
-    row most "$1"
-    echo "$row"
-}
-
 # Kinds in words: `a run in rounds, --why and --gdb`.
 in_words() {
     said=
     for it; do
         shift
         row kind "$it"
+        row=${row#* * }
         case $said$# in
-            ?*0) said="$said and ${row#* }" ;;
-            ?*) said="$said${said:+, }${row#* }" ;;
+            ?*0) said="$said and $row" ;;
+            ?*) said="$said${said:+, }$row" ;;
         esac
     done
     echo "$said"
@@ -85,7 +80,7 @@ look_at_source() {
     count=0
     while first_mistake "$copies/it.s"; do
         count=$((count + 1))
-        [ "$count" -le "$(most mistakes)" ] || { tell more-mistakes; break; }
+        [ "$count" -le "$most_mistakes" ] || { tell more-mistakes; break; }
         line=${mistake%% *}
         text=$(sed -n "$line"'{s/^[ 	]*//; s/[ 	]*#.*$//; s/[ 	]*$//; p; q;}' "$copies/it.s")
         row mistake "${mistake#* }"
@@ -110,6 +105,12 @@ first_mistake() {
     [ -n "$mistake" ]
 }
 
+# Whether a plain FILE has no more bytes than one may have, which are in $row.
+is_short() {
+    row most file-bytes
+    [ "$(wc -c <"$1")" -le "$row" ]
+}
+
 # Looks whether there is an init among the FILES, of which $file is the last.
 look_for_init() {
     alone=
@@ -117,7 +118,7 @@ look_for_init() {
     [ "$files" = 1 ] || refuse no-init
     [ -f "$file" ] || [ -p "$file" ] || refuse not-plain "$file"
     [ -r "$file" ] || refuse unread "$file" 'cannot be read'
-    [ ! -f "$file" ] || [ "$(wc -c <"$file")" -le "$(most file-bytes)" ] || refuse too-long "$file" "$(most file-bytes)"
+    [ ! -f "$file" ] || is_short "$file" || refuse too-long "$file" "$row"
     case $file in *.c) refuse in-c "$file" ;; esac
     alone=$file
     case $names in
@@ -139,7 +140,9 @@ look_at_part() {
 
 look_at() {
     for_kind=$1 run=$2 names=/ given='' files=0 file='' helps='' alone=''
-    most_files=$(most files) most_name_bytes=$(most name-bytes)
+    row most files && most_files=$row
+    row most name-bytes && most_name_bytes=$row
+    row most mistakes && most_mistakes=$row
     shift 2
     each_part find_help "$@"
     [ -z "$helps" ] || return 0

@@ -17,6 +17,10 @@
 # shellcheck shell=sh disable=SC2034,SC2154
 
 read_table() {
+    command -v cat >/dev/null || {
+        printf 'xv: there is no cat on the PATH: it leads to none of the commands of the host\n' >&2
+        exit 125
+    }
     table_path=$1/words.txt
     table="
 $(cat "$table_path")

@@ -2,8 +2,7 @@
 import { closeSync, openSync, readFileSync, readSync, fstatSync } from "node:fs";
 import { createHash } from "node:crypto";
 import { file_of, module_of, path_of, run } from "../program.mjs";
-import { inside, is_whole } from "./paths.mjs";
-import { key_of } from "./closed.mjs";
+import { inside, is_whole, key_of } from "./paths.mjs";
 import { MOST } from "./stage.mjs";
 import { Refusal } from "./words.mjs";
 

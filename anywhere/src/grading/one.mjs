@@ -1,8 +1,8 @@
 // Grades one submission from the folder of its job, as programs/course/grade_one.sh does. What it leaves is `out` in
 // that folder, which is there only when it is whole, or `failed`.
 import { copyFileSync, mkdirSync, readFileSync, readdirSync, renameSync, rmSync, writeFileSync } from "node:fs";
-import { inside } from "./paths.mjs";
-import { key_of, run_closed } from "./closed.mjs";
+import { run_held } from "../wasi.mjs";
+import { inside, key_of } from "./paths.mjs";
 
 // A trace has the last events alone. Of a run that waits these show nothing, so then the picture is of its notes, which
 // are the turns, calls and ends of the whole run.
@@ -19,6 +19,13 @@ function given_of(job, exercise) {
   return given;
 }
 
+/** Runs a program closed off from the host, so that a run is a function of bytes, and costs no call of the host. */
+function run_closed(module, words, given, input) {
+  const ended = run_held(module, words, (path) => given.get(path), { input, encoding: "latin1" });
+  if (ended.trap) throw ended.trap;
+  return ended;
+}
+
 const lines_of = (bytes) => bytes.reduce((sum, byte) => sum + (byte === 10), 0);
 
 /** The picture of each trace that was made, as `picture-N.svg`. */
@@ -29,7 +36,7 @@ function pictures(module, made) {
     if (!number) continue;
     const notes = made.get(`out/notes-${number}`);
     const shown = lines_of(trace) < TRACED || lines_of(notes) > TRACED ? trace : notes;
-    drawn.push([`out/picture-${number}.svg`, run_closed(module, "xv_picture", [], new Map(), shown).output]);
+    drawn.push([`out/picture-${number}.svg`, run_closed(module, ["xv_picture"], new Map(), shown).output]);
   }
   return drawn;
 }
@@ -58,10 +65,10 @@ export function fail(job, text) {
  * @param {{path: Uint8Array, files: Map, has_pictures: boolean}} exercise
  */
 export function grade_one(module, exercise, job) {
-  const words = ["--name", "/name", "--refused", "/refused", "--out", "/out", exercise.path, "/files"];
+  const words = ["xv_grade", "--name", "/name", "--refused", "/refused", "--out", "/out", exercise.path, "/files"];
   try {
     for (const name of ["out", "out.new", "failed"]) rmSync(inside(job, name), { recursive: true, force: true });
-    const { status, errors, made } = run_closed(module, "xv_grade", words, given_of(job, exercise));
+    const { status, errors, made } = run_closed(module, words, given_of(job, exercise));
     if (status !== 0) return fail(job, errors);
     keep(job, exercise.has_pictures ? [...made, ...pictures(module, made)] : [...made]);
   } catch (error) {

@@ -28,6 +28,16 @@ export function last_part(path) {
   return path.subarray(at);
 }
 
+/** A path as a program asks for it below the root: bytes as Latin-1, with no `.` and no `..`. */
+export function key_of(path) {
+  const parts = [];
+  for (const part of Buffer.from(path).toString("latin1").split("/")) {
+    if (part === "..") parts.pop();
+    else if (part !== "" && part !== ".") parts.push(part);
+  }
+  return parts.join("/");
+}
+
 // What bash's `printf %q` writes in place of a control character.
 const ESCAPES = { 7: "a", 8: "b", 9: "t", 10: "n", 11: "v", 12: "f", 13: "r", 27: "E" };
 
