@@ -96,8 +96,7 @@ case "$*" in
 '')
     do_all $quick $longer 'python3 -B checks/commands.py' 'python3 -B checks/links.py' 'python3 -B checks/lemmas.py' \
         'python3 -B checks/closure.py' 'python3 -B checks/once.py' 'python3 -B checks/cases.py' 'python3 -B checks/calls.py' \
-        'python3 -B checks/launcher_lines.py' \
-        'python3 -B checks/edits_apply.py' \
+        'python3 -B checks/launcher_lines.py' 'python3 -B checks/contracts.py' 'python3 -B checks/edits_apply.py' \
         'anywhere/is_current.sh --tell' 'page/is_current.sh --tell' checks/shell.sh
     tell_others
     ;;
