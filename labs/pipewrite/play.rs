@@ -11,15 +11,12 @@
         ram.write_u64(frame, COUNT, count as u64);
     }
 
-    // The first place at which two pipes hold other bytes, or at which one has none.
-    fn first_difference(one: &Ram, other: &Ram) -> Option<usize> {
-        let frame = Frame::new(1);
-        for place in 0..PIPE_BYTES {
-            if byte(one, frame, place) != byte(other, frame, place) {
-                return Some(place);
-            }
+    // The contract: byte k of the pipe after the write (`with_more`), of which `moved` bytes are taken.
+    fn asked_byte(oldest: usize, count: usize, bytes: &[u8], moved: usize, place: usize) -> Option<u8> {
+        if place < count {
+            return Some(((oldest + place) % PIPE_BYTES % 251) as u8);
         }
-        None
+        if place < count + moved { Some(bytes[place - count]) } else { None }
     }
 
     fn has_other_frames(one: &Ram, other: &Ram) -> bool {
@@ -39,13 +36,13 @@
         let size = bytes.len();
         let _ = println!(*rt; "case: a pipe of {count} bytes, the oldest at place {oldest}; {size} bytes are written");
         let came = STUDENT(mine, frame, bytes);
-        let asked = push(its, frame, bytes);
+        let asked = size.min(PIPE_BYTES - count);
         if came != asked {
             let _ = println!(*rt; "before: a pipe of {count} bytes, the oldest at place {oldest}; {size} bytes are written\nclause: count\nasked: it tells {asked}\ncame: it tells {came}");
             return false;
         }
         let there = mine.read_u64(frame, COUNT);
-        let wanted = its.read_u64(frame, COUNT);
+        let wanted = (count + asked) as u64;
         if there != wanted {
             let _ = println!(*rt; "before: a pipe of {count} bytes, the oldest at place {oldest}; {size} bytes are written\nclause: pipe\nasked: the pipe then has {wanted} bytes\ncame: it has {there}");
             return false;
@@ -60,11 +57,13 @@
             let _ = println!(*rt; "before: a pipe of {count} bytes, the oldest at place {oldest}; {size} bytes are written\nclause: pipe\nasked: its readers and writers are as many as before\ncame: they aren't");
             return false;
         }
-        if let Some(place) = first_difference(mine, its) {
-            let is = byte(mine, frame, place).unwrap_or(0);
-            let wants = byte(its, frame, place).unwrap_or(0);
-            let _ = println!(*rt; "before: a pipe of {count} bytes, the oldest at place {oldest}; {size} bytes are written\nclause: pipe\nasked: byte {place} of the pipe is {wants} then\ncame: it is {is}");
-            return false;
+        for place in 0..PIPE_BYTES {
+            let is = byte(mine, frame, place);
+            let wants = asked_byte(oldest, count, bytes, asked, place);
+            if is != wants {
+                let _ = println!(*rt; "before: a pipe of {count} bytes, the oldest at place {oldest}; {size} bytes are written\nclause: pipe\nasked: byte {place} of the pipe is {wants:?} then (None: it has no such byte)\ncame: it is {is:?}");
+                return false;
+            }
         }
         if has_other_frames(mine, its) {
             let _ = println!(*rt; "before: a pipe of {count} bytes, the oldest at place {oldest}; {size} bytes are written\nclause: pipe\nasked: no other frame changes\ncame: one does");

@@ -1,10 +1,12 @@
 """Proves bodies: `rt check` of the lab's crate with them, over the libraries that are kept."""
 import dataclasses
 import re
-import subprocess
 import sys
 
+import limits
+import taken
 from source import TOP, LabError
+from way import Way
 
 sys.path.insert(0, str(TOP / "checks"))
 import said  # noqa: E402
@@ -21,13 +23,14 @@ class Proof:
     text: str = ""
 
 
-def checked(room, jobs=1):
-    """What `rt check` prints of the room's crate."""
-    how = {"cwd": room.crate, "stdout": subprocess.PIPE, "stderr": subprocess.STDOUT, "stdin": subprocess.DEVNULL}
-    done = subprocess.run(["rt", "check", "--jobs", str(jobs)], check=False, **how)
-    text = done.stdout.decode(errors="replace")
+def checked(room, way, jobs=1):
+    """What a check of the room's crate prints: by `rt check` over this clone's libraries, or over another's."""
+    words = ["rt", "check", "--jobs", jobs]
+    if way.libraries:
+        words = taken.words_of_check(room.lab, room, way.libraries, jobs)
+    status, text = limits.run(words, room.crate, way.limits)
     (room.home / "said.txt").write_text(text, encoding="utf-8")
-    return done.returncode, text
+    return status, text
 
 
 def errors_in_code(text):
@@ -72,13 +75,13 @@ def next_turn(lab, tried, goals):
     return any(tried.get(goal, 0) < len(terms_for(lab, goal)) for goal in goals if goal)
 
 
-def prove(lab, room, names, jobs=1, is_over=lambda text: False):
+def prove(lab, room, names, way=Way(), jobs=1, is_over=lambda text: False):
     """Proves the functions of these names, which stand in the room's file: a Proof for each. The first check is without an
     answer. Each further one has, for the goals that were open, the next of the lab's terms; there is none if it is over by
     what a check said."""
     tried = {name: {} for name in names}
     while True:
-        status, text = checked(room, jobs)
+        status, text = checked(room, way, jobs)
         broken = re.search(r"^\./proofs/Lab\S*: error: .*", text, re.M)
         if broken:
             raise LabError(f"a lemma of the lab {lab.name} doesn't fit these sources: {broken[0][:300]}")
