@@ -36,15 +36,15 @@ def parents_and_sessions():
 
 
 def family_of(root, sessions):
-    """A process that this one started, and all below it. `sessions` keeps their sessions from look to look: whose parent has
-    ended is known by them."""
+    """A process that this one started, and that hasn't been waited for, with all below it. It leads a session of its own, and
+    `sessions` keeps those of all below that were seen: whose parent has ended is known by them."""
     told = parents_and_sessions()
-    found, ours = {root}, os.getsid(0)
+    found = {root}
     while True:
-        sessions |= {told[it][1] for it in found if it in told} - {ours}
+        sessions |= {told[it][1] for it in found if it in told}
         more = {it for it, (parent, session) in told.items() if parent in found or session in sessions}
         if more <= found:
-            return found & set(told)
+            return found
         found |= more
 
 
@@ -58,19 +58,19 @@ def megabytes_of(processes):
 
 
 def end(child, sessions):
-    """Ends a process that this one started, and all below it."""
-    if child.poll() is None:
-        child.terminate()
-        with contextlib.suppress(subprocess.TimeoutExpired):
-            child.wait(GRACE)
-    for _ in range(5):
-        left = family_of(child.pid, sessions) - {os.getpid()}
+    """Ends a process that this one started, and all below it: first it is asked to, so that it can tidy up."""
+    family_of(child.pid, sessions)
+    child.terminate()
+    with contextlib.suppress(subprocess.TimeoutExpired):
+        child.wait(GRACE)
+    for _ in range(10):
+        left = [it for it, (_, session) in parents_and_sessions().items() if session in sessions]
         for it in left:
             with contextlib.suppress(OSError):
                 os.kill(it, signal.SIGKILL)
-        child.poll()
         if not left:
             return
+        child.poll()
         time.sleep(LOOKS)
 
 
@@ -93,10 +93,12 @@ def run(words, home, limits):
     with tempfile.TemporaryFile() as said:
         how = {"cwd": home, "stdin": subprocess.DEVNULL, "stdout": said, "stderr": subprocess.STDOUT}
         with subprocess.Popen([str(it) for it in words], start_new_session=True, **how) as child:
+            why = "it was broken off"
             try:
                 why = watched(child, limits, sessions)
             finally:
-                end(child, sessions)
+                if why:
+                    end(child, sessions)
         said.seek(0)
         text = said.read().decode(errors="replace")
     if why:
