@@ -11,6 +11,8 @@ from way import Way
 WRONG, SAME, UNTRIED, OVER = "wrong", "same", "untried", "over"
 # How many seconds one body is played; it takes a few, and a loop without an end takes all of them.
 SECONDS = 60
+# What is said of a body that takes more stack, time or memory than a play has. That is no case against the contract.
+TOO_MUCH = re.compile(r"no-answer(?:: (.*))?$")
 
 
 @dataclasses.dataclass(frozen=True)
@@ -78,6 +80,11 @@ def play_of(text, name):
     if is_of_play(lines, name):
         return Play(UNTRIED, lines=tuple(lines[-2:]), text=text)
     told = [it for it in lines if re.match(r"(before|call|asked|came|clause): ", it)]
+    too_much = [it[1] for it in map(TOO_MUCH.search, lines) if it]
+    if too_much and not told:
+        begun = [it for it in lines if it.startswith("case: ")]
+        why = next(filter(None, too_much), "it gave no answer")
+        return Play(OVER, lines=(f"{why};", *(it.replace("case: ", "in the case of: ") for it in begun[-1:])), text=text)
     return Play(WRONG, lines=tuple(told or stopped(lines)), text=text)
 
 

@@ -13,7 +13,7 @@ from way import Way
 OVER_THE_LIMIT = "over the limit"
 
 MESSAGES = {
-    PROVED: "proved: the contract holds of this body whenever it returns, for every program and every event",
+    PROVED: "proved: the contract holds of this body, for every program and every event, if the host has stack and time for it",
     WRONG: "wrong: here is a case in which the contract doesn't hold",
     OPEN: "open: no case was found in which it is wrong, and it isn't proved",
     REFUSED: "refused: nothing was played or proved",
