@@ -9,7 +9,8 @@
 # libraries that a gate or `rt check` proved in another CLONE. --wrong-too also sees that no wrong body is proved; --unlike-too
 # also tries to prove the right bodies that are unlike the crate's own. What each body comes to has to be what the table
 # checks/labs/verdicts.txt has; --write writes it there. -v shows the cases.
-# --refusals hands in 95 answers of all sorts, most of which are to be refused, some as a class; --notation compares the signs of
-# the labs' files with labs/NOTATION.md. Both prove nothing: seconds, without a kit. All else needs python3 and the Rattle kit.
+# --refusals hands in 95 answers of all sorts, most of which are to be refused, some of them as a class, and six outcomes of a
+# play; --notation compares the signs of the labs' files with labs/NOTATION.md. Both prove nothing, and take seconds, without a
+# kit. All else needs python3 and the Rattle kit.
 # The status is 0 if all is so, 1 if not, 2 if it can't be tried.
 exec python3 -B "$(dirname "$0")/../labs/tools/try_labs.py" "$@"

@@ -12,6 +12,7 @@ import tempfile
 import bodies
 import grading
 import laws
+import player
 import rows
 from source import BEGIN, END, Lab, LabError
 from way import Way
@@ -157,6 +158,25 @@ ROWS = [
 ]
 
 
+# What `rt try --test` says of a body, and what the play comes to by that.
+PLAYS = [
+    ("ok", "case: one\nplayed: 7", player.SAME),
+    ("FAILED", "case: one\nbefore: one\nasked: 1\ncame: 2\nsrc/x.rt:1:1: the test was killed by signal 6 (SIGABRT)", player.WRONG),
+    ("FAILED", "case: one\nfault kind=bounds in=x::lab_student: the index is 9, called from y", player.WRONG),
+    ("FAILED", "case: one\nfault kind=bounds in=x::lab_student_play::plays: the index is 9", player.UNTRIED),
+    ("FAILED", "case: one\nchecked: no-answer: the program ran out of stack\nrun=no-answer", player.OVER),
+    ("FAILED", "case: one\nchecked: no-answer: the program did not end within the time limit\nrun=no-answer", player.OVER),
+]
+
+
+def plays():
+    """What such a play comes to, beside what it has to."""
+    for status, lines, wanted in PLAYS:
+        said = "\n".join([f"test x::lab_student_play::plays ... {status}", *(f"    {it}" for it in lines.split("\n")), ""])
+        came = player.play_of(said, "lab_student").verdict
+        yield f"play {lines!r}", "" if came == wanted else wanted, "" if came == wanted else came
+
+
 def reason_of(test, text):
     """Why a text is refused; nothing if it isn't."""
     try:
@@ -217,12 +237,12 @@ def main():
     """Hands in all of it."""
     cases = [(f"body {body!r}", lambda home, b=body: (home / "answer.rs").write_text(with_body(b), encoding="utf-8"), word) for body, word in BODIES]
     amiss = 0
-    told = [*((name, word, reason_for(make)) for name, make, word in [*cases, *files()]), *meanings(), *a_class()]
+    told = [*((name, word, reason_for(make)) for name, make, word in [*cases, *files()]), *meanings(), *plays(), *a_class()]
     for name, word, said in told:
         if bool(said) != bool(word) or word not in said:
             amiss += 1
             print(f"{name}: wanted {word or 'no refusal'!r}, and it is {said or 'not refused'!r}")
-    print(f"{len(told)} answers handed in, {amiss} not judged as they are to be")
+    print(f"{len(told)} answers and outcomes, {amiss} not judged as they are to be")
     return 1 if amiss else 0
 
 
