@@ -7,6 +7,7 @@ import sys
 
 import bodies
 import laws
+import limits
 import rows
 import verdicts
 from bodies import Refused
@@ -116,8 +117,13 @@ def grade(folders, jobs, rule, missing_of, way):
     table.writerow(["submission", "points", "of", "status", "reason"] if rule else ["folder", "lab", "verdict", "reason"])
     words = []
     with concurrent.futures.ThreadPoolExecutor(jobs) as pool:
-        for folder, told in zip(folders, pool.map(lambda it: graded(it, missing_of, way), folders)):
-            table.writerow(row_of(folder, told, rule))
-            sys.stdout.flush()
-            words.append(told[1])
+        try:
+            for folder, told in zip(folders, pool.map(lambda it: graded(it, missing_of, way), folders)):
+                table.writerow(row_of(folder, told, rule))
+                sys.stdout.flush()
+                words.append(told[1])
+        except KeyboardInterrupt:
+            limits.STOPPED.set()
+            pool.shutdown(cancel_futures=True)
+            raise
     return 2 if NOT_GRADED in words else 0 if all(it == PROVED for it in words) else 1

@@ -6,11 +6,14 @@ import pathlib
 import signal
 import subprocess
 import tempfile
+import threading
 import time
 
 PAGE_BYTES = os.sysconf("SC_PAGE_SIZE")
 # How often the command is looked at, in seconds, and how long it has to end by itself once it is asked to.
 LOOKS, GRACE = 0.2, 3
+# Set once all that runs is to end.
+STOPPED = threading.Event()
 
 
 @dataclasses.dataclass(frozen=True)
@@ -81,6 +84,8 @@ def watched(child, limits, sessions):
         with contextlib.suppress(subprocess.TimeoutExpired):
             child.wait(LOOKS)
             return ""
+        if STOPPED.is_set():
+            return "it was broken off"
         if time.monotonic() > until:
             return f"it took more than {limits.seconds} seconds"
         if megabytes_of(family_of(child.pid, sessions)) > limits.megabytes:

@@ -1,5 +1,6 @@
 """The verdict on a body: proved, wrong, open or refused, each with its reason in words."""
 import dataclasses
+import re
 
 import player
 import prover
@@ -59,10 +60,27 @@ def in_words(lab, goal):
     return "that the body is safe and ends"
 
 
-def open_lines(lab, proof, play):
+def in_names(text):
+    """What is to be shown, in the names that the student gave: the prover names each by the step that it comes of."""
+    text = re.sub(r"\b(?:Rattle|mathlib|lib)(?:\.\w+)*\.(?=[\w◌])", "", text)
+    text = re.sub(r"\bc\.args\.", "", text)
+    text = re.sub(r"\bc\.from_residual[\w-]*\.result\b", "result", text)
+    text = re.sub(r"\bc\.(?:in_|loop-)[\w-]+\.([\w-]+)", r"\1", text)
+    return re.sub(r"\bc\.([\w-]+)\.result\b", r"(the answer of \1)", text)
+
+
+def goal_told(lab, proof, goal, first):
+    """An open goal: the line of the answer, what it asks in words, and what is to be shown there."""
+    line, text = proof.asked.get(goal, (0, ""))
+    place = f"answer.rs:{line - first[0] + first[1]}: " if first and line > first[0] else ""
+    shown = f". To be shown: {in_names(text)[:400]}" if text else ""
+    return f"{place}{in_words(lab, goal)}  [{goal}]{shown}"
+
+
+def open_lines(lab, proof, play, first):
     """What is open, clause by clause, and what was played."""
     goals = [it for it in proof.goals if it]
-    lines = [f"{in_words(lab, it)}  [{it}]" for it in dict.fromkeys(goals)]
+    lines = [goal_told(lab, proof, it, first) for it in dict.fromkeys(goals)]
     lines = lines or ["the prover has no proof of this form of code: " + last_words(proof.text, lab)]
     return [*lines, told_of_play(play)] if play else lines
 
@@ -84,7 +102,7 @@ def verdict_of(lab, proof, play, first=None):
         return Verdict(PROVED, (told_of_play(play),) if play else ())
     if play and play.verdict == WRONG:
         return Verdict(WRONG, tuple(clause_told(lab, it) for it in play.lines))
-    return Verdict(OPEN, tuple(open_lines(lab, proof, play)))
+    return Verdict(OPEN, tuple(open_lines(lab, proof, play, first)))
 
 
 def clause_told(lab, line):
