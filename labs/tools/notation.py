@@ -24,7 +24,8 @@ def handed_out(lab):
 
 def clauses_of(text):
     """The lines of the contracts in a file of code."""
-    return "\n".join(re.findall(r"^ *(?:requires|ensures)\b.*(?:\n(?! *(?:requires|ensures|\{)\b).*\S.*)*", re.sub(r"//.*", "", text), re.M))
+    clause = r"^ *(?:requires|ensures)\b.*(?:\n(?! *(?:requires|ensures|\{)\b).*\S.*)*"
+    return "\n".join(re.findall(clause, re.sub(r"//.*", "", text), re.M))
 
 
 def signs_of(name, text):

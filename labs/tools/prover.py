@@ -62,8 +62,8 @@ def asked_in(lab, text, name):
 
 def unfoldings_in(text):
     """The `unfolding` lines by which the prover says that a goal's answer is admitted, by the goals' names."""
-    notes = re.findall(r"a trial run of this declaration was admitted by the kernel\. That run had the line `(unfolding [^`]+)`.*\(in `([^`]+)`\)", text)
-    return {goal: line for line, goal in notes}
+    admitted = r"a trial run of this declaration was admitted by the kernel\. That run had the line `(unfolding [^`]+)`"
+    return {goal: line for line, goal in re.findall(admitted + r".*\(in `([^`]+)`\)", text)}
 
 
 def terms_for(lab, goal):
