@@ -4,10 +4,10 @@ from source import TOP
 FILE = TOP / "checks" / "labs" / "verdicts.txt"
 HEAD = """\
 # What each stored body of the labs came to. A line has the lab, the folder and name of the body, what its play came to, and what
-# its proof did, if it was seen: `proved`, `open`, or - if it wasn't tried. A play `fails` if a case is found in which the contract
-# doesn't hold, and `holds` if none is, with the number of its cases. Bodies in `right`, `open` and `unlike` are right; those in
-# `unlike` are unlike the crate's own, some of them in what they answer where the contract leaves that open.
-# checks/labs.sh --write writes what it sees.
+# its proof did: `proved` or `open`. A play `fails` if a case is found in which the contract doesn't hold, and `holds` if none is,
+# with the number of its cases. Where - stands, nobody has looked since the play or the lab is as it is. Bodies in `right`, `open`
+# and `unlike` are right; those in `unlike` are unlike the crate's own, some of them in what they answer where the contract leaves
+# that open. checks/labs.sh --write writes what it sees.
 """
 
 
@@ -36,5 +36,5 @@ def amiss(found):
         old = table.get(key)
         if old is None:
             yield f"{key[1]} has no line in {FILE.relative_to(TOP)}"
-        elif play not in ("", old[0]) or old[1] != "-" and proof not in ("", old[1]):
+        elif any(seen not in ("", kept) and kept != "-" for seen, kept in zip((play, proof), old)):
             yield f"{key[1]}: the table has {' '.join(old)}, and it is {play or old[0]} {proof or old[1]}"
