@@ -144,10 +144,10 @@
     fn plays(rt: HostRuntime) {
         let mut cases = 0;
         for (is_2_free, more, used) in [(true, 0, "0, 1, 3 to 5"), (false, 0, "0 to 5"), (false, 26, "0 to 31"), (true, 26, "0, 1, 3 to 31")] {
-            for a0 in [0, 1, 2, 3, 4, 5, 6, 15, 16, 31, 32, 0x1_0000_0000, 0x1_0000_0003, 0xFFFF_FFFF, 0xFFFF_FFFF_FFFF_FFFE] {
+            let before = scene(&rt, is_2_free, more);
+            for a0 in [0, 2, 3, 4, 5, 6, 31, 32, 0x1_0000_0003, 0xFFFF_FFFF] {
                 let call = Call { number: 10, a0, a1: 1, a2: 0, moved: 0, clock: 0 };
                 let mut mine = scene(&rt, is_2_free, more);
-                let before = scene(&rt, is_2_free, more);
                 assert!(rt; play_one(&rt, &mut mine, &before, &call, used), "the case is told above");
                 cases += 1;
             }

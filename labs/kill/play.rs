@@ -70,8 +70,8 @@
     #[test]
     fn plays(rt: HostRuntime) {
         let mut cases = 0;
-        for count in 1..6 {
-            for a0 in [0, 1, 2, 3, 4, 5, 6, 7, 0x1_0000_0000, 0x1_0000_0002, 0x7FFF_FFFF, 0xFFFF_FFFF, 0xFFFF_FFFE, 0xFFFF_FFFF_FFFF_FFFE] {
+        for count in [1, 2, 4] {
+            for a0 in [0, 1, 2, 3, 4, 5, 0x1_0000_0002, 0x7FFF_FFFF, 0xFFFF_FFFF, 0xFFFF_FFFF_FFFF_FFFE] {
                 let call = Call { number: 6, a0, a1: 4, a2: 0, moved: 0, clock: 0 };
                 let mut mine = scene(&rt, count);
                 assert!(rt; play_one(&rt, &mut mine, &call, count), "the case is told above");
