@@ -4,8 +4,8 @@
 # reports and the conversations with GDB by the programs that are built, reads the lines of all sources a second time, lets
 # the debugger show words as others' disassemblers do, grades submissions, runs the commands that the pages show, looks at
 # their links, at the cases by name and at the numbers of calls, counts what the proofs can do without, what stands twice and
-# what has to be believed, and tells of which state the modules and page/nektavoly.html are, in some 40 seconds. The gate does
-# the same after `rt ci`.
+# what has to be believed, hands in answers of labs and compares their signs with labs/NOTATION.md, and tells of which state the
+# modules and page/nektavoly.html are, in some 40 seconds. The gate does the same after `rt ci`.
 # `checks/run.sh --others` tells which other checks there are, how each is called, and how long it takes.
 #
 # `checks/run.sh --node` plays all of that which needs a program by the modules of anywhere/, with Node in place of the native
