@@ -1,10 +1,16 @@
 #!/bin/sh
 # Tries the labs of labs/: the right bodies of each are proved, by its own rules, and the wrong ones are told by a case.
 #
-#   checks/labs.sh [--play | --prove] [--wrong-too] [-v] [NAME..]     (no NAME: all labs)
+#   checks/labs.sh [--play | --prove] [--from CLONE] [--wrong-too] [--unlike-too] [--write] [-v] [NAME..]     (no NAME: all labs)
 #   checks/labs.sh --refusals
+#   checks/labs.sh --notation
 #
-# --play plays alone, --prove proves alone; --wrong-too also sees that no wrong body is proved; -v shows the cases. --refusals
-# hands in 86 answers of all sorts, most of which are to be refused, and proves nothing: seconds, without a kit. All else needs
-# python3, the Rattle kit, and what ./lab prepare builds. The status is 0 if all is so, 1 if not, 2 if it can't be tried.
+# --play plays alone, which needs the kit and nothing else; --prove proves alone, over what ./lab prepare builds, or over the
+# libraries that a gate or `rt check` proved in another CLONE. --wrong-too also sees that no wrong body is proved; --unlike-too
+# also tries to prove the right bodies that are unlike the crate's own. What each body comes to has to be what the table
+# checks/labs/verdicts.txt has; --write writes it there. -v shows the cases.
+# --refusals hands in 95 answers of all sorts, most of which are to be refused, some of them as a class, and six outcomes of a
+# play; --notation compares the signs of the labs' files with labs/NOTATION.md. Both prove nothing, and take seconds, without a
+# kit. All else needs python3 and the Rattle kit.
+# The status is 0 if all is so, 1 if not, 2 if it can't be tried.
 exec python3 -B "$(dirname "$0")/../labs/tools/try_labs.py" "$@"

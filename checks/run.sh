@@ -4,8 +4,8 @@
 # reports and the conversations with GDB by the programs that are built, reads the lines of all sources a second time, lets
 # the debugger show words as others' disassemblers do, grades submissions, runs the commands that the pages show, looks at
 # their links, at the cases by name and at the numbers of calls, counts what the proofs can do without, what stands twice, the
-# launcher's lines and what has to be believed, and tells of which state the modules and page/nektavoly.html are, in some 40 seconds. The gate does
-# the same after `rt ci`.
+# launcher's lines and what has to be believed, hands in answers of labs and compares their signs with labs/NOTATION.md, and
+# tells of which state the modules and page/nektavoly.html are, in some 40 seconds. The gate does the same after `rt ci`.
 # `checks/run.sh --others` tells which other checks there are, how each is called, and how long it takes.
 #
 # `checks/run.sh --node` plays all of that which needs a program by the modules of anywhere/, with Node in place of the native
@@ -32,7 +32,7 @@ tell_others() {
     tell wrong-bodies/run.sh 'wrong-bodies/run.sh [CRATE..]' 'the prover refuses wrong bodies: minutes a crate, hours for all; needs rt'
     tell wrong-bodies/run.sh 'wrong-bodies/run.sh --definitions [CRATE..]' 'a law, worked case or contract refuses turned definitions: 1 to 10 minutes each'
     tell labs.sh 'labs.sh [NAME..]' 'the labs: right bodies are proved, wrong ones told by a case: 2 to 5 minutes each; needs rt'
-    tell labs.sh 'labs.sh --refusals' '69 answers of a lab, most of which are refused: seconds; needs no kit'
+    tell labs.sh 'labs.sh --play [NAME..]' 'the labs: all bodies are played, and no right one is called wrong: a minute each; needs rt'
     tell hostile/run.sh 'hostile/run.sh' 'each refused growth of memory, read and write is answered: a minute'
     tell beside-qemu/run.sh 'beside-qemu/run.sh' '1,000 random programs do what they do under QEMU: some minutes; needs qemu-user'
     tell beside-qemu/run.sh 'beside-qemu/run.sh --steps 10000000' 'as many of them as it takes for ten million instructions: some minutes; needs the same'
@@ -97,6 +97,7 @@ case "$*" in
     do_all $quick $longer 'python3 -B checks/commands.py' 'python3 -B checks/links.py' 'python3 -B checks/lemmas.py' \
         'python3 -B checks/closure.py' 'python3 -B checks/once.py' 'python3 -B checks/cases.py' 'python3 -B checks/calls.py' \
         'python3 -B checks/launcher_lines.py' 'python3 -B checks/contracts.py' 'python3 -B checks/edits_apply.py' \
+        'checks/labs.sh --refusals' 'checks/labs.sh --notation' \
         'anywhere/is_current.sh --tell' 'page/is_current.sh --tell' checks/shell.sh
     tell_others
     ;;

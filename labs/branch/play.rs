@@ -1,12 +1,24 @@
+    // The contract: whether the row faults, and the pc after it.
+    fn asked_of(pc: u64, is_taken: bool, target: u64) -> (bool, u64) {
+        if !is_taken {
+            return (false, pc.wrapping_add(4));
+        }
+        if target % 4 != 0 {
+            return (true, pc);
+        }
+        (false, target)
+    }
+
     fn play_one(rt: &HostRuntime, pc: u64, is_taken: bool, target: u64) -> bool {
         let mut mine = Regs::new(pc);
         mine.write(Reg::new(5), 7);
         let mut its = mine;
         let _ = println!(*rt; "case: the pc is {pc:#x}; is_taken is {is_taken}, target is {target:#x}");
         let came = STUDENT(&mut mine, is_taken, target);
-        let asked = branch(&mut its, is_taken, target);
+        let (faults, wanted) = asked_of(pc, is_taken, target);
+        let asked = if faults { Stop::Fault(Cause::TargetMisaligned) } else { Stop::Next };
+        its.set_pc(wanted);
         let now = mine.pc();
-        let wanted = its.pc();
         if came != asked {
             let _ = println!(*rt; "before: the pc is {pc:#x}; is_taken is {is_taken}, target is {target:#x}\nclause: stop\nasked: {asked:?}\ncame: {came:?}");
             return false;

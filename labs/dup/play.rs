@@ -17,54 +17,123 @@
         scene
     }
 
-    fn is_same_named(mine: &Kernel, its: &Kernel, slot: usize, number: u8) -> bool {
-        mine.table.descriptors(slot).get(Fd::new(number)) == its.table.descriptors(slot).get(Fd::new(number))
+    fn named(kernel: &Kernel, number: u8) -> Option<FileId> {
+        kernel.table.descriptors(0).get(Fd::new(number))
     }
 
-    // The first descriptor that names something else, in slot 0 or 1.
-    fn first_other(mine: &Kernel, its: &Kernel) -> Option<(usize, u8)> {
-        for slot in 0..2 {
-            for number in 0..NOFILE as u8 {
-                if !is_same_named(mine, its, slot, number) {
-                    return Some((slot, number));
-                }
+    // The contract: the descriptor that is doubled, and the new one; none if one of the two is missing (`dup` of the rows).
+    fn doubled(before: &Kernel, a0: u64) -> Option<(u8, u8)> {
+        let number = a0 % (1 << 32);
+        if number >= NOFILE as u64 || named(before, number as u8).is_none() {
+            return None;
+        }
+        for new in 0..NOFILE as u8 {
+            if named(before, new).is_none() {
+                return Some((number as u8, new));
             }
         }
         None
     }
 
-    // Whether the open files and pipes count as many descriptors: each close leaves as many of them.
-    fn count_alike(mine: &mut Kernel, its: &mut Kernel) -> bool {
+    // What a descriptor names after the call, told by what stood there before.
+    fn named_then(before: &Kernel, made: Option<(u8, u8)>, number: u8) -> Option<FileId> {
+        match made {
+            Some((old, new)) if new == number => named(before, old),
+            _ => named(before, number),
+        }
+    }
+
+    // What an open file is, as a number: two that are alike have the same.
+    fn kind_of(kernel: &Kernel, file: FileId) -> u64 {
+        let kind = kernel.files.kind(file);
+        let target = match kind.target {
+            file_table::Target::Console => 0,
+            file_table::Target::Program { program, offset } => 1 + program as u64 * 1000 + offset,
+            file_table::Target::Pipe { frame, .. } => 1_000_000 + u64::from(frame.number()),
+        };
+        target * 4 + u64::from(kind.read) * 2 + u64::from(kind.write)
+    }
+
+    // The first descriptor of process 1 that isn't as asked: it is in use or not, its file is of that kind, and it shares it
+    // with those that it has to share it with.
+    fn first_amiss(mine: &Kernel, before: &Kernel, made: Option<(u8, u8)>) -> Option<u8> {
         for number in 0..NOFILE as u8 {
-            let fd = Fd::new(number);
-            if mine.table.descriptors(0).get(fd).is_some() {
-                mine.close_descriptor(0, fd);
-                its.close_descriptor(0, fd);
+            match (named(mine, number), named_then(before, made, number)) {
+                (None, None) => {}
+                (Some(is), Some(asked)) => {
+                    if kind_of(mine, is) != kind_of(before, asked) {
+                        return Some(number);
+                    }
+                    for other in 0..number {
+                        let shares = named(mine, other) == Some(is);
+                        if shares != (named_then(before, made, other) == Some(asked)) {
+                            return Some(number);
+                        }
+                    }
+                }
+                _ => return Some(number),
             }
-            if mine.files.in_use() != its.files.in_use() || mine.memories.free() != its.memories.free() {
+        }
+        None
+    }
+
+    // How many open files the descriptors above a number name after the call, and whether an end of the pipe is one.
+    fn still_open(before: &Kernel, made: Option<(u8, u8)>, number: u8) -> (usize, bool) {
+        let mut count = 0;
+        let mut has_pipe = false;
+        for above in number + 1..NOFILE as u8 {
+            let file = named_then(before, made, above);
+            let mut is_first = file.is_some();
+            for earlier in number + 1..above {
+                is_first = is_first && named_then(before, made, earlier) != file;
+            }
+            count += usize::from(is_first);
+            has_pipe = has_pipe || is_first && (file == named(before, 4) || file == named(before, 5));
+        }
+        (count, has_pipe)
+    }
+
+    // Whether the open files and the pipe count their descriptors: as these are closed one by one, each goes with its last.
+    fn counts_right(mine: &mut Kernel, before: &Kernel, made: Option<(u8, u8)>) -> bool {
+        let free = before.memories.free();
+        for number in 0..NOFILE as u8 {
+            if named(mine, number).is_some() {
+                mine.close_descriptor(0, Fd::new(number));
+            }
+            let (count, has_pipe) = still_open(before, made, number);
+            if mine.files.in_use() != count || mine.memories.free() != (if has_pipe { free } else { free + 1 }) {
                 return false;
             }
         }
         true
     }
 
-    fn play_one(rt: &HostRuntime, mine: &mut Scene, its: &mut Scene, call: &Call, used: &str) -> bool {
+    fn play_one(rt: &HostRuntime, mine: &mut Scene, before: &Scene, call: &Call, used: &str) -> bool {
         let first = call.a0;
         let second = call.a1;
         let _ = println!(*rt; "case: descriptors in use: {used}; a0 is {first:#x}, a1 is {second:#x}");
         let came = answered(mine.kernel.STUDENT(&mut mine.hart, call));
-        let asked = answered(its.kernel.dup(&mut its.hart, call));
+        let made = doubled(&before.kernel, first);
+        let asked = match made {
+            None => -1,
+            Some((_, new)) => i64::from(new),
+        };
         let left = mine.a0();
         if came != asked || left != asked {
             let _ = println!(*rt; "before: descriptors in use: {used}; a0 is {first:#x}, a1 is {second:#x}\nclause: answer\nasked: the answer is {asked}, in a0 too\ncame: it is {came}, and a0 has {left}");
             return false;
         }
-        if let Some((slot, number)) = first_other(&mine.kernel, &its.kernel) {
-            let pid = slot + 1;
-            let _ = println!(*rt; "before: descriptors in use: {used}; a0 is {first:#x}, a1 is {second:#x}\nclause: made\nasked: descriptor {number} of process {pid} names another open file, or none\ncame: it names a wrong one, or none");
+        if let Some(number) = first_amiss(&mine.kernel, &before.kernel, made) {
+            let _ = println!(*rt; "before: descriptors in use: {used}; a0 is {first:#x}, a1 is {second:#x}\nclause: made\nasked: descriptor {number} of process 1 names another open file, or none\ncame: it names a wrong one, or none");
             return false;
         }
-        if !count_alike(&mut mine.kernel, &mut its.kernel) {
+        for number in 0..NOFILE as u8 {
+            if mine.kernel.table.descriptors(1).get(Fd::new(number)).is_some() {
+                let _ = println!(*rt; "before: descriptors in use: {used}; a0 is {first:#x}, a1 is {second:#x}\nclause: made\nasked: descriptor {number} of process 2 stays free\ncame: it names an open file");
+                return false;
+            }
+        }
+        if !counts_right(&mut mine.kernel, &before.kernel, made) {
             let _ = println!(*rt; "before: descriptors in use: {used}; a0 is {first:#x}, a1 is {second:#x}\nclause: made\nasked: each open file and each pipe counts the descriptors on it\ncame: as they are closed, one goes too early, or stays");
             return false;
         }
@@ -75,11 +144,11 @@
     fn plays(rt: HostRuntime) {
         let mut cases = 0;
         for (is_2_free, more, used) in [(true, 0, "0, 1, 3 to 5"), (false, 0, "0 to 5"), (false, 26, "0 to 31"), (true, 26, "0, 1, 3 to 31")] {
-            for a0 in [0, 1, 2, 3, 4, 5, 6, 15, 16, 31, 32, 0x1_0000_0000, 0x1_0000_0003, 0xFFFF_FFFF, 0xFFFF_FFFF_FFFF_FFFE] {
+            let before = scene(&rt, is_2_free, more);
+            for a0 in [0, 2, 3, 4, 5, 6, 31, 32, 0x1_0000_0003, 0xFFFF_FFFF] {
                 let call = Call { number: 10, a0, a1: 1, a2: 0, moved: 0, clock: 0 };
                 let mut mine = scene(&rt, is_2_free, more);
-                let mut its = scene(&rt, is_2_free, more);
-                assert!(rt; play_one(&rt, &mut mine, &mut its, &call, used), "the case is told above");
+                assert!(rt; play_one(&rt, &mut mine, &before, &call, used), "the case is told above");
                 cases += 1;
             }
         }

@@ -9,11 +9,21 @@
         made
     }
 
+    // The contract: the place of the first descriptor that is in no use.
+    fn lowest_unused(used: u32) -> Option<u8> {
+        for number in 0..NOFILE {
+            if used >> number & 1 == 0 {
+                return Some(number as u8);
+            }
+        }
+        None
+    }
+
     fn play_one(rt: &HostRuntime, used: u32) -> bool {
         let made = table(used);
         let _ = println!(*rt; "case: in use are the descriptors of the bits {used:#034b} (bit 0, the last, is descriptor 0)");
         let came = made.STUDENT().map(|fd| fd.number());
-        let asked = made.lowest().map(|fd| fd.number());
+        let asked = lowest_unused(used);
         if came != asked {
             let _ = println!(*rt; "before: in use are the descriptors of the bits {used:#034b} (bit 0, the last, is descriptor 0)\nasked: {asked:?}\ncame: {came:?}");
             return false;

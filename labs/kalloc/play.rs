@@ -53,9 +53,12 @@
                 let _ = println!(*rt; "before: {count} of 16 frames are free\nclause: none\nasked: a frame\ncame: None");
                 return false;
             }
-            let same = pool.count == 0 && pool.first.is_none();
+            let mut same = pool.count == 0 && pool.first.is_none();
+            for other in 0..16 {
+                same = same && is_same_frame(mine, its, Frame::new(other));
+            }
             if !same {
-                let _ = println!(*rt; "before: {count} of 16 frames are free\nclause: none\nasked: the pool stays as it was\ncame: it changed");
+                let _ = println!(*rt; "before: {count} of 16 frames are free\nclause: none\nasked: the pool and RAM stay as they were\ncame: one of them changed");
                 return false;
             }
             return true;

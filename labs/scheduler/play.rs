@@ -9,10 +9,21 @@
         Some(Process { pid: Pid::new(slot as u32 + 1), parent: None, state })
     }
 
+    // The contract: of the slots of the bits, the one of least distance after `last`, upwards and round.
+    fn of_least_distance(runnable: u64, last: usize) -> Option<usize> {
+        for distance in 0..NPROC {
+            let slot = (last + 1 + distance) % NPROC;
+            if runnable >> slot & 1 == 1 {
+                return Some(slot);
+            }
+        }
+        None
+    }
+
     fn play_one(rt: &HostRuntime, places: &[Option<Process>], last: usize, top: usize, runnable: u64) -> bool {
         let _ = println!(*rt; "case: who may run are the slots of the bits {runnable:#x} (bit 0 is slot 0); slot {last} ran last, and no slot from {top} on is held");
         let came = STUDENT(places, last, top);
-        let asked = nearest(places, last, top);
+        let asked = of_least_distance(runnable, last);
         if came != asked {
             let _ = println!(*rt; "before: who may run are the slots of the bits {runnable:#x} (bit 0 is slot 0); slot {last} ran last, and no slot from {top} on is held\nasked: {asked:?}\ncame: {came:?}");
             return false;

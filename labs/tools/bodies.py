@@ -163,9 +163,12 @@ def lab_of(text):
     if not found:
         raise Refused(f"{ANSWER} doesn't begin with the line `// Lab NAME: ..` that it was handed out with")
     try:
-        return Lab(found[1])
+        lab = Lab(found[1])
     except LabError as error:
         raise Refused(str(error)) from error
+    if not lab.function:
+        raise Refused(f"the lab {lab.name} has no {ANSWER}: its answer is another file")
+    return lab
 
 
 def handed_out(lab):

@@ -1,7 +1,7 @@
     use std::alloc::Global;
     use std::process::Abort;
 
-    // A program's file of one page, which is never run.
+    // A program's file of one page, whose only instruction is ECALL.
     fn one_page(alloc: Global) -> Vec<u8> {
         let mut file = Vec::new(alloc);
         let mut head = [0; 124];
@@ -15,6 +15,7 @@
         head[72] = 120;
         head[96] = 4;
         head[105] = 16;
+        head[120] = 0x73;
         let _ = file.extend_from_slice(&head);
         file
     }
@@ -43,10 +44,14 @@
             Scene { kernel, hart }
         }
 
-        // The process in a slot has ended, and nobody has waited for it.
-        fn end(&mut self, slot: usize) {
-            self.kernel.memories.give_back(slot);
-            self.kernel.table.zombie(slot, 7);
+        // Turns go round until the process of a pid runs; whoever runs before it stops, and may run again.
+        fn run(&mut self, pid: u32) {
+            for _ in 0..64 {
+                self.kernel.pause(&self.hart);
+                if self.kernel.turn(&mut self.hart) == Some(xk_base::Pid::new(pid)) {
+                    return;
+                }
+            }
         }
 
         fn a0(&self) -> i64 {

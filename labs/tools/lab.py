@@ -1,6 +1,4 @@
 """Labs in the kernel: see ../README.md and `lab --help`."""
-import concurrent.futures
-import csv
 import os
 import pathlib
 import shutil
@@ -9,26 +7,39 @@ import sys
 import tempfile
 
 import bodies
+import grading
 import laws
 import rooms
 import rows
-import verdicts
 from bodies import Refused
-from prover import PROVED, REFUSED
+from limits import Limits
+from prover import PROVED
 from source import LABS, TOP, Lab, LabError, all_labs
-from verdicts import Verdict
+from way import Way
 
 HELP = """usage: lab                     the labs, from the first on
        lab NAME [FOLDER]       makes a folder of your own with the lab NAME (lab-NAME, beside the clone, if no FOLDER is named)
-       lab check [FOLDER]      is the body wrong, proved or open? Half a minute
+       lab check [FOLDER]      is the body wrong, proved or open? It is played first, and proved if what lies below is prepared
        lab run FOLDER FILE..   runs programs on the kernel with your body in it, in a build without proofs
-       lab grade [--jobs N] FOLDER..    CSV: each folder's lab, verdict and reason; N folders at once
+       lab grade FOLDER..      CSV: each folder's lab, verdict and reason
        lab prepare [NAME..]    proves what lies below the labs of these names, once in a clone (no NAME: below all labs)
        lab pack FILE [NAME..]  what `lab prepare` made for these labs, as an archive FILE (.tar.xz) for a class (no NAME: for all)
        lab unpack FILE         puts what is in such an archive into a clone of the same version, with the same kit
 
+Before the folders of `check` and `grade`:
+       --from CLONE            stands on the libraries that a gate or `rt check` proved in another clone of the same sources
+       --seconds N             each run of the prover, and each play, has so many seconds (1800)
+       --memory MB             and so many MB of the host's memory (8192); over a limit the verdict is open
+Before those of `grade`:
+       --jobs N                so many folders at once (1)
+       --points RULE           points for each verdict, as proved=3,open=1: CSV as programs/course/grade.sh has it
+
 It needs the Rattle kit (`rt` on the PATH) and Python 3. `lab check` and `lab grade` end with the status 0 if each body is
-proved, 1 if one isn't, 2 if the words or the host won't do."""
+proved, 1 if one isn't, 2 if the words or the host won't do, or a folder isn't graded."""
+
+# The options of each command that has some.
+WAYS = ["--from", "--seconds", "--memory"]
+OPTIONS = {"check": WAYS, "grade": [*WAYS, "--jobs", "--points"]}
 
 # How long a crate takes the first time, in seconds, on a host of 4 processors that does nothing else.
 SECONDS = {"xk_base": 50, "phys_ram": 30, "frame_list": 30, "file_table": 60, "pipe_core": 45, "console_core": 50,
@@ -84,9 +95,9 @@ def make_folder(name, folder=None):
         say(missing(lab))
 
 
-def missing(lab):
+def missing(lab, way=Way()):
     """What has to be built before a body of the lab can be proved, in words; nothing if all is there."""
-    names = rooms.missing_below(lab)
+    names = [] if way.libraries else rooms.missing_below(lab)
     if not names:
         return ""
     minutes = sum(SECONDS.get(it, 60) for it in [*names, lab.crate]) // 60 + 1
@@ -156,98 +167,22 @@ def unpack(file):
     say(f"prepared now: {', '.join(ready)}; if the kit is another, or a crate was changed, rt proves it anew")
 
 
-def name_of(folder):
-    """The name of the lab that a folder is of, by the first line of its answer; nothing if that doesn't tell."""
-    try:
-        if has_laws(folder):
-            return laws.read_answer(bodies.text_of(os.path.join(folder, laws.NAME), laws.NAME)).lab.name
-        return bodies.lab_of(bodies.text_of(os.path.join(folder, bodies.ANSWER), bodies.ANSWER)).name
-    except Refused:
-        return ""
-
-
-def has_laws(folder):
-    """Whether a folder has the answer of a lab on laws."""
-    return os.path.lexists(os.path.join(folder, laws.NAME)) and not os.path.lexists(os.path.join(folder, bodies.ANSWER))
-
-
-def read_all(folder):
-    """The answer in a folder, and the row beside it if its lab asks for one."""
-    if has_laws(folder):
-        return laws.read_answer(bodies.text_of(os.path.join(folder, laws.NAME), laws.NAME)), None
-    answer = bodies.read_answer(folder)
-    return answer, rows.read_row(answer.lab, folder) if rows.is_one(answer.lab.name) else None
-
-
-def judged(folder, tell=lambda text: None):
-    """The lab's name of a folder, and the verdict on its body, or on the law and the case that it names."""
-    try:
-        answer, row = read_all(folder)
-    except Refused as refused:
-        return name_of(folder), Verdict(REFUSED, (str(refused),))
-    if missing(answer.lab):
-        raise LabError(missing(answer.lab))
-    if has_laws(folder):
-        return answer.lab.name, laws.judge(answer)
-    if row is not None:
-        return answer.lab.name, rows.judge(answer.lab, answer.body, answer.line, row, tell)
-    return answer.lab.name, verdicts.judge(answer.lab, answer.body, answer.line, tell)
-
-
-def messages_of(name):
-    """What is said of each verdict in the lab of this name; of a folder whose lab isn't known, what is said of most."""
-    if name and laws.is_one(name):
-        return laws.MESSAGES
-    return rows.MESSAGES if name and rows.is_one(name) else verdicts.MESSAGES
-
-
-def check(folder):
+def check(folder, way):
     """Checks one folder, and shows the verdict."""
     need_kit()
     if not os.path.isdir(folder):
         raise LabError(f"there is no folder {folder}: `lab NAME` makes one")
-    name, verdict = judged(folder, say)
-    print(messages_of(name)[verdict.word])
+    name, verdict = grading.judged(folder, missing, way)
+    print(grading.messages_of(name)[verdict.word])
     for line in verdict.lines:
         print(f"    {line}")
     return 0 if verdict.word == PROVED else 1
 
 
-def is_as_shipped(folder):
-    """Whether a folder's body is, word for word, the one that the clone has."""
-    answer = bodies.read_answer(folder)
-    words = [it[1] for it in bodies.tokens(answer.body)]
-    return words == [it[1] for it in bodies.tokens(answer.lab.cut.body)]
-
-
-def graded(folder):
-    """A line of CSV for a folder: its name, lab, verdict and reason."""
-    name, verdict = judged(folder) if os.path.isdir(folder) else ("", Verdict(REFUSED, ("it is no folder",)))
-    reason = verdict.reason()
-    if verdict.word == PROVED and not has_laws(folder) and is_as_shipped(folder):
-        reason = "it is the body of this repository, word for word"
-    shown = os.fsencode(folder).decode(errors="backslashreplace")
-    return [shown, name, verdict.word, reason]
-
-
-def grade(folders, jobs=1):
-    """Writes a line of CSV for each folder, in their order, as soon as it is judged."""
-    need_kit()
-    rows = csv.writer(sys.stdout, lineterminator="\n")
-    rows.writerow(["folder", "lab", "verdict", "reason"])
-    is_proved = True
-    with concurrent.futures.ThreadPoolExecutor(jobs) as pool:
-        for row in pool.map(graded, folders):
-            rows.writerow(row)
-            sys.stdout.flush()
-            is_proved = is_proved and row[2] == PROVED
-    return 0 if is_proved else 1
-
-
 def run(folder, words):
     """Runs programs on the kernel with a folder's body in it."""
     need_kit()
-    if has_laws(folder):
+    if grading.has_laws(folder):
         raise LabError("this lab is on laws: it has no body that could run")
     try:
         answer = bodies.read_answer(folder)
@@ -261,43 +196,74 @@ def run(folder, words):
     os.execv(home / "programs/host/build.sh", ["build.sh", "--unproved", *words])
 
 
+def number(word, most):
+    """A number from 1 on that an option has."""
+    if not word.isdecimal() or not 0 < int(word) <= most:
+        raise LabError(f"`{word}` is no number from 1 to {most}")
+    return int(word)
+
+
+def options_of(words):
+    """The words without the options that stand before the folders, and the options."""
+    kept, found = words[:1], {}
+    rest = list(words[1:])
+    while rest and rest[0].startswith("--") and rest[0] in OPTIONS[kept[0]]:
+        if len(rest) < 2:
+            raise LabError(f"{rest[0]} takes a word after it; lab --help tells which")
+        found[rest[0]] = rest[1]
+        rest = rest[2:]
+    return [*kept, *rest], found
+
+
+def way_of(found, tell):
+    """The way to judge by, as the options have it; `tell` gets the words for who waits."""
+    limits = Limits(number(found.get("--seconds", "1800"), 10**6), number(found.get("--memory", "8192"), 10**7))
+    libraries = pathlib.Path(found["--from"]).resolve() if "--from" in found else None
+    if libraries and not (libraries / "crates").is_dir():
+        raise LabError(f"{libraries} is no clone: it has no crates")
+    return Way(limits, libraries, tell)
+
+
+def do(words, found):
+    """Does what the words ask for; its status."""
+    match words:
+        case []:
+            show_labs()
+        case ["--help" | "-h"]:
+            print(HELP)
+        case ["check", *folder] if len(folder) < 2:
+            return check(*folder or ["."], way_of(found, say))
+        case ["grade", first, *_] if not first.startswith("-"):
+            need_kit()
+            rule = grading.rule_of(found["--points"]) if "--points" in found else None
+            return grading.grade(words[1:], number(found.get("--jobs", "1"), 64), rule, missing, way_of(found, lambda text: None))
+        case ["run", folder, _, *_]:
+            run(folder, words[2:])
+        case ["pack", file, *names] if not file.startswith("-"):
+            pack(file, names or all_labs())
+        case ["unpack", file]:
+            unpack(file)
+        case ["prepare", *names]:
+            prepare(names)
+        case [name, *folder] if name in all_labs() and len(folder) < 2:
+            make_folder(name, *folder)
+        case [name] if not name.startswith("-") and name not in ("grade", "run", "pack", "unpack"):
+            raise LabError(f"there is no lab {name}; `lab` lists them")
+        case _:
+            print(HELP, file=sys.stderr)
+            return 2
+    return 0
+
+
 def main(words):
     """Does what the words ask for; its status."""
     try:
-        match words:
-            case []:
-                show_labs()
-            case ["--help" | "-h"]:
-                print(HELP)
-            case ["check"]:
-                return check(".")
-            case ["check", folder]:
-                return check(folder)
-            case ["grade", "--jobs", number, _, *_] if number.isdecimal() and 0 < int(number) <= 64:
-                return grade(words[3:], int(number))
-            case ["grade", first, *_] if not first.startswith("-"):
-                return grade(words[1:])
-            case ["run", folder, _, *_]:
-                run(folder, words[2:])
-            case ["pack", file, *names] if not file.startswith("-"):
-                pack(file, names or all_labs())
-            case ["unpack", file]:
-                unpack(file)
-            case ["prepare", *names]:
-                prepare(names)
-            case [name, *folder] if name in all_labs() and len(folder) < 2:
-                make_folder(name, *folder)
-            case [name] if not name.startswith("-") and name not in ("grade", "run", "pack", "unpack"):
-                raise LabError(f"there is no lab {name}; `lab` lists them")
-            case _:
-                print(HELP, file=sys.stderr)
-                return 2
+        return do(*(options_of(words) if words and words[0] in OPTIONS else (words, {})))
     except (LabError, OSError) as error:
         say(str(error))
         return 2
     except KeyboardInterrupt:
         return 130
-    return 0
 
 
 if __name__ == "__main__":

@@ -5,11 +5,13 @@ import re
 
 import prover
 from bodies import Refused
+from limits import OverLimit
 from player import WRONG
 from prover import OPEN, PROVED, REFUSED
 from rooms import room_for
 from source import LABS, Lab, LabError
-from verdicts import Verdict
+from verdicts import OVER_THE_LIMIT, Verdict
+from way import Way
 
 NAME = "answer.txt"
 ANSWERS = "proofs/law_fails/Answers.antt"
@@ -149,17 +151,22 @@ def refused_parts(text, file):
     return found
 
 
-def judge(answer):
+def judge(answer, way=Way(), missing=""):
     """The verdict on an answer. The prover has to accept the case: then the law is false with the rule."""
     refusal = refusal_of(answer)
     if refusal:
         return refusal
+    if missing:
+        return Verdict(OPEN, (f"nothing was proved: {missing}",))
     file = answers_of(answer)
     with room_for(answer.lab, "proof") as room:
         place = room.crate / ANSWERS
         place.parent.mkdir(parents=True, exist_ok=True)
         place.write_text(file, encoding="utf-8")
-        status, text = prover.checked(room)
+        try:
+            status, text = prover.checked(room, way)
+        except OverLimit as over:
+            return Verdict(OPEN, (f"{OVER_THE_LIMIT} in the proof: {over}",))
     if status == 0 and "\nlogic=proved " in text:
         return Verdict(PROVED, (f"{answer.law} is false with this rule: process 1 could go on after the event, and sleeps",))
     parts = refused_parts(text, file)

@@ -1,22 +1,30 @@
-"""Plays bodies beside the crate's own, in a build without proofs: over small states, and over random ones."""
+"""Plays bodies in a build without proofs, over small states and over random ones: after each the contract's clauses are looked
+at, which a lab's play.rs has as code."""
 import dataclasses
 import re
-import subprocess
 
+import limits
 from source import LABS
+from way import Way
 
-WRONG, SAME, UNTRIED = "wrong", "same", "untried"
+# What a play comes to: a case in which the contract doesn't hold, none, no play at all, or one that took too much.
+WRONG, SAME, UNTRIED, OVER = "wrong", "same", "untried", "over"
 # How many seconds one body is played; it takes a few, and a loop without an end takes all of them.
 SECONDS = 60
+# What is said of a body that takes more stack, time or memory than a play has. That is no case against the contract.
+TOO_MUCH = re.compile(r"no-answer(?:: (.*))?$")
 
 
 @dataclasses.dataclass(frozen=True)
 class Play:
-    """What a play tells: wrong with the lines of the case, the same in so many cases, or why it couldn't be played."""
+    """What a play tells: wrong with the lines of the case, no such case among so many, over a limit, or why it couldn't be
+    played. Of a body that doesn't compile it has the errors, and the line before its first."""
     verdict: str
     lines: tuple = ()
     cases: int = 0
     text: str = ""
+    errors: tuple = ()
+    start: int = 0
 
 
 def module_of(lab, name):
@@ -28,13 +36,17 @@ def module_of(lab, name):
     return f"\n#[cfg(test)]\nmod {name}_play {{\n" + text.replace("STUDENT", name) + "}\n"
 
 
-def tried(room):
+def tried(room, way):
     """What `rt try --test` prints of the room's crate."""
-    how = {"cwd": room.crate, "stdout": subprocess.PIPE, "stderr": subprocess.STDOUT, "stdin": subprocess.DEVNULL}
-    done = subprocess.run(["rt", "try", "--test", "--seconds", str(SECONDS)], check=False, **how)
-    text = done.stdout.decode(errors="replace")
+    _, text = limits.run(["rt", "try", "--test", "--seconds", SECONDS], room.crate, way.limits)
     (room.home / "said.txt").write_text(text, encoding="utf-8")
     return text
+
+
+def errors_in(text, file):
+    """Lines of a file that are refused, each as file, line and what is said."""
+    found = re.findall(rf"^(?:\./)?({re.escape(file)}):(\d+):\d+: error\S*:? ?(.*)", text, re.M)
+    return tuple((name, int(line), why) for name, line, why in found)
 
 
 def told_of(text, name):
@@ -68,12 +80,22 @@ def play_of(text, name):
     if is_of_play(lines, name):
         return Play(UNTRIED, lines=tuple(lines[-2:]), text=text)
     told = [it for it in lines if re.match(r"(before|call|asked|came|clause): ", it)]
+    too_much = [it[1] for it in map(TOO_MUCH.search, lines) if it]
+    if too_much and not told:
+        begun = [it for it in lines if it.startswith("case: ")]
+        why = next(filter(None, too_much), "it gave no answer")
+        return Play(OVER, lines=(f"{why};", *(it.replace("case: ", "in the case of: ") for it in begun[-1:])), text=text)
     return Play(WRONG, lines=tuple(told or stopped(lines)), text=text)
 
 
-def play(lab, room, bodies):
+def play(lab, room, bodies, way=Way()):
     """Plays bodies, by the names of functions that they get: a Play for each."""
-    text, _ = lab.with_bodies(bodies)
+    text, starts = lab.with_bodies(bodies)
     room.write_code(text + "".join(module_of(lab, name) for name in bodies))
-    said = tried(room)
-    return {name: play_of(said, name) for name in bodies}
+    try:
+        said = tried(room, way)
+    except limits.OverLimit as over:
+        return {name: Play(OVER, lines=(str(over),)) for name in bodies}
+    errors = errors_in(said, lab.file)
+    plays = {name: play_of(said, name) for name in bodies}
+    return {name: dataclasses.replace(it, errors=errors, start=starts[name]) for name, it in plays.items()}

@@ -1,10 +1,12 @@
 """Proves bodies: `rt check` of the lab's crate with them, over the libraries that are kept."""
 import dataclasses
 import re
-import subprocess
 import sys
 
+import limits
+import taken
 from source import TOP, LabError
+from way import Way
 
 sys.path.insert(0, str(TOP / "checks"))
 import said  # noqa: E402
@@ -14,20 +16,23 @@ PROVED, OPEN, REFUSED = "proved", "open", "refused"
 
 @dataclasses.dataclass(frozen=True)
 class Proof:
-    """What the prover says of a body: proved, open with its goals, or refused with the lines that can't be read."""
+    """What the prover says of a body: proved, open with its goals, or refused with the lines that can't be read. `asked` has
+    of goals the line of the file and what is to be shown there."""
     verdict: str
     goals: tuple = ()
     errors: tuple = ()
     text: str = ""
+    asked: dict = dataclasses.field(default_factory=dict)
 
 
-def checked(room, jobs=1):
-    """What `rt check` prints of the room's crate."""
-    how = {"cwd": room.crate, "stdout": subprocess.PIPE, "stderr": subprocess.STDOUT, "stdin": subprocess.DEVNULL}
-    done = subprocess.run(["rt", "check", "--jobs", str(jobs)], check=False, **how)
-    text = done.stdout.decode(errors="replace")
+def checked(room, way, jobs=1):
+    """What a check of the room's crate prints: by `rt check` over this clone's libraries, or over another's."""
+    words = ["rt", "check", "--jobs", jobs]
+    if way.libraries:
+        words = taken.words_of_check(room.lab, room, way.libraries, jobs)
+    status, text = limits.run(words, room.crate, way.limits)
     (room.home / "said.txt").write_text(text, encoding="utf-8")
-    return done.returncode, text
+    return status, text
 
 
 def errors_in_code(text):
@@ -46,20 +51,37 @@ def open_goals(lab, text, name):
     return ()
 
 
+def asked_in(lab, text, name):
+    """Of a function's goals the line of the lab's file, and what is to be shown there, as far as a check tells it."""
+    places = re.findall(rf"^note: {re.escape(lab.file)}:(\d+):\d+: it is not proved .*\(`([^`]+)`\)", text, re.M)
+    of_goal = {goal: int(line) for line, goal in places}
+    file = re.escape("/".join(["proofs", *lab.path[:-1], name, "Answers.antt"]))
+    shown = dict(re.findall(rf"^note: `([^`]+)` of {file} must prove: (.*)", text, re.M))
+    return {goal: (of_goal.get(goal, 0), shown.get(goal, "")) for goal in {*of_goal, *shown}}
+
+
+def unfoldings_in(text):
+    """The `unfolding` lines by which the prover says that a goal's answer is admitted, by the goals' names."""
+    admitted = r"a trial run of this declaration was admitted by the kernel\. That run had the line `(unfolding [^`]+)`"
+    return {goal: line for line, goal in re.findall(admitted + r".*\(in `([^`]+)`\)", text)}
+
+
 def terms_for(lab, goal):
     """The terms that the lab has for an open goal, in the order in which they are tried."""
     return next((row["terms"] for row in lab.said.get("answers", []) if re.search(row["goal"], goal)), [])
 
 
-def write_answers(lab, room, name, tried):
-    """Writes a function's answers: for each goal the term whose turn it is. A goal without one is left to the prover."""
+def write_answers(lab, room, name, tried, unfolded):
+    """Writes a function's answers: for each goal the term whose turn it is, and its `unfolding` line if it has one. A goal
+    without a term is left to the prover."""
     home = room.proofs_of(name)
     module = ".".join(["Rattle", lab.crate, "proofs", *lab.path[:-1], name, "Goals"])
     lines = [*lab.said.get("uses", []), f"use {module} as goal", ""]
     for goal, turn in tried.items():
         terms = terms_for(lab, goal)
         if turn < len(terms):
-            lines += [f"pub {goal} : goal.{goal}", f"{goal} c = {terms[turn]}", ""]
+            opened = [unfolded[goal]] if goal in unfolded else []
+            lines += [f"pub {goal} : goal.{goal}", *opened, f"{goal} c = {terms[turn]}", ""]
     home.mkdir(parents=True, exist_ok=True)
     (home / "Answers.antt").write_text("\n".join(lines), encoding="utf-8")
 
@@ -72,28 +94,45 @@ def next_turn(lab, tried, goals):
     return any(tried.get(goal, 0) < len(terms_for(lab, goal)) for goal in goals if goal)
 
 
-def prove(lab, room, names, jobs=1, is_over=lambda text: False):
+def has_more(lab, goals, tried, unfolded, admitted):
+    """Whether a function's open goals have more to try: first once more what was tried, with the `unfolding` line that the
+    prover names for it, and then the next of the lab's terms."""
+    again = {goal: admitted[goal] for goal in goals if goal in admitted and goal in tried and goal not in unfolded}
+    unfolded.update(again)
+    return bool(goals) and (next_turn(lab, tried, [it for it in goals if it not in again]) or bool(again))
+
+
+def ends_at_once(lab, status, text, names):
+    """The Proof that a check gives to all, if it refuses the code, or proves the crate; else nothing."""
+    broken = re.search(r"^\./proofs/Lab\S*: error: .*", text, re.M)
+    if broken:
+        raise LabError(f"a lemma of the lab {lab.name} doesn't fit these sources: {broken[0][:300]}")
+    errors = errors_in_code(text)
+    if errors:
+        return {name: Proof(REFUSED, errors=tuple(errors), text=text) for name in names}
+    is_proved = status == 0 and "\nlogic=proved " in text
+    return {name: Proof(PROVED, text=text) for name in names} if is_proved else None
+
+
+def prove(lab, room, names, way=Way(), jobs=1, is_over=lambda text: False):
     """Proves the functions of these names, which stand in the room's file: a Proof for each. The first check is without an
     answer. Each further one has, for the goals that were open, the next of the lab's terms; there is none if it is over by
     what a check said."""
-    tried = {name: {} for name in names}
+    tried, unfolded, asked = ({name: {} for name in names} for _ in range(3))
     while True:
-        status, text = checked(room, jobs)
-        broken = re.search(r"^\./proofs/Lab\S*: error: .*", text, re.M)
-        if broken:
-            raise LabError(f"a lemma of the lab {lab.name} doesn't fit these sources: {broken[0][:300]}")
-        errors = errors_in_code(text)
-        if errors:
-            return {name: Proof(REFUSED, errors=tuple(errors), text=text) for name in names}
-        if status == 0 and "\nlogic=proved " in text:
-            return {name: Proof(PROVED, text=text) for name in names}
+        status, text = checked(room, way, jobs)
+        ended = ends_at_once(lab, status, text, names)
+        if ended:
+            return ended
         goals = {name: open_goals(lab, text, name) for name in names}
-        names_left = [] if is_over(text) else names
-        more = [name for name in names_left if goals[name] and next_turn(lab, tried[name], goals[name])]
+        admitted = unfoldings_in(text)
+        for name in names:
+            asked[name].update({goal: it for goal, it in asked_in(lab, text, name).items() if goal not in asked[name]})
+        more = [it for it in names if not is_over(text) and has_more(lab, goals[it], tried[it], unfolded[it], admitted)]
         if not more:
             break
         for name in more:
-            write_answers(lab, room, name, tried[name])
+            write_answers(lab, room, name, tried[name], unfolded[name])
     if not any(goals.values()):
         return {name: Proof(OPEN, goals=("",), text=text) for name in names}
-    return {name: Proof(OPEN, goals=goals[name], text=text) if goals[name] else Proof(PROVED, text=text) for name in names}
+    return {name: Proof(OPEN, goals[name], (), text, asked[name]) if goals[name] else Proof(PROVED, text=text) for name in names}

@@ -4,15 +4,16 @@ import os
 import re
 
 import bodies
-import player
 import prover
 import verdicts
 from bodies import Refused
+from limits import OverLimit
 from player import WRONG
 from prover import OPEN, PROVED, REFUSED
 from rooms import room_for
 from source import Lab
 from verdicts import Verdict
+from way import Way
 
 NAME = "row.antt"
 BEGIN = "    -- ==== your row begins here ===="
@@ -83,17 +84,19 @@ def words_of_refusals(lab, text):
     return [f"a case: {it}" for it in dict.fromkeys(cases) if it], [f"law {it}" for it in dict.fromkeys(laws)]
 
 
-def judge(lab, body, line, row, say=lambda text: None):
-    """The verdict on a row and a body: first the row's worked cases and laws, then the body."""
-    say("proving")
+def proved_row(lab, body, row, way):
+    """What the prover says of a row with a body, and the line before the body's first in what was checked."""
     with room_for(lab, "proof") as room:
         (room.crate / lab.said["row"]).write_text(text_with(lab, row), encoding="utf-8")
         text, start = lab.with_body(body)
         room.write_code(text)
         room.drop_proof()
-        proof = prover.prove(lab, room, [lab.function], is_over=lambda told: any(words_of_refusals(lab, told)))[lab.function]
-    if proof.verdict == PROVED:
-        return Verdict(PROVED)
+        is_over = lambda told: any(words_of_refusals(lab, told))
+        return prover.prove(lab, room, [lab.function], way, is_over=is_over)[lab.function], start
+
+
+def refusal_of(lab, row, proof):
+    """The verdict by what a check refuses of the row; nothing if it refuses nothing of it."""
     spoilt = re.findall(rf"^(?:\./)?{re.escape(lab.said['row'])}:(\d+):\d+: error\S* (.*)", proof.text, re.M)
     if spoilt:
         above = text_with(lab, row).split("\n").index(BEGIN) + 1
@@ -101,14 +104,32 @@ def judge(lab, body, line, row, say=lambda text: None):
     cases, laws = words_of_refusals(lab, proof.text)
     if cases:
         return Verdict(WRONG, (*cases, *laws))
-    if laws:
-        return Verdict(OPEN, tuple(laws))
-    if proof.verdict != OPEN:
-        return verdicts.verdict_of(lab, proof, None, (start, line))
-    say("the row meets its laws, and there is no proof of the body; playing it")
-    with room_for(lab, "play") as room:
-        play = player.play(lab, room, {"lab_student": body})["lab_student"]
-    return verdicts.verdict_of(lab, proof, play, (start, line))
+    return Verdict(OPEN, tuple(laws)) if laws else None
+
+
+def judge(lab, body, line, row, way=Way(), missing=""):
+    """The verdict on a row and a body: first the body is played, then the row's worked cases and laws are looked at, then the
+    body is proved. What the body answers is asked by the laws, whatever the row says."""
+    way.say("playing the body, in a build without proofs")
+    play = verdicts.played_body(lab, body, way)
+    refusal = verdicts.refusal_by_play(lab, body, play, line)
+    if refusal or play.verdict == WRONG:
+        return refusal or verdicts.verdict_of(lab, prover.Proof(OPEN), play)
+    if missing:
+        return verdicts.by_play_alone(play, f"{missing}. The row wasn't looked at")
+    way.say(f"the play's verdict on the body, before any proof: {verdicts.told_of_play(play)}")
+    way.say("proving")
+    try:
+        return by_proof(lab, body, line, row, play, way)
+    except OverLimit as over:
+        return Verdict(OPEN, (f"{verdicts.OVER_THE_LIMIT} in the proof: {over}", verdicts.told_of_play(play)))
+
+
+def by_proof(lab, body, line, row, play, way):
+    """The verdict on a row and a body that was played, or not, after their proof."""
+    proof, start = proved_row(lab, body, row, way)
+    refusal = None if proof.verdict == PROVED else refusal_of(lab, row, proof)
+    return refusal or verdicts.verdict_of(lab, proof, play, (start, line))
 
 
 def variants(lab, kind):

@@ -1,19 +1,27 @@
 """Plays and proves all stored bodies of labs: the right ones are to be proved, and the wrong ones told by a case. See
 checks/labs.sh."""
+import pathlib
 import sys
 import time
 
 import laws
+import notation
 import player
 import prover
+import rooms
 import rows
+import table
 import try_refusals
+from limits import OverLimit
 from player import SAME, UNTRIED, WRONG
 from prover import PROVED
-from rooms import missing_below, room_for
+from rooms import room_for
 from source import Lab, LabError, all_labs
+from way import Way
 
-LEAST_WRONG, LEAST_RIGHT = 6, 5
+# How many stored bodies of each kind a lab has to have, and all kinds.
+LEAST = {"right": 5, "wrong": 6, "unlike": 3}
+KINDS = ["right", "open", "unlike", "wrong"]
 
 
 def names_of(kind, found):
@@ -21,48 +29,64 @@ def names_of(kind, found):
     return {f"lab_{kind}_{name}": body for name, body in found.items()}
 
 
-def played(lab, right, wrong):
-    """What is amiss when all bodies are played, in one build: also those that are right and stay open."""
-    still_open = names_of("open", lab.variants("open"))
+def bodies_of(lab):
+    """All stored bodies of a lab, by their kinds."""
+    return {kind: names_of(kind, lab.variants(kind)) for kind in KINDS}
+
+
+def place_of(name):
+    """The folder and name of a stored body, of the function's name that it has: lab_right_one_chain is right/one_chain."""
+    kind, _, body = name.removeprefix("lab_").partition("_")
+    return f"{kind}/{body}"
+
+
+def played(lab, stored, found):
+    """What is amiss when all bodies are played, in one build."""
     with room_for(lab, "play") as room:
-        plays = player.play(lab, room, {**right, **still_open, **wrong})
+        plays = player.play(lab, room, {name: body for it in stored.values() for name, body in it.items()})
     if all(it.verdict == UNTRIED for it in plays.values()):
         yield "it can't be played: " + " | ".join(next(iter(plays.values())).lines)
         return
     for name, it in plays.items():
-        wanted = WRONG if name in wrong else SAME
+        found[lab.name, place_of(name)] = [f"holds {it.cases}" if it.verdict == SAME else "fails", ""]
+        wanted = WRONG if name in stored["wrong"] else SAME
         if it.verdict != wanted:
             yield f"{name} is played as {it.verdict}: {' | '.join(it.lines)}"
-        elif "-v" in sys.argv and it.verdict == WRONG:
-            print(f"    {name}: {' | '.join(it.lines)}")
+        elif "-v" in sys.argv:
+            print(f"    {name}: {it.verdict} {it.cases or ''} {' | '.join(it.lines)}")
 
 
-def proved(lab, right, wrong):
-    """What is amiss when all bodies are proved, in one check."""
-    bodies = {**right, **wrong}
+def proved(lab, stored, found, words, way):
+    """What is amiss when bodies are proved, in one check: the right ones, and those that the words name too."""
+    kinds = ["right", *[kind for kind in KINDS if f"--{kind}-too" in words]]
+    bodies = {name: body for kind in kinds for name, body in stored[kind].items()}
     with room_for(lab, "proof") as room:
         text, _ = lab.with_bodies(bodies)
         room.write_code(text)
-        proofs = prover.prove(lab, room, list(bodies))
+        proofs = prover.prove(lab, room, list(bodies), way)
     for name, it in proofs.items():
-        if (it.verdict == PROVED) != (name in right):
+        found[lab.name, place_of(name)] = ["", it.verdict]
+        is_free = name in stored["unlike"] or name in stored["open"]
+        if not is_free and (it.verdict == PROVED) != (name in stored["right"]):
             yield f"{name} is {it.verdict}: {', '.join(map(str, it.goals or it.errors))}"
+        elif "-v" in sys.argv:
+            print(f"    {name}: {it.verdict} {', '.join(map(str, it.goals or it.errors))}")
 
 
-def try_laws(lab):
+def try_laws(lab, way):
     """Tries a lab on laws; whether all is as it is to be."""
     start, amiss, counts = time.time(), [], []
     for kind, wanted in (("right", PROVED), ("wrong", WRONG)):
         answers = laws.variants(lab, kind)
         counts.append(len(answers))
         for name, answer in answers.items():
-            verdict = laws.judge(answer)
+            verdict = laws.judge(answer, way)
             if verdict.word != wanted:
                 amiss.append(f"{name} is {verdict.word}: {verdict.reason()}")
             elif "-v" in sys.argv:
                 print(f"    {name}: {verdict.word} {verdict.reason()}")
-    if counts[0] < LEAST_RIGHT or counts[1] < LEAST_WRONG:
-        amiss.append(f"there are {counts[0]} right and {counts[1]} wrong answers, and {LEAST_RIGHT} and {LEAST_WRONG} are wanted")
+    if counts[0] < LEAST["right"] or counts[1] < LEAST["wrong"]:
+        amiss.append(f"there are {counts[0]} right and {counts[1]} wrong answers, and {LEAST['right']} and {LEAST['wrong']} are wanted")
     print(f"{lab.name}: {counts[0]} right, {counts[1]} wrong; proved in {time.time() - start:.0f} s"
           f"{'' if amiss else ', and all is as it is to be'}", flush=True)
     for it in amiss:
@@ -70,36 +94,52 @@ def try_laws(lab):
     return not amiss
 
 
-def tried_rows(lab):
+def tried_rows(lab, way):
     """What is amiss when all stored rows of a lab are judged, each with the body of the lab's own crate."""
     for kind, wanted in (("right", PROVED), ("wrong", WRONG)):
         for name, row in rows.variants(lab, kind).items():
-            verdict = rows.judge(lab, lab.cut.body, 0, row)
+            verdict = rows.by_proof(lab, lab.cut.body, 0, row, None, way)
             if verdict.word != wanted:
                 yield f"the row {name} is {verdict.word}: {verdict.reason()}"
             elif "-v" in sys.argv:
                 print(f"    the row {name}: {verdict.word} {verdict.reason()}")
 
 
-def try_lab(name, words):
+def try_bodies(lab, words, way):
+    """What is amiss with the stored bodies of a lab."""
+    stored, found = bodies_of(lab), {}
+    for kind, least in LEAST.items():
+        if len(stored[kind]) < least:
+            yield f"{least} bodies in {kind} are wanted, and there are {len(stored[kind])}"
+    if "--prove" not in words:
+        yield from played(lab, stored, found)
+        yield from told(found, words)
+    if "--play" not in words:
+        if rooms.missing_below(lab) and not way.libraries:
+            raise LabError(f"{lab.name}: {', '.join(rooms.missing_below(lab))} aren't built: ./lab prepare {lab.name}")
+        found = {}
+        yield from proved(lab, stored, found, words, way)
+        yield from told(found, words)
+        yield from tried_rows(lab, way) if rows.is_one(lab.name) else []
+
+
+def told(found, words):
+    """Writes what was found into the table, or tells what differs from it."""
+    if "--write" in words:
+        table.write(found)
+        return []
+    return table.amiss(found)
+
+
+def try_lab(name, words, way):
     """Tries a lab; whether all is as it is to be."""
     lab = Lab(name)
     if laws.is_one(name):
-        return try_laws(lab)
-    right, wrong = names_of("right", lab.variants("right")), names_of("wrong", lab.variants("wrong"))
-    amiss = []
-    if len(right) < LEAST_RIGHT or len(wrong) < LEAST_WRONG:
-        amiss.append(f"there are {len(right)} right and {len(wrong)} wrong bodies, and {LEAST_RIGHT} and {LEAST_WRONG} are wanted")
-    missing = missing_below(lab)
-    if missing and "--play" not in words:
-        raise LabError(f"{name}: {', '.join(missing)} aren't built: ./lab prepare {name}")
+        return try_laws(lab, way) if "--play" not in words else True
     start = time.time()
-    amiss += [] if "--prove" in words else played(lab, right, wrong)
-    middle = time.time()
-    amiss += [] if "--play" in words else proved(lab, right, wrong if "--wrong-too" in words else {})
-    amiss += tried_rows(lab) if rows.is_one(name) and "--play" not in words else []
-    print(f"{name}: {len(right)} right, {len(wrong)} wrong; played in {middle - start:.0f} s, proved in {time.time() - middle:.0f} s"
-          f"{'' if amiss else ', and all is as it is to be'}", flush=True)
+    amiss = list(try_bodies(lab, words, way))
+    counts = ", ".join(f"{len(lab.variants(kind))} {kind}" for kind in KINDS)
+    print(f"{name}: {counts}; {time.time() - start:.0f} s{'' if amiss else ', and all is as it is to be'}", flush=True)
     for it in amiss:
         print(f"    {it[:600]}", flush=True)
     return not amiss
@@ -109,10 +149,17 @@ def main(words):
     """Tries the labs that are named, or all."""
     if "--refusals" in words:
         return try_refusals.main()
+    if "--notation" in words:
+        return notation.main()
+    way = Way()
+    if "--from" in words:
+        at = words.index("--from")
+        way = Way(libraries=pathlib.Path(words[at + 1]).resolve())
+        words = words[:at] + words[at + 2 :]
     names = [it for it in words if not it.startswith("-")] or all_labs()
     try:
-        well = [try_lab(name, words) for name in names]
-    except LabError as error:
+        well = [try_lab(name, words, way) for name in names]
+    except (LabError, OverLimit) as error:
         print(f"labs.sh: {error}", file=sys.stderr)
         return 2
     return 0 if all(well) else 1

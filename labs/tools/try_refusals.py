@@ -1,14 +1,21 @@
 """Hands in what is no body, in many ways, and sees that each is refused for its own reason; and that plain bodies aren't.
 It proves and plays nothing, and needs no kit: checks/labs.sh --refusals."""
+import contextlib
+import csv
+import io
+import itertools
 import os
 import pathlib
 import sys
 import tempfile
 
 import bodies
+import grading
 import laws
+import player
 import rows
-from source import BEGIN, END, Lab
+from source import BEGIN, END, Lab, LabError
+from way import Way
 
 NAME = "fileclose"
 GOOD = Lab(NAME).variants("right")["as_shipped"]
@@ -102,6 +109,7 @@ def files():
     yield "no first line", text(good.split("\n", 1)[1]), "doesn't begin"
     yield "another lab", text(good.replace(f"Lab {NAME}", "Lab fdalloc")), "above the body"
     yield "no such lab", text(good.replace(f"Lab {NAME}", "Lab nothing")), "there is no lab"
+    yield "a lab that has no body", text(good.replace(f"Lab {NAME}", "Lab lostwakeup")), "another file"
     yield "a lab of another folder", text(good.replace(f"Lab {NAME}", "Lab ../x")), "doesn't begin"
     yield "no line of signs", text(good.replace(END, "")), "signs"
     yield "two lines of signs", text(good.replace(END, END + "\n" + END)), "signs"
@@ -150,6 +158,25 @@ ROWS = [
 ]
 
 
+# What `rt try --test` says of a body, and what the play comes to by that.
+PLAYS = [
+    ("ok", "case: one\nplayed: 7", player.SAME),
+    ("FAILED", "case: one\nbefore: one\nasked: 1\ncame: 2\nsrc/x.rt:1:1: the test was killed by signal 6 (SIGABRT)", player.WRONG),
+    ("FAILED", "case: one\nfault kind=bounds in=x::lab_student: the index is 9, called from y", player.WRONG),
+    ("FAILED", "case: one\nfault kind=bounds in=x::lab_student_play::plays: the index is 9", player.UNTRIED),
+    ("FAILED", "case: one\nchecked: no-answer: the program ran out of stack\nrun=no-answer", player.OVER),
+    ("FAILED", "case: one\nchecked: no-answer: the program did not end within the time limit\nrun=no-answer", player.OVER),
+]
+
+
+def plays():
+    """What such a play comes to, beside what it has to."""
+    for status, lines, wanted in PLAYS:
+        said = "\n".join([f"test x::lab_student_play::plays ... {status}", *(f"    {it}" for it in lines.split("\n")), ""])
+        came = player.play_of(said, "lab_student").verdict
+        yield f"play {lines!r}", "" if came == wanted else wanted, "" if came == wanted else came
+
+
 def reason_of(test, text):
     """Why a text is refused; nothing if it isn't."""
     try:
@@ -167,16 +194,55 @@ def meanings():
         yield f"row {text!r}", word, reason_of(lambda it: rows.test_row(it.split("\n")), text)
 
 
+def bad_folders(home):
+    """Folders that a class may hand in, each of which has to get a row: its path, its verdict and a word of the reason."""
+    good = with_body(GOOD)
+
+    def made(name, data=None):
+        (home / name).mkdir()
+        if data is not None:
+            (home / name / "answer.rs").write_bytes(data if isinstance(data, bytes) else data.encode())
+        return home / name
+
+    yield home / "nowhere", "refused", "no folder"
+    yield made("empty"), "refused", "can't be read"
+    yield made("binary", bytes(range(256))), "refused", "UTF-8"
+    yield made("another", good.replace(f"Lab {NAME}", "Lab fdalloc")), "refused", "above the body"
+    yield made("law", good.replace(f"Lab {NAME}", "Lab lostwakeup")), "refused", "another file"
+    yield made("broken", good), grading.NOT_GRADED, "isn't prepared"
+    linked = made("linked")
+    (linked / "answer.rs").symlink_to("/etc/passwd")
+    yield linked, "refused", "can't be read"
+    unread = made("row", Lab("getppid").sheet("    0"))
+    (unread / "row.antt").mkdir()
+    yield unread, "refused", "is no file"
+
+
+def a_class():
+    """Grades such folders at once: each with what its row has to say, and what it says."""
+    def not_ready(lab, way):
+        raise LabError(f"{lab.name} isn't prepared")
+
+    with tempfile.TemporaryDirectory() as room, contextlib.redirect_stdout(io.StringIO()) as told:
+        wanted = list(bad_folders(pathlib.Path(room)))
+        grading.grade([str(it[0]) for it in wanted], 2, grading.rule_of("proved=3,open=1"), not_ready, Way())
+    table = list(csv.reader(told.getvalue().splitlines()))[1:]
+    for (folder, word, why), row in itertools.zip_longest(wanted, table, fillvalue=("", "", "", "no row", "")):
+        points = ["", ""] if word == grading.NOT_GRADED else ["0", "3"]
+        is_so = row[:4] == [folder.name, *points, word] and why in row[4]
+        yield f"class: {folder.name}", "" if is_so else f"{word}: {why}", "" if is_so else ",".join(row)
+
+
 def main():
     """Hands in all of it."""
     cases = [(f"body {body!r}", lambda home, b=body: (home / "answer.rs").write_text(with_body(b), encoding="utf-8"), word) for body, word in BODIES]
     amiss = 0
-    told = [*((name, word, reason_for(make)) for name, make, word in [*cases, *files()]), *meanings()]
+    told = [*((name, word, reason_for(make)) for name, make, word in [*cases, *files()]), *meanings(), *plays(), *a_class()]
     for name, word, said in told:
         if bool(said) != bool(word) or word not in said:
             amiss += 1
             print(f"{name}: wanted {word or 'no refusal'!r}, and it is {said or 'not refused'!r}")
-    print(f"{len(told)} answers handed in, {amiss} not judged as they are to be")
+    print(f"{len(told)} answers and outcomes, {amiss} not judged as they are to be")
     return 1 if amiss else 0
 
 

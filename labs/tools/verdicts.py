@@ -1,14 +1,20 @@
 """The verdict on a body: proved, wrong, open or refused, each with its reason in words."""
 import dataclasses
+import re
 
 import player
 import prover
-from player import SAME, WRONG
+from limits import OverLimit
+from player import OVER, SAME, WRONG
 from prover import OPEN, PROVED, REFUSED
 from rooms import room_for
+from way import Way
+
+# How the reason of a verdict begins that a limit decided.
+OVER_THE_LIMIT = "over the limit"
 
 MESSAGES = {
-    PROVED: "proved: the contract holds of this body, for every program and every event",
+    PROVED: "proved: the contract holds of this body, for every program and every event, if the host has stack and time for it",
     WRONG: "wrong: here is a case in which the contract doesn't hold",
     OPEN: "open: no case was found in which it is wrong, and it isn't proved",
     REFUSED: "refused: nothing was played or proved",
@@ -54,16 +60,29 @@ def in_words(lab, goal):
     return "that the body is safe and ends"
 
 
-def open_lines(lab, proof, play):
+def in_names(text):
+    """What is to be shown, in the names that the student gave: the prover names each by the step that it comes of."""
+    text = re.sub(r"\b(?:Rattle|mathlib|lib)(?:\.\w+)*\.(?=[\w◌])", "", text)
+    text = re.sub(r"\bc\.args\.", "", text)
+    text = re.sub(r"\bc\.from_residual[\w-]*\.result\b", "result", text)
+    text = re.sub(r"\bc\.(?:in_|loop-)[\w-]+\.([\w-]+)", r"\1", text)
+    return re.sub(r"\bc\.([\w-]+)\.result\b", r"(the answer of \1)", text)
+
+
+def goal_told(lab, proof, goal, first):
+    """An open goal: the line of the answer, what it asks in words, and what is to be shown there."""
+    line, text = proof.asked.get(goal, (0, ""))
+    place = f"answer.rs:{line - first[0] + first[1]}: " if first and line > first[0] else ""
+    shown = f". To be shown: {in_names(text)[:400]}" if text else ""
+    return f"{place}{in_words(lab, goal)}  [{goal}]{shown}"
+
+
+def open_lines(lab, proof, play, first):
     """What is open, clause by clause, and what was played."""
     goals = [it for it in proof.goals if it]
-    lines = [f"{in_words(lab, it)}  [{it}]" for it in dict.fromkeys(goals)]
+    lines = [goal_told(lab, proof, it, first) for it in dict.fromkeys(goals)]
     lines = lines or ["the prover has no proof of this form of code: " + last_words(proof.text, lab)]
-    if play and play.verdict == SAME:
-        lines.append(f"played: {play.cases} cases, and the body did in each what the crate's own does")
-    elif play:
-        lines.append("played: nothing, since the build without proofs didn't come about: " + " ".join(play.lines)[-300:])
-    return lines
+    return [*lines, told_of_play(play)] if play else lines
 
 
 def last_words(text, lab):
@@ -77,11 +96,13 @@ def verdict_of(lab, proof, play, first=None):
     checked and in the answer."""
     if proof.verdict == REFUSED:
         return Verdict(REFUSED, tuple(placed(lab, it, first) for it in proof.errors[:5]))
+    if proof.verdict == PROVED and play and play.verdict == OVER:
+        return Verdict(OPEN, (told_of_play(play), "the contract is proved of it, which says nothing of stack, memory or time"))
     if proof.verdict == PROVED:
-        return Verdict(PROVED)
+        return Verdict(PROVED, (told_of_play(play),) if play else ())
     if play and play.verdict == WRONG:
         return Verdict(WRONG, tuple(clause_told(lab, it) for it in play.lines))
-    return Verdict(OPEN, tuple(open_lines(lab, proof, play)))
+    return Verdict(OPEN, tuple(open_lines(lab, proof, play, first)))
 
 
 def clause_told(lab, line):
@@ -101,35 +122,61 @@ def placed(lab, error, first):
     return f"{file}:{line}: {why}"
 
 
-def proved_body(lab, body, jobs):
+def proved_body(lab, body, way):
     """What the prover says of one body, and the line before its first in what was checked."""
     with room_for(lab, "proof") as room:
         text, start = lab.with_body(body)
         room.write_code(text)
         room.drop_proof()
-        return prover.prove(lab, room, [lab.function], jobs)[lab.function], start
+        return prover.prove(lab, room, [lab.function], way)[lab.function], start
 
 
-def played_body(lab, body):
+def played_body(lab, body, way):
     """What a play of one body tells."""
     with room_for(lab, "play") as room:
-        return player.play(lab, room, {"lab_student": body})["lab_student"]
+        return player.play(lab, room, {"lab_student": body}, way)["lab_student"]
 
 
-def judge(lab, body, line, say=lambda text: None):
-    """The verdict on one body. It is proved first, which takes less time than a play; a body that is proved has no case in
-    which it is wrong, and isn't played. A lab whose proofs take minutes plays first: a body that is wrong isn't proved then."""
-    play = None
-    if lab.said.get("plays_first"):
-        say("playing it beside the crate's own body, in a build without proofs")
-        play = played_body(lab, body)
-        if play.verdict == WRONG:
-            return verdict_of(lab, prover.Proof(OPEN), play)
-    say("proving")
-    proof, start = proved_body(lab, body, 1)
-    if proof.verdict != OPEN:
-        return verdict_of(lab, proof, None, (start, line))
-    if not play:
-        say("there is no proof; playing it beside the crate's own body, in a build without proofs")
-        play = played_body(lab, body)
+def told_of_play(play):
+    """What a play that found no case against a body comes to, in a line."""
+    if play.verdict == SAME:
+        return f"played: {play.cases} cases, and the contract holds in each"
+    if play.verdict == OVER:
+        return f"{OVER_THE_LIMIT} in the play: {' '.join(play.lines)}"
+    return "played: nothing, since the build without proofs didn't come about: " + " ".join(play.lines)[-300:]
+
+
+def refusal_by_play(lab, body, play, line):
+    """The refusal of a body that doesn't compile in the build without proofs; nothing if it does."""
+    last = play.start + body.count("\n") + 1
+    inside = [it for it in play.errors if play.start < it[1] <= last]
+    return Verdict(REFUSED, tuple(placed(lab, it, (play.start, line)) for it in inside[:5])) if inside else None
+
+
+def by_play_alone(play, missing):
+    """The verdict on a body that was played, and can't be proved before more is prepared."""
+    return Verdict(OPEN, (f"this is the play's verdict alone. {told_of_play(play)}", f"no proof was tried: {missing}"))
+
+
+def judge(lab, body, line, way=Way(), missing=""):
+    """The verdict on one body. It is played first, which needs no proof of anything; a body with a case against it isn't
+    proved then. `missing` says what has to be there before a proof, if it isn't: then the play alone decides."""
+    way.say("playing it, in a build without proofs")
+    play = played_body(lab, body, way)
+    refusal = refusal_by_play(lab, body, play, line)
+    if refusal or play.verdict == WRONG:
+        return refusal or verdict_of(lab, prover.Proof(OPEN), play)
+    if missing:
+        return by_play_alone(play, missing)
+    way.say(f"the play's verdict, before any proof: {told_of_play(play)}")
+    way.say("proving")
+    return with_proof(lab, body, line, play, way)
+
+
+def with_proof(lab, body, line, play, way):
+    """The verdict on a body that was played, after its proof."""
+    try:
+        proof, start = proved_body(lab, body, way)
+    except OverLimit as over:
+        return Verdict(OPEN, (f"{OVER_THE_LIMIT} in the proof: {over}", told_of_play(play)))
     return verdict_of(lab, proof, play, (start, line))

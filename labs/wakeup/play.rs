@@ -65,13 +65,14 @@
 
     fn play_one(rt: &HostRuntime, number: usize, marked: bool, in_call: bool, has_ended: bool, on: &Channel, on_number: usize) -> bool {
         let mut mine = process(number, marked, in_call, has_ended);
-        let mut its = process(number, marked, in_call, has_ended);
+        // The contract: a live process that sleeps on just this channel sleeps on nothing then, and all else stays.
+        let after = if !has_ended && number == on_number { 0 } else { number };
+        let its = process(after, marked, in_call, has_ended);
         let sleeps = name(number);
         let by = name(on_number);
         let lives = if has_ended { "it has ended" } else { "it lives" };
         let _ = println!(*rt; "case: a process ({lives}, marked: {marked}, in a call: {in_call}) sleeps on {sleeps}; who sleeps on {by} is woken");
         mine.STUDENT(on);
-        its.wake(on);
         let is_awake = mine.is_runnable();
         let wanted = its.is_runnable();
         let differs = difference(&mine, &its);

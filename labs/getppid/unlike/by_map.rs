@@ -1,0 +1,1 @@
+    table.parent(slot).map_or(0, |parent| i64::from(parent.number()))
