@@ -1,21 +1,27 @@
 -- How many Runs a round has left, and who goes on after an instruction.
 use Rattle.std.proofs.Common.{◌≡◌, ◌≢◌, ◌∙◌, ◌+◌, ◌-◌, ◌<◌, ◌≤◌, ℕ, ℤ, zero, suc, Bool, true, false, List, [], ◌∷◌, ◌++◌, length, drop, take, replicate, Option, None, Some, inl}
 use Rattle.std.proofs.Common.{refl, sym, ap, subst, arith, Result, Ok, Err, IfOk}
-use Rattle.std.specs.Prelude.{IsSome}
+use Rattle.std.specs.FinMap.{get}
+use Rattle.std.specs.FinSet.{contains}
+use Rattle.std.specs.Prelude.{IsSome, if◌then◌else◌}
 use Rattle.std.proofs.lemmas.List.{drop-drop, drop_all, take-append-drop}
 use Rattle.kernel_spec.specs.runs.Run as runs
 use Rattle.kernel_spec.specs.runs.Run.{Event, Run, Tick, Outcome, RunHappens, Step_of, World, stays_current}
 use Rattle.kernel_spec.specs.steps.Own.{Answer, Stepped}
 use Rattle.kernel_spec.specs.steps.Step.{own}
+use Rattle.kernel_spec.specs.views.Processes.{Live}
+use Rattle.kernel_spec.specs.views.State.{live}
+use Rattle.kernel_spec.proofs.Common.{alive_part}
+use Rattle.xv_report.specs.Waits.{wait_in}
 use Rattle.xv_session.specs.Answers.{Sent}
 use Rattle.xv_session.specs.Recorded.{Recorded}
 use Rattle.xv_session.specs.Steps.{Advances}
 use Rattle.xv_session.specs.Until.{is_done}
 use Rattle.xv_session.specs.declared.running.Running.{Running}
 use Rattle.xv_debug.specs.motion.Backwards.{is_run}
-use Rattle.xv_debug.specs.motion.Clock.{IsNext, left_after, left_by, runs_left}
+use Rattle.xv_debug.specs.motion.Clock.{IsNext, is_tick, left_after, left_by, runs_among, runs_left}
 use Rattle.xv_debug.specs.motion.Effects.{Adds, AddsRuns}
-use Rattle.xv_debug.specs.motion.Resting.{SomebodyMayGoOn}
+use Rattle.xv_debug.specs.motion.Resting.{AwaitsTick, SomebodyMayGoOn, is_clock}
 use Rattle.xv_debug.proofs.Quiet.{done-is}
 
 -- ---- some events after others
@@ -29,8 +35,8 @@ pub left-added : (q : ℕ) (list : List Event) (a b : Recorded) → Adds list a 
 left-added q list a b adds = ap (λ (s : Recorded). runs_left q s.events) adds ∙ left-join q q a.events list
 
 -- one
-pub left_sent : (q left now : ℕ) (e : Event) (o : Outcome) (a b : Recorded) → left ≡ runs_left q a.events → now ≡ left_by q left e → Sent a e o b → now ≡ runs_left q b.events
-left_sent q left now e o a b is next (one, same) = next ∙ ap (λ (n : ℕ). left_by q n e) is ∙ sym (left-added q (e ∷ []) a b same)
+pub left_sent : (q left now : ℕ) (e : Event) (o : Outcome) (a b : Recorded) → Sent a e o b → left ≡ runs_left q a.events → now ≡ left_by q left e → now ≡ runs_left q b.events
+left_sent q left now e o a b (one, same) is next = next ∙ ap (λ (n : ℕ). left_by q n e) is ∙ sym (left-added q (e ∷ []) a b same)
 
 -- Runs
 pub runs-taken : (q left n : ℕ) → left_after q left (replicate n Run) ≡ left - n
@@ -40,8 +46,8 @@ runs-taken q left (suc n) =
     let less : (left - 1) - n ≡ left - suc n = omega arith in
     rest ∙ less
 
-pub left_ran : (q left n now : ℕ) (a b : Recorded) → left ≡ runs_left q a.events → now ≡ left - n → AddsRuns n a b → now ≡ runs_left q b.events
-left_ran q left n now a b is next adds =
+pub left_ran : (q left n now : ℕ) (a b : Recorded) → AddsRuns n a b → left ≡ runs_left q a.events → now ≡ left - n → now ≡ runs_left q b.events
+left_ran q left n now a b adds is next =
     next ∙ ap (λ (k : ℕ). k - n) is ∙ sym (left-added q (replicate n Run) a b adds ∙ runs-taken q (runs_left q a.events) n)
 
 -- ---- counted from the end
@@ -52,8 +58,8 @@ pub record IsCounted (q left place : ℕ) (list : List Event) : Type 0 where
   pub left_is : left ≡ q - taken
   pub behind : (n : ℕ) → left_after q n (drop place list) ≡ n - taken
 
-pub counted-none : (q place : ℕ) (list : List Event) → place ≡ length list → IsCounted q q place list
-counted-none q place list is = record {
+pub counted_none : (q place : ℕ) (list : List Event) → place ≡ length list → IsCounted q q place list
+counted_none q place list is = record {
   taken = 0;
   left_is = omega arith;
   behind = λ n.
@@ -73,23 +79,22 @@ module _ (place count : ℕ) (e : Event) (list : List Event) (within : count ≤
   left-parts : (q n : ℕ) → left_after q n (drop (place - count) list) ≡ left_after q (left_after q n (replicate count e)) (drop place list)
   left-parts q n = ap (left_after q n) parts ∙ left-join q n (replicate count e) (drop place list)
 
-pub counted-runs : (q left now place before count : ℕ) (e : Event) (list : List Event) → e ≡ Run → count ≤ place → before ≡ place - count → take count (drop (place - count) list) ≡ replicate count e → now ≡ left - count
-    → IsCounted q left place list → IsCounted q now before list
-counted-runs q left now place before count e list run within at those less c =
-    let runs : take count (drop (place - count) list) ≡ replicate count Run = those ∙ ap (replicate count) run in record {
-      taken = c.taken + count;
-      left_is = omega (arith, less, c.left_is);
-      behind = λ n.
-          let less_still : (n - count) - c.taken ≡ n - (c.taken + count) = omega arith in
-          ap (λ (k : ℕ). left_after q n (drop k list)) at ∙ left-parts place count Run list within runs q n ∙ ap (λ (k : ℕ). left_after q k (drop place list)) (runs-taken q n count)
-          ∙ c.behind (n - count) ∙ less_still;
-    }
+counted-runs : (q left now place before count : ℕ) (list : List Event) → count ≤ place → before ≡ place - count → take count (drop (place - count) list) ≡ replicate count Run
+    → now ≡ left - count → IsCounted q left place list → IsCounted q now before list
+counted-runs q left now place before count list within at all less c = record {
+  taken = c.taken + count;
+  left_is = omega (arith, less, c.left_is);
+  behind = λ n.
+      let less_still : (n - count) - c.taken ≡ n - (c.taken + count) = omega arith in
+      ap (λ (k : ℕ). left_after q n (drop k list)) at ∙ left-parts place count Run list within all q n ∙ ap (λ (k : ℕ). left_after q k (drop place list)) (runs-taken q n count)
+      ∙ c.behind (n - count) ∙ less_still;
+}
 
 still : (q n : ℕ) (e : Event) (count : ℕ) → ((k : ℕ) → left_by q k e ≡ k) → left_after q n (replicate count e) ≡ n
 still q n e zero stays = refl
 still q n e (suc count) stays = ap (λ (k : ℕ). left_after q k (replicate count e)) (stays n) ∙ still q n e count stays
 
-pub counted-still : (q left place before count : ℕ) (e : Event) (list : List Event) → ((k : ℕ) → left_by q k e ≡ k) → count ≤ place → before ≡ place - count
+counted-still : (q left place before count : ℕ) (e : Event) (list : List Event) → ((k : ℕ) → left_by q k e ≡ k) → count ≤ place → before ≡ place - count
     → take count (drop (place - count) list) ≡ replicate count e → IsCounted q left place list → IsCounted q left before list
 counted-still q left place before count e list stays within at those c = record {
   taken = c.taken;
@@ -99,23 +104,43 @@ counted-still q left place before count e list stays within at those c = record 
       ∙ c.behind n;
 }
 
+-- equal events that are no Ticks
+pub counted_more : (q left now place before count : ℕ) (e : Event) (list : List Event) → is_tick e ≡ false → count ≤ place → before ≡ place - count
+    → take count (drop (place - count) list) ≡ replicate count e → now ≡ left - runs_among e count → IsCounted q left place list → IsCounted q now before list
+counted_more q left now place before count Run list apart within at those less c = counted-runs q left now place before count list within at those less c
+counted_more q left now place before count Tick list apart within at those less c = let bad : ⊥ = cc in absurd bad
+counted_more q left now place before count (runs.Key byte) list apart within at those less c =
+    let none : now ≡ left - 0 = less in
+    let same : left ≡ now = omega (arith, none) in
+    subst (λ (n : ℕ). IsCounted q n before list) same (counted-still q left place before count (runs.Key byte) list (λ k. refl) within at those c)
+counted_more q left now place before count runs.Send list apart within at those less c =
+    let none : now ≡ left - 0 = less in
+    let same : left ≡ now = omega (arith, none) in
+    subst (λ (n : ℕ). IsCounted q n before list) same (counted-still q left place before count runs.Send list (λ k. refl) within at those c)
+
+is-tick : (e : Event) → is_tick e ≡ true → e ≡ Tick
+is-tick Tick is = refl
+is-tick Run is = let bad : ⊥ = cc in absurd bad
+is-tick (runs.Key byte) is = let bad : ⊥ = cc in absurd bad
+is-tick runs.Send is = let bad : ⊥ = cc in absurd bad
+
 ticked : (q n count : ℕ) → 0 < count → left_after q n (replicate count Tick) ≡ q
 ticked q n zero some = let no : ⊥ = omega (arith, some) in absurd no
 ticked q n (suc zero) some = refl
 ticked q n (suc (suc count)) some = ticked q q (suc count) (omega arith)
 
-pub counted-ticks : (q left place count : ℕ) (e : Event) (list : List Event) → e ≡ Tick → 0 < count → count ≤ place → take count (drop (place - count) list) ≡ replicate count e
+pub counted_ticks : (q left place count : ℕ) (e : Event) (list : List Event) → is_tick e ≡ true → 0 < count → count ≤ place → take count (drop (place - count) list) ≡ replicate count e
     → IsCounted q left place list → left ≡ runs_left q list
-counted-ticks q left place count e list tick some within those c =
-    let ticks : take count (drop (place - count) list) ≡ replicate count Tick = those ∙ ap (replicate count) tick in
+counted_ticks q left place count e list tick some within those c =
+    let ticks : take count (drop (place - count) list) ≡ replicate count Tick = those ∙ ap (replicate count) (is-tick e tick) in
     let before : List Event = take (place - count) list in
     let all : left_after q q list ≡ left_after q (left_after q q before) (drop (place - count) list) =
     ap (left_after q q) (sym (take-append-drop (place - count) list)) ∙ left-join q q before (drop (place - count) list) in
     c.left_is ∙ sym (c.behind q) ∙ ap (λ (k : ℕ). left_after q k (drop place list)) (sym (ticked q (left_after q q before) count some))
     ∙ sym (left-parts place count Tick list within ticks q (left_after q q before)) ∙ sym all
 
-pub counted-all : (q left place : ℕ) (list : List Event) → place ≡ 0 → IsCounted q left place list → left ≡ runs_left q list
-counted-all q left place list none c =
+pub counted_all : (q left place : ℕ) (list : List Event) → place ≡ 0 → IsCounted q left place list → left ≡ runs_left q list
+counted_all q left place list none c =
     let whole : drop place list ≡ list = ap (λ (k : ℕ). drop k list) none ∙ take-append-drop 0 list in
     c.left_is ∙ sym (c.behind q) ∙ ap (left_after q q) whole
 
@@ -139,6 +164,17 @@ pub done-goes : (a b : Running) (o : Outcome) → Advances a Run o b → is_done
 done-goes a b o one done =
     let w = a.machine.world in
     inl (run-stays w b.machine.world w.turns.halted w.turns.current o one.event.promised.0 done)
+
+-- ---- who sleeps up to a tick
+
+-- is there
+pub awaited_there : (w : World) (p : ℕ) → AwaitsTick w p → IsSome (get w.state.processes p)
+awaited_there w p awaits = by (contains w.turns.sleepers p) refl (live w.state p) refl awaits
+  where
+    by : (b : Bool) → contains w.turns.sleepers p ≡ b → (l : Option Live) → live w.state p ≡ l → is_clock (if b then wait_in w.state p l else None) ≡ true → IsSome (get w.state.processes p)
+    by false e l f is = let bad : ⊥ = cc in absurd bad
+    by true e None f is = let bad : ⊥ = cc in absurd bad
+    by true e (Some l) f is = rw (alive_part (get w.state.processes p) l f) refl
 
 -- ---- an event that is a Run
 

@@ -1,7 +1,7 @@
 -- Events that are sent up to a Run that is what is waited for.
 use Rattle.std.proofs.Common.{◌≡◌, ◌≢◌, ◌&&◌, ◌||◌, ◌<◌, ◌≤◌, ◌+◌, ◌-◌, ◌∙◌, ℕ, zero, suc, Bool, true, false, List, [], ◌∷◌, ◌++◌, length, Option, None, Some}
 use Rattle.std.proofs.Common.{replicate, refl, sym, ap, ap₂, subst, append_assoc, append-nil, add-one, arith, slice_get, is_some, min, not, option_map, Result, Ok, Err, IfOk}
-use Rattle.std.proofs.lemmas.List.{map-append, length-append}
+use Rattle.std.proofs.lemmas.List.{length-append}
 use Rattle.std.proofs.lemmas.Grind.{flat_map-append}
 use Rattle.std.proofs.lemmas.Option.{same_Some}
 use Rattle.kernel_spec.specs.runs.Run as runs
@@ -10,6 +10,7 @@ use Rattle.kernel_spec.specs.runs.Rounds.{events}
 use Rattle.kernel_spec.specs.steps.Own as answers
 use Rattle.xv_machine.specs.Events.{outcome_of}
 use Rattle.xv_machine.specs.declared.event.Outcome as declared
+use Rattle.xv_machine.proofs.Joins.{events-join}
 use Rattle.xv_session.specs.Answers.{Sent, Stopped}
 use Rattle.xv_session.specs.Recorded.{Recorded, running_of}
 use Rattle.xv_session.specs.Steps.{Advances}
@@ -42,9 +43,6 @@ use Rattle.xv_debug.proofs.Unmet.{AreUndue, undue, unmet}
 
 -- ---- one after another
 
-events-join : (xs ys : Steps) → events (xs ++ ys) ≡ events xs ++ events ys
-events-join xs ys = map-append (λ (e : Event × Outcome). e.0) xs ys
-
 none-join : (q : ℕ) (test : Test) (left : ℕ) (xs ys : Steps) (a b c : Running) → NoneMet q test left xs a b → NoneMet q test (left_after q left (events xs)) ys b c → NoneMet q test left (xs ++ ys) a c
 none-join q test left [] ys a b c same more = subst (λ (r : Running). NoneMet q test left ys r c) same more
 none-join q test left (x ∷ xs) ys a b c (mid, one, next, passes, rest) more = (mid, one, next, passes, none-join q test (left_by q left x.0) xs ys mid b c rest more)
@@ -66,8 +64,8 @@ reaches-join true q test left xs ys a b c none more = record {
 pub goes-none : (q : ℕ) (test : Test) (s : Recorded) (o : Output) → length o.last.items ≤ o.last.capacity → Goes q test false 0 None s s o o
 goes-none q test s o fits = record { list = []; adds = adds-none s; count = refl; reaches = refl; last_is = refl; shown = shown-none o fits }
 
-pub goes-join : (q : ℕ) (test : Test) (met : Bool) (n m : ℕ) (before last : Option Outcome) (a b c : Recorded) (i j k : Output) → 0 < m → Goes q test false n before a b i j → Goes q test met m last b c j k
-    → Goes q test met (n + m) last a c i k
+pub goes-join : (q : ℕ) (test : Test) (met : Bool) (n m : ℕ) (before last : Option Outcome) (a b c : Recorded) (i j k : Output) → 0 < m → Goes q test false n before a b i j
+    → Goes q test met m last b c j k → Goes q test met (n + m) last a c i k
 goes-join q test met n m before last a b c i j k some p r =
     let more : 0 < length r.list = subst (λ l. 0 < l) (sym r.count) some in record {
       list = p.list ++ r.list;

@@ -51,7 +51,7 @@ one_comes left w Run (Key k) a b = absurd b
 none_at_rest : (left : ℕ) (w : World) (e : Event) → RestsQuiet Asleep w → IsNext left w e → ⊥
 none_at_rest left w Send (rests, quiet, nobody) next = next quiet
 none_at_rest left w Tick (rests, quiet, nobody) (still, inl (none, goes)) = resting w goes rests
-none_at_rest left w Tick (rests, quiet, nobody) (still, inr (asleep, p, waits)) = let no : false ≡ true = sym (nobody p) ∙ waits in let bad : ⊥ = cc in bad
+none_at_rest left w Tick (rests, quiet, nobody) (still, inr (asleep, p, waits)) = nobody p waits
 none_at_rest left w Run (rests, quiet, nobody) (still, some, goes) = resting w goes rests
 none_at_rest left w (Key k) rests next = next
 

@@ -1,6 +1,7 @@
 -- The clock of a way: which event comes next. A round has so many Runs, its quantum, and then a Tick comes.
-use Rattle.std.specs.Prelude.{◌≡◌, ◌≢◌, ◌⊎◌, ℕ, ◌+◌, ◌-◌, ◌<◌, List, [], ◌∷◌}
+use Rattle.std.specs.Prelude.{◌≡◌, ◌≢◌, ◌⊎◌, ℕ, ◌-◌, ◌<◌, Bool, true, false, if◌then◌else◌, List, [], ◌∷◌}
 use Rattle.kernel_spec.specs.runs.Run.{World, Event, Run, Tick, Key, Send}
+use Rattle.xv_debug.specs.motion.Backwards.{is_run}
 use Rattle.xv_debug.specs.motion.Resting.{AreAwaitingTicks, SomebodyMayGoOn}
 
 -- ---- how many Runs a round has left
@@ -19,6 +20,14 @@ left_after quantum left (e ∷ es) = left_after quantum (left_by quantum left e)
 -- after all events of a run, which began a round
 abbrev pub runs_left : (quantum : ℕ) → List Event → ℕ
 runs_left quantum events = left_after quantum quantum events
+
+abbrev pub is_tick : Event → Bool
+is_tick Tick = true
+is_tick _ = false
+
+-- so many equal events take so many Runs, if they aren't Ticks
+abbrev pub runs_among : Event → (count : ℕ) → ℕ
+runs_among e count = if is_run e then count else 0
 
 -- ---- the next event
 

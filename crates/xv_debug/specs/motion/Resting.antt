@@ -36,15 +36,15 @@ is_clock (Some (Until tick)) = true
 is_clock _ = false
 
 -- process p sleeps up to a tick
-abbrev pub awaits_tick : World → (p : ℕ) → Bool
-awaits_tick w p = is_clock (wait_of w p)
+abbrev pub AwaitsTick : World → (p : ℕ) → Type 0
+AwaitsTick w p = is_clock (wait_of w p) ≡ true
 
 abbrev pub NobodyAwaitsTick : World → Type 0
-NobodyAwaitsTick w = (p : ℕ) → awaits_tick w p ≡ false
+NobodyAwaitsTick w = (p : ℕ) → ¬ AwaitsTick w p
 
 -- All processes sleep, and one of them up to a tick
 abbrev pub AreAwaitingTicks : World → Type 0
-AreAwaitingTicks w = RestsBy Asleep w × ((p : ℕ) × (awaits_tick w p ≡ true))
+AreAwaitingTicks w = RestsBy Asleep w × ((p : ℕ) × AwaitsTick w p)
 
 -- ---- where a way rests
 

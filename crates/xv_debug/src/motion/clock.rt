@@ -1,10 +1,10 @@
 //! The clock of a way: how many Runs its round has left, and which event comes next.
 ghost use Rattle.std.specs.Prelude.{◌≡◌, ◌≤◌, ◌<◌, ◌-◌, [], IfOk, IfErr, drop, false, is_some, length, replicate, slice_get, take, true};
 ghost use Rattle.xv_machine.specs.Events.{event_of};
-ghost use Rattle.xv_debug.specs.motion.Clock.{IsNext, left_by, runs_left};
+ghost use Rattle.xv_debug.specs.motion.Clock.{IsNext, is_tick, left_by, runs_among, runs_left};
 ghost use Rattle.xv_debug.specs.motion.Resting.{AreAwaitingTicks, RestsBy, RestsQuiet};
 
-use crate::motion::backwards::{Equal, equal_from};
+use crate::motion::backwards::{Equal, equal_from, is_run};
 use crate::motion::journey::Stop;
 use crate::motion::resting::{is_tick_awaited, rest_of};
 use xv_machine::{ConsoleList, Event, Machine};
@@ -47,6 +47,26 @@ fn equal_before(session: &Session, end: u64) -> Equal
     found
 }
 
+/// Whether an event is a Tick.
+fn is_tick(event: Event) -> bool
+    ensures { result ≡ is_tick (event_of event) }
+{
+    match event {
+        Event::Tick => true,
+        _ => false,
+    }
+}
+
+/// How many Runs are left, of so many, if as many were sent as these events are.
+fn left_without(left: u32, events: &Equal) -> u32
+    ensures { result ≡ left - runs_among (event_of events.now.event) events.now.count }
+{
+    if !is_run(events.event) {
+        return left;
+    }
+    u64::from(left).saturating_sub(events.count) as u32
+}
+
 /// How many Runs the round has left in which the run is. The events before it are looked at, from the last on, up to a
 /// Tick.
 pub(crate) fn runs_left(session: &Session, quantum: u32) -> u32
@@ -56,11 +76,10 @@ pub(crate) fn runs_left(session: &Session, quantum: u32) -> u32
     let mut end = session.at();
     'events: while end > 0 {
         let before = equal_before(session, end);
-        match before.event {
-            Event::Tick => return left,
-            Event::Run => left = u64::from(left).saturating_sub(before.count) as u32,
-            Event::Key(_) | Event::Send => {}
+        if is_tick(before.event) {
+            return left;
         }
+        left = left_without(left, &before);
         end -= before.count;
     }
     left

@@ -3,8 +3,7 @@ ghost use Rattle.std.specs.Prelude.{◌≡◌, ℕ, IfSome, IfNone, true, false}
 ghost use Rattle.kernel_spec.specs.waking.Turns.{HasSlot};
 ghost use Rattle.kernel_spec.specs.waking.Wakes.{IsRunnable};
 ghost use Rattle.xv_machine.specs.Sound.{IsSoundMachine};
-ghost use Rattle.xv_debug.specs.motion.Resting as meant;
-ghost use Rattle.xv_debug.specs.motion.Resting.{NobodyAwaitsTick, NobodyMayRun, RestsBy, SomebodyMayGoOn};
+ghost use Rattle.xv_debug.specs.motion.Resting.{AwaitsTick, NobodyAwaitsTick, NobodyMayRun, RestsBy, SomebodyMayGoOn};
 
 use crate::motion::journey::Stop;
 use xk_base::Pid;
@@ -69,7 +68,8 @@ pub(crate) fn rest_of(machine: &Machine) -> Option<Stop>
 
 /// Whether a process sleeps up to a tick.
 fn awaits_tick(machine: &Machine, pid: Pid) -> bool
-    ensures { result ≡ meant.awaits_tick machine.now.world pid }
+    ensures some { result ≡ true → AwaitsTick machine.now.world pid }
+    ensures none { result ≡ false → ¬ AwaitsTick machine.now.world pid }
 {
     match waits_for(machine, pid) {
         Some(Wait::Until { .. }) => true,
@@ -80,8 +80,8 @@ fn awaits_tick(machine: &Machine, pid: Pid) -> bool
 /// Whether the process in a slot sleeps up to a tick.
 fn slot_awaits_tick(machine: &Machine, slot: usize) -> bool
     requires { IsSoundMachine machine.now }
-    ensures some { result ≡ true → (p : ℕ) × (meant.awaits_tick machine.now.world p ≡ true) }
-    ensures none { result ≡ false → (p : ℕ) → HasSlot machine.now.world.turns p slot → meant.awaits_tick machine.now.world p ≡ false }
+    ensures some { result ≡ true → (p : ℕ) × AwaitsTick machine.now.world p }
+    ensures none { result ≡ false → (p : ℕ) → HasSlot machine.now.world.turns p slot → ¬ AwaitsTick machine.now.world p }
 {
     match machine.pid_in(slot) {
         Some(pid) => awaits_tick(machine, pid),
@@ -90,8 +90,9 @@ fn slot_awaits_tick(machine: &Machine, slot: usize) -> bool
 }
 
 /// Whether a process sleeps up to a tick.
+#[tactic(auto, using(crate::proofs::Clocked::awaited_there))]
 pub(crate) fn is_tick_awaited(machine: &Machine) -> bool
-    ensures some { result ≡ true → (p : ℕ) × (meant.awaits_tick machine.now.world p ≡ true) }
+    ensures some { result ≡ true → (p : ℕ) × AwaitsTick machine.now.world p }
     ensures none { result ≡ false → NobodyAwaitsTick machine.now.world }
 {
     // This call says that the machine is sound, so that each process has a slot.

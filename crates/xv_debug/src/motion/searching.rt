@@ -216,7 +216,7 @@ fn run_often(
 
 /// Sends Runs, so many at most, and not more than the round has left: one, if a store that is waited for is due, or if
 /// there are no places; else as many as lead to none of the places.
-#[tactic(auto, using(crate::proofs::Searched::one_within, crate::proofs::Searched::one_forth))]
+#[tactic(auto, using(crate::proofs::Searched::one_within, crate::proofs::Searched::one_forth, crate::proofs::Searched::part_within))]
 fn run_some(
     session: &mut Session,
     most: u32,
@@ -246,7 +246,7 @@ fn run_some(
 }
 
 /// Sends the next event; and if it is a Run, more Runs, so many at most in all.
-#[tactic(auto, using(crate::proofs::Searched::one_within, crate::proofs::Searched::one_forth))]
+#[tactic(auto, using(crate::proofs::Searched::one_within, crate::proofs::Searched::one_forth, crate::proofs::Clocked::next_run))]
 fn send_some(
     session: &mut Session,
     most: u32,

@@ -4,6 +4,7 @@ use Rattle.xv_machine.specs.Events.{outcome_of}
 use Rattle.xv_machine.specs.declared.event.Outcome as declared
 use Rattle.xv_debug.specs.motion.Clock.{IsNext}
 use Rattle.xv_debug.specs.motion.Shown.{KeepsShown}
+use Rattle.xv_debug.proofs.Clocked.{left_ran}
 use Rattle.xv_debug.proofs.Searched.{goes-often}
 use Rattle.xv_debug.proofs.motion.searching.run_often.Goals as goal
 
@@ -19,3 +20,8 @@ returns-clause-goes c =
     c.add.new.self c.requires.some (subst (λ (left : ℕ). c.args.most ≤ left) c.requires.left c.requires.few)
     (subst (λ (left : ℕ). IsNext left old.machine.world Run) c.requires.left c.requires.next) (record { by_aim = c.requires.aim; by_mark = c.requires.marks }) had.fits c.in_ok-found.ensures.stopped
     (ap (option_map outcome_of) c.in-Some.is ∙ ap (λ (x : declared.Outcome). Some (outcome_of x)) (sym c.in-Some.outcome-is)) shown (sym c.is_one-met.ensures)
+
+pub returns-clause-left : goal.returns-clause-left
+returns-clause-left c =
+    left_ran c.args.way.now.quantum c.args.left c.in_ok-found.found.sent c.saturating_sub.result c.args.session.now c.run_to_stop.new.self
+    c.in_ok-found.ensures.stopped.1 c.requires.left c.saturating_sub.ensures

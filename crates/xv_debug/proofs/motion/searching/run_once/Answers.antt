@@ -7,6 +7,7 @@ use Rattle.xv_debug.specs.motion.Clock.{IsNext}
 use Rattle.xv_debug.specs.motion.Marks as marked
 use Rattle.xv_debug.specs.motion.Reaching.{is_turn_of}
 use Rattle.xv_debug.specs.motion.Ways.{test_of}
+use Rattle.xv_debug.proofs.Clocked.{left_sent}
 use Rattle.xv_debug.proofs.Searched.{goes-run}
 use Rattle.xv_debug.proofs.motion.searching.run_once.Goals as goal
 
@@ -21,3 +22,8 @@ returns-clause-goes c =
     (subst (λ (left : ℕ). IsNext left old.machine.world Run) c.requires.left c.requires.next) c.in_ok-outcome.ensures.sent c.in_ok-outcome.ensures.shown
     (ap₂ (λ (x y : Bool). not (is_turn_of way.ran o) && (aims.meets_with way.aim.now x o new.machine || marked.meets_with way.marks.now y o (running_of new))) (sym due.aim) (sym due.mark)
     ∙ sym c.is_one-met.ensures)
+
+pub returns-clause-left : goal.returns-clause-left
+returns-clause-left c =
+    left_sent c.args.way.now.quantum c.args.left c.saturating_sub.result Run (outcome_of c.in_ok-outcome.outcome) c.args.session.now c.send_one.new.session
+    c.in_ok-outcome.ensures.sent c.requires.left c.saturating_sub.ensures
