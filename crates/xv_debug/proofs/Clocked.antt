@@ -68,6 +68,13 @@ counted_none q place list is = record {
       ap (left_after q n) none ∙ same;
 }
 
+-- equal events from a place on that reach up to another one
+pub up_to : (place end count : ℕ) (e : Event) (list : List Event) → place ≤ end → place + count ≤ end → end ≤ place + count → take count (drop place list) ≡ replicate count e
+    → (count ≤ end) × (take count (drop (end - count) list) ≡ replicate count e)
+up_to place end count e list before within all those =
+    let here : end - count ≡ place = omega (arith, before, within, all) in
+    (omega (arith, within), ap (λ (k : ℕ). take count (drop k list)) here ∙ those)
+
 -- equal events and those behind them
 module _ (place count : ℕ) (e : Event) (list : List Event) (within : count ≤ place) (those : take count (drop (place - count) list) ≡ replicate count e) where
   parts : drop (place - count) list ≡ replicate count e ++ drop place list
