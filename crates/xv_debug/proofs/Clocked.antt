@@ -1,6 +1,6 @@
 -- How many Runs a round has left, and who goes on after an instruction.
 use Rattle.std.proofs.Common.{◌≡◌, ◌≢◌, ◌∙◌, ◌+◌, ◌-◌, ◌<◌, ◌≤◌, ℕ, ℤ, zero, suc, Bool, true, false, List, [], ◌∷◌, ◌++◌, length, drop, take, replicate, Option, None, Some, inl}
-use Rattle.std.proofs.Common.{refl, sym, ap, subst, arith, Result, Ok, Err, IfOk}
+use Rattle.std.proofs.Common.{refl, sym, ap, subst, arith, is_some, not, option_map}
 use Rattle.std.specs.FinMap.{get}
 use Rattle.std.specs.FinSet.{contains}
 use Rattle.std.specs.Prelude.{IsSome, if◌then◌else◌}
@@ -9,8 +9,14 @@ use Rattle.kernel_spec.specs.runs.Run as runs
 use Rattle.kernel_spec.specs.runs.Run.{Event, Run, Tick, Outcome, RunHappens, Step_of, World, stays_current}
 use Rattle.kernel_spec.specs.steps.Own.{Answer, Stepped}
 use Rattle.kernel_spec.specs.steps.Step.{own}
-use Rattle.kernel_spec.specs.views.Processes.{Live}
-use Rattle.kernel_spec.specs.views.State.{live}
+use Rattle.proc_table.specs.declared.process.Call.{Call}
+use Rattle.kernel_spec.specs.views.Processes.{Live, Process, Alive, Zombie}
+use Rattle.kernel_spec.specs.views.State.{live, live_part}
+use Rattle.kernel_spec.specs.views.View.{view_of}
+use Rattle.kernel_spec.specs.waking.Wakes.{IsRunnable}
+use Rattle.kcall_core.specs.Observers.{process_at, told as told_as}
+use Rattle.kcall_core.specs.declared.kernel.observers.ProcessState.{ProcessState}
+use Rattle.kcall_core.specs.declared.kernel.observers.ProcessState.TheVariants as state
 use Rattle.kernel_spec.proofs.Common.{alive_part}
 use Rattle.xv_report.specs.Waits.{wait_in}
 use Rattle.xv_session.specs.Answers.{Sent}
@@ -172,6 +178,23 @@ done-goes a b o one done =
     let w = a.machine.world in
     inl (run-stays w b.machine.world w.turns.halted w.turns.current o one.event.promised.0 done)
 
+-- ---- who may run
+
+asleep_in : Option ProcessState → Bool
+asleep_in (Some (state.Live parent killed call asleep)) = asleep
+asleep_in _ = true
+
+-- one that is told as a live one that doesn't sleep
+pub may_run : (w : World) (p : ℕ) (r : Option ProcessState) (parent : Option ℕ) (killed : Bool) (call : Option Call) (asleep : Bool) → r ≡ process_at w p
+    → r ≡ Some (state.Live parent killed call asleep) → not asleep ≡ true → IsRunnable w p
+may_run w p r parent killed call asleep told is awake = by (get w.state.processes p) refl (contains w.turns.sleepers p) refl (sym told ∙ is)
+  where
+    by : (o : Option Process) → get w.state.processes p ≡ o → (b : Bool) → contains w.turns.sleepers p ≡ b → option_map (told_as b) o ≡ Some (state.Live parent killed call asleep) → IsRunnable w p
+    by None e b f i = let bad : ⊥ = cc in absurd bad
+    by (Some (Zombie q status)) e b f i = let bad : ⊥ = cc in absurd bad
+    by (Some (Alive l)) e true f i = let same : true ≡ asleep = ap asleep_in i in let no : false ≡ true = ap not same ∙ awake in let bad : ⊥ = cc in absurd bad
+    by (Some (Alive l)) e false f i = (ap (λ (o : Option Process). is_some (option_map (view_of w.state p) (live_part o))) e, λ sleeps. let no : false ≡ true = sym f ∙ sleeps in let bad : ⊥ = cc in bad)
+
 -- ---- who sleeps up to a tick
 
 -- is there
@@ -179,8 +202,8 @@ pub awaited_there : (w : World) (p : ℕ) → AwaitsTick w p → IsSome (get w.s
 awaited_there w p awaits = by (contains w.turns.sleepers p) refl (live w.state p) refl awaits
   where
     by : (b : Bool) → contains w.turns.sleepers p ≡ b → (l : Option Live) → live w.state p ≡ l → is_clock (if b then wait_in w.state p l else None) ≡ true → IsSome (get w.state.processes p)
-    by false e l f is = let bad : ⊥ = cc in absurd bad
-    by true e None f is = let bad : ⊥ = cc in absurd bad
+    by false e l f is = let no : false ≡ true = is in let bad : ⊥ = cc in absurd bad
+    by true e None f is = let no : false ≡ true = is in let bad : ⊥ = cc in absurd bad
     by true e (Some l) f is = rw (alive_part (get w.state.processes p) l f) refl
 
 -- ---- an event that is a Run

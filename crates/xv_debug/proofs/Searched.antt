@@ -86,7 +86,7 @@ goes-apart q test e o old new had has apart next (one, same) shown = record {
   list = (e, o) ∷ [];
   adds = same;
   count = refl;
-  reaches = (running_of new, one, next, (λ is. let bad : ⊥ = cc in absurd bad), refl);
+  reaches = (running_of new, one, next, (λ is. let no : false ≡ true = sym apart ∙ is in let bad : ⊥ = cc in absurd bad), refl);
   last_is = refl;
   shown = subst (λ (bs : List ℕ). KeepsShown bs had has) (sym (append-nil (bytes_out o))) shown;
 }

@@ -1,13 +1,12 @@
 -- Worked cases of the clock.
-use Rattle.std.proofs.Common.{◌≡◌, ◌<◌, ℕ, zero, suc, true, false, [], ◌∷◌, None, Some, inl, inr, refl, sym, ap, subst, arith, ◌∙◌}
-use Rattle.std.specs.Prelude.{IsSome, is_some, Option}
+use Rattle.std.proofs.Common.{◌≡◌, ◌∙◌, ℕ, true, false, [], ◌∷◌, Option, None, Some, is_some, inl, inr, refl, sym, ap, arith}
 use Rattle.kernel_spec.specs.runs.Run as runs
 use Rattle.kernel_spec.specs.runs.Run.{Event, Run, Tick, Send, Key, World}
 use Rattle.xv_report.specs.declared.waits.Wait.TheVariants.{Until, Child}
 use Rattle.xv_debug.specs.motion.Clock.{IsNext, runs_left}
 use Rattle.xv_debug.specs.motion.Reaching.{is_turn_of}
-use Rattle.xv_debug.specs.motion.Resting.{AreAwaitingTicks, RestsBy, RestsQuiet, SomebodyMayGoOn, is_clock}
-use Rattle.xv_debug.specs.declared.motion.journey.Stop.TheVariants.{Asleep, Halted}
+use Rattle.xv_debug.specs.motion.Resting.{RestsBy, RestsQuiet, SomebodyMayGoOn, is_clock}
+use Rattle.xv_debug.specs.declared.motion.journey.Stop.TheVariants.{Asleep}
 
 -- ---- how many Runs are left
 
@@ -26,7 +25,7 @@ more_than_all = refl
 
 -- who may go on doesn't rest
 resting : (w : World) → SomebodyMayGoOn w → RestsBy Asleep w → ⊥
-resting w (inl runs) (stopped, going, nobody) = let no : is_some {T = ℕ} None ≡ true = sym (ap (is_some {T = ℕ}) stopped) ∙ runs in let bad : ⊥ = cc in bad
+resting w (inl stands) (stopped, going, nobody) = let no : false ≡ true = sym (ap (λ (o : Option ℕ). is_some o) stopped) ∙ stands in let bad : ⊥ = cc in bad
 resting w (inr (going, p, may)) (stopped, here, nobody) = nobody p may
 
 -- the clock settles the event

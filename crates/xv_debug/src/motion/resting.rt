@@ -12,6 +12,7 @@ use xv_machine::{Machine, ProcessState};
 use xv_report::{Wait, waits_for};
 
 /// Whether a process lives, and doesn't sleep.
+#[tactic(auto, using(crate::proofs::Clocked::may_run))]
 fn is_runnable(machine: &Machine, pid: Pid) -> bool
     ensures some { result ≡ true → IsRunnable machine.now.world pid }
     ensures none { result ≡ false → ¬ IsRunnable machine.now.world pid }
