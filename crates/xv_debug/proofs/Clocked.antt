@@ -12,7 +12,7 @@ use Rattle.kernel_spec.specs.steps.Step.{own}
 use Rattle.proc_table.specs.declared.process.Call.{Call}
 use Rattle.kernel_spec.specs.views.Processes.{Live, Process, Alive, Zombie}
 use Rattle.kernel_spec.specs.views.State.{live, live_part}
-use Rattle.kernel_spec.specs.views.View.{view_of}
+use Rattle.kernel_spec.specs.views.View.{view, view_of}
 use Rattle.kernel_spec.specs.waking.Wakes.{IsRunnable}
 use Rattle.kcall_core.specs.Observers.{process_at, told as told_as}
 use Rattle.kcall_core.specs.declared.kernel.observers.ProcessState.{ProcessState}
@@ -193,7 +193,9 @@ may_run w p r parent killed call asleep told is awake = by (get w.state.processe
     by None e b f i = let bad : ⊥ = cc in absurd bad
     by (Some (Zombie q status)) e b f i = let bad : ⊥ = cc in absurd bad
     by (Some (Alive l)) e true f i = let same : true ≡ asleep = ap asleep_in i in let no : false ≡ true = ap not same ∙ awake in let bad : ⊥ = cc in absurd bad
-    by (Some (Alive l)) e false f i = (ap (λ (o : Option Process). is_some (option_map (view_of w.state p) (live_part o))) e, λ sleeps. let no : false ≡ true = sym f ∙ sleeps in let bad : ⊥ = cc in bad)
+    by (Some (Alive l)) e false f i =
+        let seen : is_some (view w.state p) ≡ true = ap (λ (o : Option Process). is_some (option_map (view_of w.state p) (live_part o))) e in
+        (seen, λ sleeps. let no : false ≡ true = sym f ∙ sleeps in let bad : ⊥ = cc in bad)
 
 -- ---- who sleeps up to a tick
 
