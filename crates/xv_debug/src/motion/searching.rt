@@ -40,7 +40,6 @@ pub(crate) struct Way<'a> {
     pub marks: &'a [Mark],
     /// Where Runs that are sent at once have to stop; `None` if each has to be looked at.
     pub places: Option<Places>,
-    ghost are: { IfSome places (ArePlaces aim.now marks.now) },
 }
 
 /// What came of events that were sent.
@@ -225,6 +224,7 @@ fn run_some(
     output: &mut Output,
 ) -> Result<Went, SessionError>
     requires some { 0 < most }
+    requires places { IfSome way.now.places (ArePlaces way.now.aim.now way.now.marks.now) }
     requires left { left ≡ runs_left way.now.quantum session.old.events }
     requires next { IsNext left session.old.machine.world runs.Run }
     ensures goes { IfOk result (λ w. Goes way.now.quantum (test_of way.now) w.met w.sent (option_map outcome_of w.last) session.old session.new output.old output.new) }
@@ -256,6 +256,7 @@ fn send_some(
     output: &mut Output,
 ) -> Result<Went, SessionError>
     requires some { 0 < most }
+    requires places { IfSome way.now.places (ArePlaces way.now.aim.now way.now.marks.now) }
     requires left { left ≡ runs_left way.now.quantum session.old.events }
     requires next { IsNext left session.old.machine.world (event_of event) }
     ensures goes { IfOk result (λ w. Goes way.now.quantum (test_of way.now) w.met w.sent (option_map outcome_of w.last) session.old session.new output.old output.new) }
@@ -276,6 +277,7 @@ fn send_some(
 fn way_from<'a>(session: &Session, quantum: u32, aim: &'a Aim, marks: &'a [Mark]) -> Way<'a>
     ensures quantum { result.quantum ≡ quantum }
     ensures test { test_of result ≡ met_from session.now aim.now marks.now }
+    ensures places { IfSome result.places (ArePlaces result.aim.now result.marks.now) }
 {
     Way {
         quantum,
