@@ -180,7 +180,7 @@ done-goes a b o one done =
 
 -- ---- who may run
 
-asleep_in : Option ProcessState → Bool
+abbrev asleep_in : Option ProcessState → Bool
 asleep_in (Some (state.Live parent killed call asleep)) = asleep
 asleep_in _ = true
 

@@ -181,7 +181,7 @@ module _ (q : ℕ) (ran : Option ℕ) (aim : Aim) (marks : List Mark) (pcs bs : 
   goes-often most (suc n) stopped met told o old new had has some few next before fits ((mid, x, first, one, stands, last, within, all), same) is shown was =
       let test = meets_one ran aim marks in
       let left = runs_left q old.events in
-      let p = apart left n (running_of old) mid (omega (arith, within, few)) next.0 next.1.1 before first in
+      let p = apart left n (running_of old) mid (omega (arith, within, few)) next.0 next.2 before first in
       let this : x ≡ o = same_Some x o (sym last ∙ is) in
       let last_one : Advances mid Run o (running_of new) = subst (λ (y : Outcome). Advances mid Run y (running_of new)) this one in
       let met_is : test mid o (running_of new) ≡ met =

@@ -14,5 +14,5 @@ pub loop-preserved : goal.loop-preserved
 loop-preserved c =
     let m = c.equal_from-more in
     let up = up_to (c.args.end - c.saturating_mul-wanted.result) c.args.end m.result.count (event_of m.result.event) c.args.session.now.events (omega arith) m.ensures.within
-    (omega (arith, c.if-count-wanted.false, c.if-wanted-end.false)) m.ensures.those in
+    (omega (arith, c.if-more-wanted.false, c.if-wanted-end.false)) m.ensures.those in
     (m.ensures.some, up.0, up.1)
