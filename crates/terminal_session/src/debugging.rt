@@ -35,7 +35,7 @@ fn begun<'a>(rt: &HostRuntime, settings: &'a Settings) -> Result<Conversation, F
     let session = Session::boot(rt.alloc(), config, made.programs)?;
     Ok(Conversation {
         session,
-        debugger: Debugger::alone(sources),
+        debugger: Debugger::alone(sources, settings.quantum),
         prompt: settings.prompt,
     })
 }

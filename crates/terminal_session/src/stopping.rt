@@ -157,6 +157,7 @@ fn read_line<H: Host, E: Write>(
 }
 
 // Does what a line says, and writes the answer. The patience may end it.
+#[tactic(auto, using(xv_debug::proofs::Conversed::obeyed, xv_debug::proofs::Conversed::unanswered))]
 fn answer<P: Patience, E: Write>(
     session: &mut Session,
     line: &[u8],

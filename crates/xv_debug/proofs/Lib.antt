@@ -1,4 +1,5 @@
 pub mod Backwards
+pub mod Clocked
 pub mod Conversed
 pub mod HeldEnds
 pub mod Looking
@@ -14,4 +15,5 @@ pub mod ToldPipes
 pub mod ToldProcesses
 pub mod Unmet
 mod WorkedAnswers
+mod WorkedClock
 mod WorkedMarks

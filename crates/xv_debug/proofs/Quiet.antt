@@ -19,7 +19,6 @@ use Rattle.kernel_spec.proofs.rows.Outcomes.{Comes, perform_comes}
 use Rattle.xv_session.specs.Steps.{Advances}
 use Rattle.xv_session.specs.Until.{is_done}
 use Rattle.xv_session.specs.declared.running.Running.{Running}
-use Rattle.xv_debug.specs.motion.Reaching.{waiting}
 
 abbrev Keeps : View → Own → Type 0
 Keeps v o = o.answer ≡ Stepped → o.left.console ≡ v.console
@@ -59,7 +58,7 @@ seen-console s p v is = by (live s p) is
     by None e = let bad : ⊥ = cc in absurd bad
     by (Some l) e = sym (ap (λ (u : View). u.console) (same_Some (view_of s p l) v e))
 
-done-is : (p : ℕ) (a : Answer) → is_done (Step_of p a) ≡ true → a ≡ Stepped
+pub done-is : (p : ℕ) (a : Answer) → is_done (Step_of p a) ≡ true → a ≡ Stepped
 done-is p Stepped is = refl
 done-is p (Called number value) is = let bad : ⊥ = cc in absurd bad
 done-is p (Blocked number) is = let bad : ⊥ = cc in absurd bad
@@ -79,7 +78,7 @@ run-keeps w t None None (runs.Typed echo) bad done = absurd bad
 run-keeps w t None None (runs.Sent byte) bad done = absurd bad
 run-keeps w t None None runs.Halted bad done = absurd bad
 
-pub done-quiet : (a b : Running) (o : Outcome) → Advances a Run o b → is_done o ≡ true → waiting a ≡ [] → waiting b ≡ []
+pub done-quiet : (a b : Running) (o : Outcome) → Advances a Run o b → is_done o ≡ true → a.machine.world.state.console.to_send ≡ [] → b.machine.world.state.console.to_send ≡ []
 done-quiet a b o one done quiet =
     let w = a.machine.world in
     ap (λ (c : Console). c.to_send) (run-keeps w b.machine.world w.turns.halted w.turns.current o one.event.promised.0 done) ∙ quiet

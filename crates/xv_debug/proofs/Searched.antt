@@ -1,7 +1,7 @@
 -- Events that are sent up to a Run that is what is waited for.
-use Rattle.std.proofs.Common.{◌≡◌, ◌≢◌, ◌||◌, ◌<◌, ◌≤◌, ◌+◌, ◌∙◌, ℕ, zero, suc, Bool, true, false, List, [], ◌∷◌, ◌++◌, length, Option, None, Some}
-use Rattle.std.proofs.Common.{replicate, refl, sym, ap, ap₂, subst, append_assoc, append-nil, add-one, arith, slice_get, is_some, option_map, Result, Ok, Err, IfOk, IfSome}
-use Rattle.std.proofs.lemmas.List.{map-append, length-append}
+use Rattle.std.proofs.Common.{◌≡◌, ◌≢◌, ◌&&◌, ◌||◌, ◌<◌, ◌≤◌, ◌+◌, ◌-◌, ◌∙◌, ℕ, zero, suc, Bool, true, false, List, [], ◌∷◌, ◌++◌, length, Option, None, Some}
+use Rattle.std.proofs.Common.{replicate, refl, sym, ap, ap₂, subst, append_assoc, append-nil, add-one, arith, slice_get, is_some, min, not, option_map, Result, Ok, Err, IfOk}
+use Rattle.std.proofs.lemmas.List.{length-append}
 use Rattle.std.proofs.lemmas.Grind.{flat_map-append}
 use Rattle.std.proofs.lemmas.Option.{same_Some}
 use Rattle.kernel_spec.specs.runs.Run as runs
@@ -10,6 +10,7 @@ use Rattle.kernel_spec.specs.runs.Rounds.{events}
 use Rattle.kernel_spec.specs.steps.Own as answers
 use Rattle.xv_machine.specs.Events.{outcome_of}
 use Rattle.xv_machine.specs.declared.event.Outcome as declared
+use Rattle.xv_machine.proofs.Joins.{events-join}
 use Rattle.xv_session.specs.Answers.{Sent, Stopped}
 use Rattle.xv_session.specs.Recorded.{Recorded, running_of}
 use Rattle.xv_session.specs.Steps.{Advances}
@@ -18,11 +19,13 @@ use Rattle.xv_session.specs.Until.{is_done}
 use Rattle.xv_session.specs.declared.running.Running.{Running}
 use Rattle.debug_words.specs.declared.vocabulary.Mark.{Mark}
 use Rattle.xv_debug.specs.motion.Aims as aims
+use Rattle.xv_debug.specs.motion.Backwards.{is_run}
+use Rattle.xv_debug.specs.motion.Clock.{IsNext, left_after, left_by, runs_left}
 use Rattle.xv_debug.specs.motion.Effects.{Adds}
 use Rattle.xv_debug.specs.motion.Marks as marked
 use Rattle.xv_debug.specs.motion.Places.{IsFar, all_of}
-use Rattle.xv_debug.specs.motion.Reaching.{Goes, NoneMet, Reaches, ReachesBy, Test, meets_one, waiting}
-use Rattle.xv_debug.specs.motion.Resting.{RestsBy, RestsQuiet}
+use Rattle.xv_debug.specs.motion.Reaching.{Goes, NoneMet, Reaches, ReachesBy, Test, is_turn_of, meets_one}
+use Rattle.xv_debug.specs.motion.Resting.{SomebodyMayGoOn}
 use Rattle.xv_debug.specs.motion.Shown.{KeepsShown}
 use Rattle.xv_debug.specs.declared.motion.aiming.Aim.{Aim}
 use Rattle.xv_debug.specs.declared.motion.journey.Journey.{Journey}
@@ -31,6 +34,7 @@ use Rattle.xv_debug.specs.declared.motion.journey.Stop.TheVariants.{Met}
 use Rattle.xv_debug.specs.declared.motion.output.Output.{Output}
 use Rattle.xv_debug.specs.declared.motion.searching.Went.{Went}
 use Rattle.xv_debug.specs.declared.motion.places.Kind.TheVariants.{Instructions, Bytes}
+use Rattle.xv_debug.proofs.Clocked.{done-goes, left-added, left-join, runs-taken}
 use Rattle.xv_debug.proofs.Played.{Steps, last-one, shown-join, shown-none}
 use Rattle.xv_debug.proofs.Quiet.{done-quiet}
 use Rattle.xv_debug.proofs.Reached.{adds-join, adds-none}
@@ -39,62 +43,66 @@ use Rattle.xv_debug.proofs.Unmet.{AreUndue, undue, unmet}
 
 -- ---- one after another
 
-none-join : (test : Test) (xs ys : Steps) (a b c : Running) → NoneMet test xs a b → NoneMet test ys b c → NoneMet test (xs ++ ys) a c
-none-join test [] ys a b c same more = subst (λ (r : Running). NoneMet test ys r c) same more
-none-join test (x ∷ xs) ys a b c (mid, one, passes, rest) more = (mid, one, passes, none-join test xs ys mid b c rest more)
+none-join : (q : ℕ) (test : Test) (left : ℕ) (xs ys : Steps) (a b c : Running) → NoneMet q test left xs a b → NoneMet q test (left_after q left (events xs)) ys b c → NoneMet q test left (xs ++ ys) a c
+none-join q test left [] ys a b c same more = subst (λ (r : Running). NoneMet q test left ys r c) same more
+none-join q test left (x ∷ xs) ys a b c (mid, one, next, passes, rest) more = (mid, one, next, passes, none-join q test (left_by q left x.0) xs ys mid b c rest more)
 
-reaches-join : (met : Bool) (test : Test) (xs ys : Steps) (a b c : Running) → NoneMet test xs a b → ReachesBy met test ys b c → ReachesBy met test (xs ++ ys) a c
-reaches-join false test xs ys a b c none more = none-join test xs ys a b c none more
-reaches-join true test xs ys a b c none more = record {
+reaches-join : (met : Bool) (q : ℕ) (test : Test) (left : ℕ) (xs ys : Steps) (a b c : Running) → NoneMet q test left xs a b → ReachesBy met q test (left_after q left (events xs)) ys b c
+    → ReachesBy met q test left (xs ++ ys) a c
+reaches-join false q test left xs ys a b c none more = none-join q test left xs ys a b c none more
+reaches-join true q test left xs ys a b c none more = record {
   before = xs ++ more.before;
   mid = more.mid;
   outcome = more.outcome;
-  none = none-join test xs more.before a b more.mid none more.none;
-  quiet = more.quiet;
+  none = none-join q test left xs more.before a b more.mid none more.none;
+  next = subst (λ (n : ℕ). IsNext n more.mid.machine.world Run) (sym (ap (left_after q left) (events-join xs more.before) ∙ left-join q left (events xs) (events more.before))) more.next;
   last = more.last;
   met = more.met;
   all = ap (λ (zs : Steps). xs ++ zs) more.all ∙ sym (append_assoc xs more.before ((Run, more.outcome) ∷ []));
 }
 
-pub goes-none : (test : Test) (s : Recorded) (o : Output) → length o.last.items ≤ o.last.capacity → Goes test false 0 None s s o o
-goes-none test s o fits = record { list = []; adds = adds-none s; count = refl; reaches = refl; last_is = refl; shown = shown-none o fits }
+pub goes-none : (q : ℕ) (test : Test) (s : Recorded) (o : Output) → length o.last.items ≤ o.last.capacity → Goes q test false 0 None s s o o
+goes-none q test s o fits = record { list = []; adds = adds-none s; count = refl; reaches = refl; last_is = refl; shown = shown-none o fits }
 
-pub goes-join : (test : Test) (met : Bool) (n m : ℕ) (before last : Option Outcome) (a b c : Recorded) (i j k : Output) → 0 < m → Goes test false n before a b i j → Goes test met m last b c j k
-    → Goes test met (n + m) last a c i k
-goes-join test met n m before last a b c i j k some p q =
-    let more : 0 < length q.list = subst (λ l. 0 < l) (sym q.count) some in record {
-      list = p.list ++ q.list;
-      adds = subst (λ (es : List Event). Adds es a c) (sym (map-append (λ (e : Event × Outcome). e.0) p.list q.list)) (adds-join (events p.list) (events q.list) a b c p.adds q.adds);
-      count = length-append p.list q.list ∙ ap₂ (λ x y. x + y) p.count q.count;
-      reaches = reaches-join met test p.list q.list (running_of a) (running_of b) (running_of c) p.reaches q.reaches;
-      last_is = q.last_is ∙ sym (last-join p.list q.list more);
-      shown = subst (λ (bs : List ℕ). KeepsShown bs i k) (sym (flat_map-append (λ (e : Event × Outcome). bytes_out e.1) p.list q.list)) (shown-join (out p.list) (out q.list) i j k p.shown q.shown);
+pub goes-join : (q : ℕ) (test : Test) (met : Bool) (n m : ℕ) (before last : Option Outcome) (a b c : Recorded) (i j k : Output) → 0 < m → Goes q test false n before a b i j
+    → Goes q test met m last b c j k → Goes q test met (n + m) last a c i k
+goes-join q test met n m before last a b c i j k some p r =
+    let more : 0 < length r.list = subst (λ l. 0 < l) (sym r.count) some in record {
+      list = p.list ++ r.list;
+      adds = subst (λ (es : List Event). Adds es a c) (sym (events-join p.list r.list)) (adds-join (events p.list) (events r.list) a b c p.adds r.adds);
+      count = length-append p.list r.list ∙ ap₂ (λ x y. x + y) p.count r.count;
+      reaches = reaches-join met q test (runs_left q a.events) p.list r.list (running_of a) (running_of b) (running_of c) p.reaches
+          (subst (λ (left : ℕ). ReachesBy met q test left r.list (running_of b) (running_of c)) (left-added q (events p.list) a b p.adds) r.reaches);
+      last_is = r.last_is ∙ sym (last-join p.list r.list more);
+      shown = subst (λ (bs : List ℕ). KeepsShown bs i k) (sym (flat_map-append (λ (e : Event × Outcome). bytes_out e.1) p.list r.list)) (shown-join (out p.list) (out r.list) i j k p.shown r.shown);
     }
 
 -- ---- one event
 
-pub goes-byte : (test : Test) (o : Outcome) (old new : Recorded) (had has : Output) → waiting (running_of old) ≢ []
-    → Sent old runs.Send o new → KeepsShown (bytes_out o) had has → Goes test false 1 (Some o) old new had has
-goes-byte test o old new had has waits (one, same) shown = record {
-  list = (runs.Send, o) ∷ [];
+-- which is no Run
+pub goes-apart : (q : ℕ) (test : Test) (e : Event) (o : Outcome) (old new : Recorded) (had has : Output) → is_run e ≡ false → IsNext (runs_left q old.events) old.machine.world e
+    → Sent old e o new → KeepsShown (bytes_out o) had has → Goes q test false 1 (Some o) old new had has
+goes-apart q test e o old new had has apart next (one, same) shown = record {
+  list = (e, o) ∷ [];
   adds = same;
   count = refl;
-  reaches = (running_of new, one, waits, refl);
+  reaches = (running_of new, one, next, (λ is. let no : false ≡ true = sym apart ∙ is in let bad : ⊥ = cc in absurd bad), refl);
   last_is = refl;
   shown = subst (λ (bs : List ℕ). KeepsShown bs had has) (sym (append-nil (bytes_out o))) shown;
 }
 
-reaches-run : (met : Bool) (test : Test) (o : Outcome) (old new : Running) → waiting old ≡ [] → Advances old Run o new → test old o new ≡ met → ReachesBy met test ((Run, o) ∷ []) old new
-reaches-run false test o old new quiet one is = (new, one, (quiet, is), refl)
-reaches-run true test o old new quiet one is = record { before = []; mid = old; outcome = o; none = refl; quiet = quiet; last = one; met = is; all = refl }
+reaches-run : (met : Bool) (q : ℕ) (test : Test) (left : ℕ) (o : Outcome) (old new : Running) → IsNext left old.machine.world Run → Advances old Run o new → test old o new ≡ met
+    → ReachesBy met q test left ((Run, o) ∷ []) old new
+reaches-run false q test left o old new next one is = (new, one, next, (λ run. is), refl)
+reaches-run true q test left o old new next one is = record { before = []; mid = old; outcome = o; none = refl; next = next; last = one; met = is; all = refl }
 
-pub goes-run : (test : Test) (met : Bool) (o : Outcome) (old new : Recorded) (had has : Output) → waiting (running_of old) ≡ [] → Sent old Run o new → KeepsShown (bytes_out o) had has
-    → test (running_of old) o (running_of new) ≡ met → Goes test met 1 (Some o) old new had has
-goes-run test met o old new had has quiet (one, same) shown is = record {
+pub goes-run : (q : ℕ) (test : Test) (met : Bool) (o : Outcome) (old new : Recorded) (had has : Output) → IsNext (runs_left q old.events) old.machine.world Run → Sent old Run o new
+    → KeepsShown (bytes_out o) had has → test (running_of old) o (running_of new) ≡ met → Goes q test met 1 (Some o) old new had has
+goes-run q test met o old new had has next (one, same) shown is = record {
   list = (Run, o) ∷ [];
   adds = same;
   count = refl;
-  reaches = reaches-run met test o (running_of old) (running_of new) quiet one is;
+  reaches = reaches-run met q test (runs_left q old.events) o (running_of old) (running_of new) next one is;
   last_is = refl;
   shown = subst (λ (bs : List ℕ). KeepsShown bs had has) (sym (append-nil (bytes_out o))) shown;
 }
@@ -116,61 +124,76 @@ done-silent (runs.Sent byte) done = let bad : ⊥ = cc in absurd bad
 done-silent runs.Halted done = refl
 
 -- They led to none of the places: none of them is what is waited for
-record AreApart (aim : Aim) (marks : List Mark) (n : ℕ) (old new : Running) : Type 0 where
+record AreApart (q left : ℕ) (test : Test) (aim : Aim) (marks : List Mark) (n : ℕ) (old new : Running) : Type 0 where
   list : Steps
-  none : NoneMet (meets_one aim marks) list old new
+  none : NoneMet q test left list old new
   those : events list ≡ replicate n Run
   count : length list ≡ n
   silent : out list ≡ []
-  quiet : waiting new ≡ []
+  quiet : new.machine.world.state.console.to_send ≡ []
+  goes : SomebodyMayGoOn new.machine.world
   undue : AreUndue aim marks new.machine
 
 one-more : (n : ℕ) → replicate n Run ++ Run ∷ [] ≡ replicate (suc n) Run
 one-more zero = refl
 one-more (suc n) = ap (λ (es : List Event). Run ∷ es) (one-more n)
 
-module _ (aim : Aim) (marks : List Mark) (pcs bs : List ℕ) (far : IsFar aim) (are_as : pcs ≡ all_of Instructions aim marks) (are_bs : bs ≡ all_of Bytes aim marks) where
-  apart : (n : ℕ) (old new : Running) → waiting old ≡ [] → AreUndue aim marks old.machine → Unstopped pcs bs n old new → AreApart aim marks n old new
-  apart zero old new quiet before same = record {
+-- one that comes next after so many
+run-next : (q left n : ℕ) (list : Steps) (w : World) → events list ≡ replicate n Run → n < left → w.state.console.to_send ≡ [] → SomebodyMayGoOn w → IsNext (left_after q left (events list)) w Run
+run-next q left n list w those few quiet goes =
+    let some : 0 < left - n = omega (arith, few) in
+    (quiet, subst (λ (k : ℕ). 0 < k) (sym (ap (left_after q left) those ∙ runs-taken q left n)) some, goes)
+
+module _ (q : ℕ) (ran : Option ℕ) (aim : Aim) (marks : List Mark) (pcs bs : List ℕ) (far : IsFar aim) (are_as : pcs ≡ all_of Instructions aim marks) (are_bs : bs ≡ all_of Bytes aim marks) where
+  apart : (left n : ℕ) (old new : Running) → n ≤ left → old.machine.world.state.console.to_send ≡ [] → SomebodyMayGoOn old.machine.world → AreUndue aim marks old.machine
+      → Unstopped pcs bs n old new → AreApart q left (meets_one ran aim marks) aim marks n old new
+  apart left zero old new few quiet goes before same = record {
     list = [];
     none = same;
     those = refl;
     count = refl;
     silent = refl;
-    quiet = subst (λ (r : Running). waiting r ≡ []) (sym same) quiet;
+    quiet = subst (λ (r : Running). r.machine.world.state.console.to_send ≡ []) (sym same) quiet;
+    goes = subst (λ (r : Running). SomebodyMayGoOn r.machine.world) (sym same) goes;
     undue = subst (λ (r : Running). AreUndue aim marks r.machine) (sym same) before;
   }
-  apart (suc n) old new quiet before (mid, o, first, one, done, clear) =
-      let p = apart n old mid quiet before first in
-      let missed : meets_one aim marks mid o new ≡ false = unmet aim marks pcs bs far are_as are_bs mid new o p.undue done clear in record {
+  apart left (suc n) old new few quiet goes before (mid, o, first, one, done, clear) =
+      let p = apart left n old mid (omega (arith, few)) quiet goes before first in
+      let missed : meets_one ran aim marks mid o new ≡ false = unmet aim marks pcs bs far are_as are_bs ran mid new o p.undue done clear in
+      let next : IsNext (left_after q left (events p.list)) mid.machine.world Run = run-next q left n p.list mid.machine.world p.those (omega (arith, few)) p.quiet p.goes in record {
         list = p.list ++ (Run, o) ∷ [];
-        none = none-join (meets_one aim marks) p.list ((Run, o) ∷ []) old mid new p.none (new, one, (p.quiet, missed), refl);
-        those = map-append (λ (e : Event × Outcome). e.0) p.list ((Run, o) ∷ []) ∙ ap (λ (es : List Event). es ++ Run ∷ []) p.those ∙ one-more n;
+        none = none-join q (meets_one ran aim marks) left p.list ((Run, o) ∷ []) old mid new p.none (new, one, next, (λ run. missed), refl);
+        those = events-join p.list ((Run, o) ∷ []) ∙ ap (λ (es : List Event). es ++ Run ∷ []) p.those ∙ one-more n;
         count = length-append p.list ((Run, o) ∷ []) ∙ ap (λ (k : ℕ). k + 1) p.count ∙ add-one n;
         silent = flat_map-append (λ (e : Event × Outcome). bytes_out e.1) p.list ((Run, o) ∷ []) ∙ ap₂ (λ (us vs : List ℕ). us ++ vs) p.silent (ap (λ (bs : List ℕ). bs ++ []) (done-silent o done));
         quiet = done-quiet mid new o one done p.quiet;
+        goes = done-goes mid new o one done;
         undue = undue aim marks pcs bs far are_as are_bs new.machine clear;
       }
 
   -- and the last of them is, or isn't
-  pub goes-often : (most sent : ℕ) (stopped met : Bool) (told : Option Outcome) (o : Outcome) (old new : Recorded) (had has : Output) → 0 < most
-      → waiting (running_of old) ≡ [] → AreUndue aim marks old.machine
+  pub goes-often : (most sent : ℕ) (stopped met : Bool) (told : Option Outcome) (o : Outcome) (old new : Recorded) (had has : Output) → 0 < most → most ≤ runs_left q old.events
+      → IsNext (runs_left q old.events) old.machine.world Run → AreUndue aim marks old.machine
       → length had.last.items ≤ had.last.capacity → Stopped pcs bs most sent stopped told old new → told ≡ Some o → KeepsShown (bytes_out o) had has
-      → ((aims.meets_with aim false o new.machine || marked.meets_with marks false o (running_of new)) ≡ met) → Goes (meets_one aim marks) met sent (Some o) old new had has
-  goes-often most zero stopped met told o old new had has some quiet before fits ((none, a, b, d), same) is shown was = let bad : ⊥ = omega (arith, some, none) in absurd bad
-  goes-often most (suc n) stopped met told o old new had has some quiet before fits ((mid, q, first, one, stands, last, within, all), same) is shown was =
-      let p = apart n (running_of old) mid quiet before first in
-      let this : q ≡ o = same_Some q o (sym last ∙ is) in
-      let last_one : Advances mid Run o (running_of new) = subst (λ (x : Outcome). Advances mid Run x (running_of new)) this one in
-      let met_is : meets_one aim marks mid o (running_of new) ≡ met =
-      ap₂ (λ (x y : Bool). aims.meets_with aim x o new.machine || marked.meets_with marks y o (running_of new)) p.undue.by_aim p.undue.by_mark ∙ was in
+      → ((not (is_turn_of ran o) && (aims.meets_with aim false o new.machine || marked.meets_with marks false o (running_of new))) ≡ met)
+      → Goes q (meets_one ran aim marks) met sent (Some o) old new had has
+  goes-often most zero stopped met told o old new had has some few next before fits ((none, a, b, d), same) is shown was = let bad : ⊥ = omega (arith, some, none) in absurd bad
+  goes-often most (suc n) stopped met told o old new had has some few next before fits ((mid, x, first, one, stands, last, within, all), same) is shown was =
+      let test = meets_one ran aim marks in
+      let left = runs_left q old.events in
+      let p = apart left n (running_of old) mid (omega (arith, within, few)) next.0 next.2 before first in
+      let this : x ≡ o = same_Some x o (sym last ∙ is) in
+      let last_one : Advances mid Run o (running_of new) = subst (λ (y : Outcome). Advances mid Run y (running_of new)) this one in
+      let met_is : test mid o (running_of new) ≡ met =
+      ap₂ (λ (u v : Bool). not (is_turn_of ran o) && (aims.meets_with aim u o new.machine || marked.meets_with marks v o (running_of new))) p.undue.by_aim p.undue.by_mark ∙ was in
+      let last_next : IsNext (left_after q left (events p.list)) mid.machine.world Run = run-next q left n p.list mid.machine.world p.those (omega (arith, within, few)) p.quiet p.goes in
       let list : Steps = p.list ++ (Run, o) ∷ [] in
-      let those : events list ≡ replicate (suc n) Run = map-append (λ (e : Event × Outcome). e.0) p.list ((Run, o) ∷ []) ∙ ap (λ (es : List Event). es ++ Run ∷ []) p.those ∙ one-more n in record {
+      let those : events list ≡ replicate (suc n) Run = events-join p.list ((Run, o) ∷ []) ∙ ap (λ (es : List Event). es ++ Run ∷ []) p.those ∙ one-more n in record {
         list = list;
         adds = subst (λ (es : List Event). Adds es old new) (sym those) same;
         count = length-append p.list ((Run, o) ∷ []) ∙ ap (λ (k : ℕ). k + 1) p.count ∙ add-one n;
-        reaches = reaches-join met (meets_one aim marks) p.list ((Run, o) ∷ []) (running_of old) mid (running_of new) p.none
-            (reaches-run met (meets_one aim marks) o mid (running_of new) p.quiet last_one met_is);
+        reaches = reaches-join met q test left p.list ((Run, o) ∷ []) (running_of old) mid (running_of new) p.none
+            (reaches-run met q test (left_after q left (events p.list)) o mid (running_of new) last_next last_one met_is);
         last_is = sym (last-one p.list Run o);
         shown = subst (λ (bs : List ℕ). KeepsShown bs had has) (sym (flat_map-append (λ (e : Event × Outcome). bytes_out e.1) p.list ((Run, o) ∷ [])
             ∙ ap₂ (λ (us vs : List ℕ). us ++ vs) p.silent (append-nil (bytes_out o)))) shown;
@@ -185,11 +208,6 @@ waits (x ∷ xs) is same = let bad : ⊥ = cc in bad
 pub none_waits : (xs : List ℕ) → is_some (slice_get xs 0) ≡ false → xs ≡ []
 none_waits [] is = refl
 none_waits (x ∷ xs) is = let bad : ⊥ = cc in absurd bad
-
--- nobody may run, and no byte waits
-pub rests_quiet : (o : Option Stop) (w : World) → is_some (slice_get w.state.console.to_send 0) ≡ false → IfSome o (λ stop. RestsBy stop w) → IfSome o (λ stop. RestsQuiet stop w)
-rests_quiet None w none rests = tt
-rests_quiet (Some stop) w none rests = (rests, none_waits w.state.console.to_send none)
 
 -- ---- how many were sent
 
@@ -211,11 +229,16 @@ pub one_forth : {E : Type 0} (r : Result Went E) → IfOk r (λ w. w.sent ≡ 1)
 one_forth (Ok w) one = omega (arith, one)
 one_forth (Err e) one = tt
 
+-- fewer Runs than may be sent are left in the round
+pub part_within : {E : Type 0} (r : Result Went E) (part most left : ℕ) → part ≡ min most left → IfOk r (λ w. w.sent ≤ part) → IfOk r (λ w. w.sent ≤ most)
+part_within (Ok w) part most left is few = omega (arith, is, few)
+part_within (Err e) part most left is few = tt
+
 -- ---- the last is what is waited for
 
-pub reaches_met : (may_end : Bool) (test : Test) (most n : ℕ) (last : Option Outcome) (old new : Recorded) (had has : Output) → n ≤ most
-    → Goes test true n last old new had has → Reaches may_end test most Met n last old new had has
-reaches_met may_end test most n last old new had has within goes = record {
+pub reaches_met : (may_end : Bool) (q : ℕ) (test : Test) (most n : ℕ) (last : Option Outcome) (old new : Recorded) (had has : Output) → n ≤ most
+    → Goes q test true n last old new had has → Reaches may_end q test most Met n last old new had has
+reaches_met may_end q test most n last old new had has within goes = record {
   goes = goes;
   within = within;
   all = λ is. let bad : ⊥ = cc in absurd bad;
@@ -226,9 +249,9 @@ reaches_met may_end test most n last old new had has within goes = record {
 }
 
 -- as a word's journey tells it
-pub reaches_told : (may_end : Bool) (test : Test) (most : ℕ) (j : Journey) (n m : ℕ) (stop : Stop) (last : Option declared.Outcome) (old new : Recorded) (had has : Output)
+pub reaches_told : (may_end : Bool) (q : ℕ) (test : Test) (most : ℕ) (j : Journey) (n m : ℕ) (stop : Stop) (last : Option declared.Outcome) (old new : Recorded) (had has : Output)
     → j ≡ record { sent = m; stop = stop; last = last } → m ≡ n
-    → Reaches may_end test most stop n (option_map outcome_of last) old new had has → Reaches may_end test most j.stop j.sent (option_map outcome_of j.last) old new had has
-reaches_told may_end test most j n m stop last old new had has is same reaches =
-    subst (λ (k : Journey). Reaches may_end test most k.stop k.sent (option_map outcome_of k.last) old new had has) (sym is)
-    (subst (λ (k : ℕ). Reaches may_end test most stop k (option_map outcome_of last) old new had has) (sym same) reaches)
+    → Reaches may_end q test most stop n (option_map outcome_of last) old new had has → Reaches may_end q test most j.stop j.sent (option_map outcome_of j.last) old new had has
+reaches_told may_end q test most j n m stop last old new had has is same reaches =
+    subst (λ (k : Journey). Reaches may_end q test most k.stop k.sent (option_map outcome_of k.last) old new had has) (sym is)
+    (subst (λ (k : ℕ). Reaches may_end q test most stop k (option_map outcome_of last) old new had has) (sym same) reaches)

@@ -1,5 +1,5 @@
 -- A done instruction that leads to none of the places is no aim, and meets no mark.
-use Rattle.std.proofs.Common.{◌≡◌, ◌∷◌, ◌&&◌, ◌||◌, ℕ, ℤ, Bool, true, false, nat_eq, nat_le, List, [], Option, None, Some, flat_map, refl, sym, ap, ◌∙◌, subst}
+use Rattle.std.proofs.Common.{◌≡◌, ◌∷◌, ◌&&◌, ◌||◌, ℕ, ℤ, Bool, true, false, not, nat_eq, nat_le, List, [], Option, None, Some, flat_map, refl, sym, ap, ◌∙◌, subst}
 use Rattle.std.specs.List.{list_any}
 use Rattle.std.specs.Option.{option_to_list}
 use Rattle.std.proofs.lemmas.Bool.{or_parts, or_from, and_left, and_right, ne_eqb, eqb-false}
@@ -26,7 +26,7 @@ use Rattle.debug_words.specs.declared.vocabulary.Mark.TheVariants.{At, Store}
 use Rattle.xv_debug.specs.motion.Aims as aims
 use Rattle.xv_debug.specs.motion.Marks as marked
 use Rattle.xv_debug.specs.motion.Places.{IsFar, all_of, of_aim, of_mark}
-use Rattle.xv_debug.specs.motion.Reaching.{meets_one}
+use Rattle.xv_debug.specs.motion.Reaching.{is_turn_of, meets_one}
 use Rattle.xv_debug.specs.declared.motion.aiming.Aim.{Aim}
 use Rattle.xv_debug.specs.declared.motion.aiming.Aim.TheVariants.{Anything, On, Answer, Return, Outside}
 use Rattle.xv_debug.specs.declared.motion.places.Kind.TheVariants.{Instructions, Bytes}
@@ -208,9 +208,10 @@ module _ (aim : Aim) (marks : List Mark) (pcs bs : List ℕ) (far : IsFar aim) (
       (sym (list_any-append (λ a. is_storing a w) own theirs) ∙ sym (ap (list_any (λ a. is_storing a w)) are_bs) ∙ not-stored pcs bs w.state w.turns.current none) in
       record { by_aim = no-aim-due aim m apart.0; by_mark = no-mark-due w marks apart.1 }
 
-  pub unmet : (a b : Running) (o : Outcome) → AreUndue aim marks a.machine → is_done o ≡ true → is_before_stop pcs bs b.machine.world ≡ false → meets_one aim marks a o b ≡ false
-  unmet a b o before done none =
+  pub unmet : (ran : Option ℕ) (a b : Running) (o : Outcome) → AreUndue aim marks a.machine → is_done o ≡ true → is_before_stop pcs bs b.machine.world ≡ false → meets_one ran aim marks a o b ≡ false
+  unmet ran a b o before done none =
       let apart = addresses-apart b.machine none in
-      or_from (aims.meets aim a.machine o b.machine) (marked.meets_marks marks a o b)
+      and_right (not (is_turn_of ran o)) (aims.meets aim a.machine o b.machine || marked.meets_marks marks a o b)
+      (or_from (aims.meets aim a.machine o b.machine) (marked.meets_marks marks a o b)
       (ap (λ (due : Bool). aims.meets_with aim due o b.machine) before.by_aim ∙ no-aim aim o b.machine far done apart.0)
-      (ap (λ (due : Bool). marked.meets_with marks due o b) before.by_mark ∙ no-mark-at b marks apart.1)
+      (ap (λ (due : Bool). marked.meets_with marks due o b) before.by_mark ∙ no-mark-at b marks apart.1))

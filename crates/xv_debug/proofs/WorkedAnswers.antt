@@ -9,7 +9,7 @@ use Rattle.xv_report.specs.declared.waits.Wait.TheVariants.{Until, PipeBytes, Se
 use Rattle.kcall_core.specs.declared.kernel.observers.ProcessState.TheVariants as state
 use Rattle.debug_words.specs.Texts.{grouped_by}
 use Rattle.debug_words.specs.declared.vocabulary.Word.TheVariants.{Step, Next, Run}
-use Rattle.xv_debug.specs.declared.motion.journey.Stop.TheVariants.{Broken, Done, Met}
+use Rattle.xv_debug.specs.declared.motion.journey.Stop.TheVariants.{Asleep, Broken, Done, Met}
 use Rattle.xv_debug.specs.OutcomeText.{call_text, happened_text}
 use Rattle.xv_debug.specs.OutputText.{behind_bars}
 use Rattle.xv_debug.specs.PipeText.{count_text, holders_text, pipe_text, read_end_text, write_end_text}
@@ -54,6 +54,9 @@ a_byte = refl
 why_none : stop_text Next Done ++ stop_text (Step 3) Done ≡ codes "it has not come yet; a word sends 100000000 events at most, and the same word goes on\n"
 unfolding digits
 why_none = refl
+
+why_asleep : stop_text (Step 3) Asleep ++ stop_text Next Asleep ≡ codes "all processes sleep: tick moves the clock, key types\nall processes sleep, and no tick wakes one: key types\n"
+why_asleep = refl
 
 a_round_met : stop_text (Run 3) Met ++ stop_text Next Met ≡ codes "a process is gone by a fault: trace and back show more\n"
 a_round_met = refl

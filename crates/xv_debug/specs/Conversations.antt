@@ -3,9 +3,9 @@ use Rattle.std.specs.Prelude.{◌≡◌, ◌⊎◌, ℕ, zero, suc, Bool}
 use Rattle.xv_session.specs.Recorded.{Recorded}
 use Rattle.xv_debug.specs.Effects.{DoesSome}
 
--- A line leaves the session as it was, or does to it what a word does
+-- A line leaves the session as it was, or does to it what a word of a debugger does, whose rounds have so many Runs
 pub record MovesByWord (may_end : Bool) (old new : Recorded) : Type 0 where
-  pub moves : (new ≡ old) ⊎ DoesSome may_end old new
+  pub moves : (new ≡ old) ⊎ ((quantum : ℕ) × DoesSome may_end quantum old new)
 
 -- so many lines, one after another
 abbrev pub MovesByWords : (may_end : Bool) → ℕ → Recorded → Recorded → Type 0

@@ -18,7 +18,7 @@ use Rattle.xv_debug.specs.motion.Lines.{IsLineOf}
 use Rattle.xv_debug.specs.declared.motion.aiming.Aim.{Aim}
 use Rattle.xv_debug.specs.declared.motion.aiming.Aim.TheVariants.{On}
 use Rattle.xv_debug.specs.motion.Ran.{Ran}
-use Rattle.xv_debug.specs.motion.Reaching.{Reaches, IsRefusal, IsRefusedBy, Test, meets_one}
+use Rattle.xv_debug.specs.motion.Reaching.{Reaches, IsRefusal, IsRefusedBy, Test, met_from}
 use Rattle.xv_debug.specs.motion.Resting.{RestsIf}
 use Rattle.xv_debug.specs.motion.Rounds.{RoundsLeave}
 use Rattle.xv_debug.specs.motion.Sent.{Sends}
@@ -43,7 +43,7 @@ IsAimOf Fault s answer = answer ≡ Some (On waits_for.Fault)
 IsAimOf Exit s answer = answer ≡ Some (On waits_for.Exit)
 IsAimOf Line s answer = (p : Option ℕ) × IsFocus None s p × IsLineOf p s.machine.world answer
 
--- ---- what the words leave; `may_end` says whether they may be broken off
+-- ---- what the words leave; `may_end` says whether they may be broken off, and `quantum` how many Runs a round has
 
 -- So many Runs were sent, or fewer, where nobody may run, it was broken off, or the session keeps no more events; and it is known what came of the last
 pub record Steps (may_end : Bool) (count : ℕ) (old new : Recorded) : Type 0 where
@@ -59,31 +59,31 @@ pub record Steps (may_end : Bool) (count : ℕ) (old new : Recorded) : Type 0 wh
   pub rests : RestsIf stop new.machine.world
   pub reason : IsRefusedBy stop new
 
--- Events were sent up to the first Run that is what is waited for; or fewer than that, where nobody may run, it was broken off, the session keeps no more events, or all that a word may send were sent
-pub record Searches (may_end : Bool) (test : Test) (old new : Recorded) : Type 0 where
+-- Events were sent by the clock, up to the first Run that is what is waited for; or fewer than that, where nobody may go on and none waits for a tick, it was broken off, the session keeps no more events, or all that a word may send were sent
+pub record Searches (may_end : Bool) (quantum : ℕ) (test : Test) (old new : Recorded) : Type 0 where
   pub stop : Stop
   pub sent : ℕ
   pub last : Option Outcome
   pub had : Output
   pub has : Output
-  pub reaches : Reaches may_end test EVENTS_MOST stop sent last old new had has
+  pub reaches : Reaches may_end quantum test EVENTS_MOST stop sent last old new had has
 
 -- up to this aim; where there is none, all stays
-abbrev pub SearchesAim : (may_end : Bool) → Option Aim → Recorded → Recorded → Type 0
-SearchesAim may_end None old new = new ≡ old
-SearchesAim may_end (Some aim) old new = Searches may_end (meets_one aim []) old new
+abbrev pub SearchesAim : (may_end : Bool) → (quantum : ℕ) → Option Aim → Recorded → Recorded → Type 0
+SearchesAim may_end quantum None old new = new ≡ old
+SearchesAim may_end quantum (Some aim) old new = Searches may_end quantum (met_from old aim []) old new
 
 -- up to a goal
-pub record SearchesGoal (may_end : Bool) (goal : Goal) (old new : Recorded) : Type 0 where
+pub record SearchesGoal (may_end : Bool) (quantum : ℕ) (goal : Goal) (old new : Recorded) : Type 0 where
   pub aim : Option Aim
   pub is : IsAimOf goal old aim
-  pub searches : SearchesAim may_end aim old new
+  pub searches : SearchesAim may_end quantum aim old new
 
 -- up to the end of the function in which the process that runs is, if it is known where that is
-pub record Finishes (may_end : Bool) (old new : Recorded) : Type 0 where
+pub record Finishes (may_end : Bool) (quantum : ℕ) (old new : Recorded) : Type 0 where
   pub aim : Option Aim
   pub is : IfSome aim (IsFinishAim old.machine.world)
-  pub searches : SearchesAim may_end aim old new
+  pub searches : SearchesAim may_end quantum aim old new
 
 -- These events were sent, or the first of them, where it was broken off, or the session keeps no more
 pub record SendsFirst (may_end : Bool) (wanted : ℕ → List Event) (all : ℕ) (old new : Recorded) : Type 0 where
@@ -101,11 +101,11 @@ pub record SendsFirst (may_end : Bool) (wanted : ℕ → List Event) (all : ℕ)
   pub reason : IsRefusedBy stop new
 
 -- Rounds were played
-pub record Plays (may_end : Bool) (most : ℕ) (old new : Recorded) : Type 0 where
+pub record Plays (may_end : Bool) (quantum : ℕ) (most : ℕ) (old new : Recorded) : Type 0 where
   pub stop : Stop
   pub had : Output
   pub has : Output
-  pub leaves : RoundsLeave may_end 1000 most stop old new had has
+  pub leaves : RoundsLeave may_end quantum most stop old new had has
 
 -- It has gone back by so many events, to the boot where there were fewer; or it is as it was, where it was broken off, or the host had too little memory
 abbrev pub GoesBack : (count : ℕ) → Recorded → Recorded → Type 0
@@ -123,23 +123,23 @@ pub record SeeksBack (goal : Goal) (old new : Recorded) : Type 0 where
   pub goes : GoesBackTo aim old new
 
 -- What a word leaves
-abbrev pub Does : (may_end : Bool) → words.Word → Recorded → Recorded → Type 0
-Does may_end (Step count) old new = Steps may_end count old new
-Does may_end Next old new = Searches may_end (meets_one (aim_in old.machine.world) []) old new
-Does may_end (Until goal) old new = SearchesGoal may_end goal old new
-Does may_end (Run rounds) old new = Plays may_end rounds old new
-Does may_end (Tick count) old new = SendsFirst may_end (λ n. replicate n runs.Tick) count old new
-Does may_end (Send count) old new = SendsFirst may_end (λ n. replicate n runs.Send) count old new
-Does may_end (Key keys) old new = SendsFirst false (λ n. map runs.Key (take n keys.items)) (length keys.items) old new
-Does may_end (Back count) old new = GoesBack count old new
-Does may_end (BackUntil goal) old new = SeeksBack goal old new
-Does may_end (ToMark marks) old new = Searches may_end (meets_one (On waits_for.Fault) marks.items) old new
-Does may_end Finish old new = Finishes may_end old new
-Does may_end _ old new = new ≡ old
+abbrev pub Does : (may_end : Bool) → (quantum : ℕ) → words.Word → Recorded → Recorded → Type 0
+Does may_end quantum (Step count) old new = Steps may_end count old new
+Does may_end quantum Next old new = Searches may_end quantum (met_from old (aim_in old.machine.world) []) old new
+Does may_end quantum (Until goal) old new = SearchesGoal may_end quantum goal old new
+Does may_end quantum (Run rounds) old new = Plays may_end quantum rounds old new
+Does may_end quantum (Tick count) old new = SendsFirst may_end (λ n. replicate n runs.Tick) count old new
+Does may_end quantum (Send count) old new = SendsFirst may_end (λ n. replicate n runs.Send) count old new
+Does may_end quantum (Key keys) old new = SendsFirst false (λ n. map runs.Key (take n keys.items)) (length keys.items) old new
+Does may_end quantum (Back count) old new = GoesBack count old new
+Does may_end quantum (BackUntil goal) old new = SeeksBack goal old new
+Does may_end quantum (ToMark marks) old new = Searches may_end quantum (met_from old (On waits_for.Fault) marks.items) old new
+Does may_end quantum Finish old new = Finishes may_end quantum old new
+Does may_end quantum _ old new = new ≡ old
 
 -- Where the host had too little memory for its answer, it may have done nothing
-abbrev pub DoesOrStays : (may_end : Bool) → words.Word → Recorded → Recorded → Type 0
-DoesOrStays may_end word old new = (new ≡ old) ⊎ Does may_end word old new
+abbrev pub DoesOrStays : (may_end : Bool) → (quantum : ℕ) → words.Word → Recorded → Recorded → Type 0
+DoesOrStays may_end quantum word old new = (new ≡ old) ⊎ Does may_end quantum word old new
 
 -- ---- what a line leaves
 
@@ -150,14 +150,14 @@ next_of Quit = ends.Ends
 next_of _ = ends.Stays
 
 -- What some word leaves whose numbers are in their ranges. A line that is no word is answered as the word Nothing is, which does nothing
-pub record DoesSome (may_end : Bool) (old new : Recorded) : Type 0 where
+pub record DoesSome (may_end : Bool) (quantum : ℕ) (old new : Recorded) : Type 0 where
   pub word : words.Word
   pub in_range : IsInRange word
-  pub does : Does may_end word old new
+  pub does : Does may_end quantum word old new
 
 -- and what comes behind its answer
-pub record Obeys (may_end : Bool) (old new : Recorded) (next : behind_words.Next) : Type 0 where
+pub record Obeys (may_end : Bool) (quantum : ℕ) (old new : Recorded) (next : behind_words.Next) : Type 0 where
   pub word : words.Word
   pub in_range : IsInRange word
-  pub does : Does may_end word old new
+  pub does : Does may_end quantum word old new
   pub behind : next ≡ next_of word

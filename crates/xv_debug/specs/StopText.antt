@@ -9,7 +9,7 @@ use Rattle.xv_session.specs.declared.session.SessionError.TheVariants.{Memory, F
 use Rattle.debug_words.specs.Texts.{many}
 use Rattle.debug_words.specs.declared.vocabulary.TheConstants.{EVENTS_MOST}
 use Rattle.debug_words.specs.declared.vocabulary.Word.{Word}
-use Rattle.debug_words.specs.declared.vocabulary.Word.TheVariants.{Next, Until, Run, Finish, ToMark}
+use Rattle.debug_words.specs.declared.vocabulary.Word.TheVariants.{Step, Next, Until, Run, Finish, ToMark}
 use Rattle.xv_debug.specs.declared.motion.journey.Journey.{Journey}
 use Rattle.xv_debug.specs.declared.motion.journey.Stop.{Stop}
 use Rattle.xv_debug.specs.declared.motion.journey.Stop.TheVariants.{Done, Met, Asleep, Halted, Broken, Refused}
@@ -40,9 +40,14 @@ done_text _ = []
 abbrev pub broken_text : List ℕ
 broken_text = codes "it was broken off here: what was sent stays, and back goes back\n"
 
+-- where all processes sleep: a word that goes by the clock stops there only if none sleeps up to a tick
+abbrev pub asleep_text : Word → List ℕ
+asleep_text (Step count) = codes "all processes sleep: tick moves the clock, key types\n"
+asleep_text _ = codes "all processes sleep, and no tick wakes one: key types\n"
+
 -- why a word sent no more
 abbrev pub stop_text : Word → Stop → List ℕ
-stop_text word Asleep = codes "all processes sleep: tick moves the clock, key types\n"
+stop_text word Asleep = asleep_text word
 stop_text word Halted = codes "the machine has halted: nothing runs any more, but back goes back\n"
 stop_text word Broken = broken_text
 stop_text word (Refused error) = refusal_text error

@@ -1,5 +1,6 @@
 pub mod Aims
 pub mod Backwards
+pub mod Clock
 pub mod Effects
 pub mod Finishing
 pub mod Lines
@@ -11,3 +12,4 @@ pub mod Resting
 pub mod Rounds
 pub mod Sent
 pub mod Shown
+pub mod Ways

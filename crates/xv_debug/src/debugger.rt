@@ -31,7 +31,7 @@ use xv_session::{Condition, Patience, Session};
 /// The instructions that `where` lists.
 const INSTRUCTIONS: u32 = 8;
 
-/// The Runs in a round of `run`: as many as in one of `xv_run`.
+/// The Runs in a round, if nothing else is said: as many as in one of `xv_run`.
 const QUANTUM: u32 = 1000;
 
 /// What comes after an answer.
@@ -48,6 +48,8 @@ pub enum Next {
 /// A debugger: what it remembers between its words. The session isn't part of it.
 #[derive(Drop)]
 pub struct Debugger {
+    /// The Runs in a round.
+    quantum: u32,
     /// The address after the memory that was shown last.
     shown: u64,
     /// What is known of the sources of the session's programs, if anything is.
@@ -146,9 +148,10 @@ impl Debugger {
     ghost use Rattle.kcall_core.specs.Observers.{process_at};
     ghost use Rattle.debug_words.specs.Ranges.{IsInRange};
     ghost use Rattle.xv_session.specs.declared.until.Condition.TheVariants.{Fault};
+    ghost use Rattle.xv_debug.specs.declared.debugger.TheConstants.{QUANTUM};
     ghost use Rattle.xv_debug.specs.declared.motion.aiming.Aim.TheVariants.{On};
     ghost use Rattle.xv_debug.specs.motion.Backwards.{GoesBackUntil};
-    ghost use Rattle.xv_debug.specs.motion.Reaching.{meets_one};
+    ghost use Rattle.xv_debug.specs.motion.Reaching.{met_from};
     ghost use Rattle.debug_views.specs.MemoryText.{memory_shown};
     ghost use Rattle.debug_views.specs.Written.{Writes};
     ghost use Rattle.xv_debug.specs.AnswerText.{Answers, BackTells, BackUntilTells, FinishTells, GoalTells, IsBackText};
@@ -164,10 +167,12 @@ impl Debugger {
     /// A debugger that has seen nothing. The names of functions come from the programs' own symbols, and no line is
     /// known.
     pub fn new() -> Debugger
+        ensures quantum { result.quantum ≡ QUANTUM }
         ensures shown { result.shown ≡ 0 }
         ensures sources { result.sources ≡ None }
     {
         Debugger {
+            quantum: QUANTUM,
             shown: 0,
             sources: None,
             marks: KeptMarks::new(),
@@ -177,10 +182,12 @@ impl Debugger {
 
     /// A debugger that has seen nothing, and knows this of the programs' sources.
     pub fn with_sources(sources: Sources) -> Debugger
+        ensures quantum { result.quantum ≡ QUANTUM }
         ensures shown { result.shown ≡ 0 }
         ensures sources { result.sources ≡ Some sources }
     {
         Debugger {
+            quantum: QUANTUM,
             shown: 0,
             sources: Some(sources),
             marks: KeptMarks::new(),
@@ -188,13 +195,16 @@ impl Debugger {
         }
     }
 
-    /// The same, of a machine that nobody lets go on after it: so `c` goes on up to a fault, if there is no mark.
-    pub fn alone(sources: Sources) -> Debugger
+    /// The same, of a machine that nobody lets go on after it: so `c` goes on up to a fault, if there is no mark. Its rounds
+    /// have so many Runs.
+    pub fn alone(sources: Sources, quantum: u32) -> Debugger
+        ensures quantum { result.quantum ≡ quantum }
         ensures shown { result.shown ≡ 0 }
         ensures sources { result.sources ≡ Some sources }
         ensures alone { result.alone ≡ true }
     {
         Debugger {
+            quantum,
             shown: 0,
             sources: Some(sources),
             marks: KeptMarks::new(),
@@ -248,8 +258,8 @@ impl Debugger {
         patience: &mut P,
         answer: &mut String,
     ) -> Result<Next, AllocError>
-        ensures done { IfOk result (λ next. Obeys P.may_end session.old session.new next) }
-        ensures failed { IfErr result (λ _. (session.new ≡ session.old) ⊎ DoesSome P.may_end session.old session.new) }
+        ensures done { IfOk result (λ next. Obeys P.may_end self.old.quantum session.old session.new next) }
+        ensures failed { IfErr result (λ _. (session.new ≡ session.old) ⊎ DoesSome P.may_end self.old.quantum session.old session.new) }
     {
         match self.read(session, line) {
             Ok(word) => self.answer_marked(alloc, session, word, patience, answer),
@@ -299,8 +309,8 @@ impl Debugger {
         answer: &mut String,
     ) -> Result<Next, AllocError>
         requires { IsInRange word }
-        ensures done { IfOk result (λ next. Obeys P.may_end session.old session.new next) }
-        ensures failed { IfErr result (λ _. (session.new ≡ session.old) ⊎ DoesSome P.may_end session.old session.new) }
+        ensures done { IfOk result (λ next. Obeys P.may_end self.old.quantum session.old session.new next) }
+        ensures failed { IfErr result (λ _. (session.new ≡ session.old) ⊎ DoesSome P.may_end self.old.quantum session.old session.new) }
     {
         let word = self.with_marks(word);
         let next = self.obey_word(alloc, session, &word, patience, answer);
@@ -327,8 +337,8 @@ impl Debugger {
         answer: &mut String,
     ) -> Result<Next, AllocError>
         requires { IsInRange word.now }
-        ensures done { IfOk result (λ next. Obeys P.may_end session.old session.new next) }
-        ensures failed { IfErr result (λ _. (session.new ≡ session.old) ⊎ DoesSome P.may_end session.old session.new) }
+        ensures done { IfOk result (λ next. Obeys P.may_end self.old.quantum session.old session.new next) }
+        ensures failed { IfErr result (λ _. (session.new ≡ session.old) ⊎ DoesSome P.may_end self.old.quantum session.old session.new) }
     {
         self.answer(alloc, session, word, patience, answer)
     }
@@ -346,12 +356,12 @@ impl Debugger {
         patience: &mut P,
         answer: &mut String,
     ) -> Result<Next, AllocError>
-        ensures done { IfOk result (λ _. Does P.may_end word.now session.old session.new) }
+        ensures done { IfOk result (λ _. Does P.may_end self.old.quantum word.now session.old session.new) }
         ensures next { IfOk result (λ next. next ≡ next_of word.now) }
         ensures told { OnOk result
-            (Answers P.may_end self.old.shown word.now session.old session.new
+            (Answers P.may_end self.old.quantum self.old.shown word.now session.old session.new
             (string_bytes answer.old) (string_bytes answer.new)) }
-        ensures failed { IfErr result (λ _. DoesOrStays P.may_end word.now session.old session.new) }
+        ensures failed { IfErr result (λ _. DoesOrStays P.may_end self.old.quantum word.now session.old session.new) }
     {
         self.act(alloc, session, word, patience, answer)?;
         Ok(next_of(word))
@@ -366,11 +376,11 @@ impl Debugger {
         patience: &mut P,
         answer: &mut String,
     ) -> Result<(), AllocError>
-        ensures done { IfOk result (λ _. Does P.may_end word.now session.old session.new) }
+        ensures done { IfOk result (λ _. Does P.may_end self.old.quantum word.now session.old session.new) }
         ensures told { OnOk result
-            (Answers P.may_end self.old.shown word.now session.old session.new
+            (Answers P.may_end self.old.quantum self.old.shown word.now session.old session.new
             (string_bytes answer.old) (string_bytes answer.new)) }
-        ensures failed { IfErr result (λ _. DoesOrStays P.may_end word.now session.old session.new) }
+        ensures failed { IfErr result (λ _. DoesOrStays P.may_end self.old.quantum word.now session.old session.new) }
     {
         match word {
             Word::Back { count } => self.go_back(alloc, session, *count, patience, answer),
@@ -482,7 +492,7 @@ impl Debugger {
         self.tell(alloc, session, word, &journey, answer)
     }
 
-    /// Sends Runs up to an aim or a mark, and tells what came of them.
+    /// Sends events by the clock up to an aim or a mark, and tells what came of them.
     fn search<P: Patience>(
         &self,
         alloc: Global,
@@ -493,18 +503,26 @@ impl Debugger {
         patience: &mut P,
         answer: &mut String,
     ) -> Result<(), AllocError>
-        ensures done { IfOk result (λ _. Searches P.may_end (meets_one aim.now marks.now) session.old session.new) }
+        ensures done { IfOk result (λ _. Searches P.may_end self.now.quantum (met_from session.old aim.now marks.now) session.old session.new) }
         ensures told { OnOk result
-            (SearchTells P.may_end word.now (meets_one aim.now marks.now)
+            (SearchTells P.may_end self.now.quantum word.now (met_from session.old aim.now marks.now)
             session.old session.new (string_bytes answer.old) (string_bytes answer.new)) }
-        ensures failed { IfErr result (λ _. (session.new ≡ session.old) ⊎ Searches P.may_end (meets_one aim.now marks.now) session.old session.new) }
+        ensures failed { IfErr result (λ _. (session.new ≡ session.old) ⊎ Searches P.may_end self.now.quantum (met_from session.old aim.now marks.now) session.old session.new) }
     {
         let mut output = Output::new(alloc)?;
-        let journey = motion::search(session, EVENTS_MOST, aim, marks, patience, &mut output);
+        let journey = motion::search(
+            session,
+            self.quantum,
+            EVENTS_MOST,
+            aim,
+            marks,
+            patience,
+            &mut output,
+        );
         self.tell_shown(alloc, session, word, &journey, &output, answer)
     }
 
-    /// Sends Runs up to the end of an instruction, and of the call that it makes.
+    /// Sends events by the clock up to the end of an instruction, and of the call that it makes.
     fn next<P: Patience>(
         &self,
         alloc: Global,
@@ -513,17 +531,17 @@ impl Debugger {
         patience: &mut P,
         answer: &mut String,
     ) -> Result<(), AllocError>
-        ensures done { IfOk result (λ _. Searches P.may_end (meets_one (aim_in session.old.machine.world) []) session.old session.new) }
+        ensures done { IfOk result (λ _. Searches P.may_end self.now.quantum (met_from session.old (aim_in session.old.machine.world) []) session.old session.new) }
         ensures told { OnOk result
-            (SearchTells P.may_end word.now (meets_one (aim_in session.old.machine.world) [])
+            (SearchTells P.may_end self.now.quantum word.now (met_from session.old (aim_in session.old.machine.world) [])
             session.old session.new (string_bytes answer.old) (string_bytes answer.new)) }
-        ensures failed { IfErr result (λ _. (session.new ≡ session.old) ⊎ Searches P.may_end (meets_one (aim_in session.old.machine.world) []) session.old session.new) }
+        ensures failed { IfErr result (λ _. (session.new ≡ session.old) ⊎ Searches P.may_end self.now.quantum (met_from session.old (aim_in session.old.machine.world) []) session.old session.new) }
     {
         let aim = motion::aim_in(session.machine());
         self.search(alloc, session, word, &aim, &[], patience, answer)
     }
 
-    /// Sends Runs up to the first that meets one of these marks, or by which a process is gone by a fault.
+    /// Sends events by the clock up to the first Run that meets one of these marks, or by which a process is gone by a fault.
     fn go_on<P: Patience>(
         &self,
         alloc: Global,
@@ -533,11 +551,11 @@ impl Debugger {
         patience: &mut P,
         answer: &mut String,
     ) -> Result<(), AllocError>
-        ensures done { IfOk result (λ _. Searches P.may_end (meets_one (On Fault) marks.now.items) session.old session.new) }
+        ensures done { IfOk result (λ _. Searches P.may_end self.now.quantum (met_from session.old (On Fault) marks.now.items) session.old session.new) }
         ensures told { OnOk result
-            (SearchTells P.may_end word.now (meets_one (On Fault) marks.now.items)
+            (SearchTells P.may_end self.now.quantum word.now (met_from session.old (On Fault) marks.now.items)
             session.old session.new (string_bytes answer.old) (string_bytes answer.new)) }
-        ensures failed { IfErr result (λ _. (session.new ≡ session.old) ⊎ Searches P.may_end (meets_one (On Fault) marks.now.items) session.old session.new) }
+        ensures failed { IfErr result (λ _. (session.new ≡ session.old) ⊎ Searches P.may_end self.now.quantum (met_from session.old (On Fault) marks.now.items) session.old session.new) }
     {
         let aim = Aim::On(Condition::Fault);
         self.search(
@@ -551,7 +569,7 @@ impl Debugger {
         )
     }
 
-    /// Sends Runs up to the end of the function in which the process that runs is; none if it isn't known.
+    /// Sends events by the clock up to the end of the function in which the process that runs is; none if it isn't known.
     fn finish<P: Patience>(
         &self,
         alloc: Global,
@@ -560,11 +578,11 @@ impl Debugger {
         patience: &mut P,
         answer: &mut String,
     ) -> Result<(), AllocError>
-        ensures done { IfOk result (λ _. Finishes P.may_end session.old session.new) }
+        ensures done { IfOk result (λ _. Finishes P.may_end self.now.quantum session.old session.new) }
         ensures told { OnOk result
-            (FinishTells P.may_end word.now session.old session.new
+            (FinishTells P.may_end self.now.quantum word.now session.old session.new
             (string_bytes answer.old) (string_bytes answer.new)) }
-        ensures failed { IfErr result (λ _. (session.new ≡ session.old) ⊎ Finishes P.may_end session.old session.new) }
+        ensures failed { IfErr result (λ _. (session.new ≡ session.old) ⊎ Finishes P.may_end self.now.quantum session.old session.new) }
     {
         match motion::finish_aim(session, self.sources.as_ref()) {
             Some(aim) => self.search(alloc, session, word, &aim, &[], patience, answer),
@@ -572,7 +590,7 @@ impl Debugger {
         }
     }
 
-    /// Sends Runs up to a goal; none if it is asked of a process that isn't there.
+    /// Sends events by the clock up to a goal; none if it is asked of a process that isn't there.
     fn seek<P: Patience>(
         &self,
         alloc: Global,
@@ -582,11 +600,11 @@ impl Debugger {
         patience: &mut P,
         answer: &mut String,
     ) -> Result<(), AllocError>
-        ensures done { IfOk result (λ _. SearchesGoal P.may_end goal.now session.old session.new) }
+        ensures done { IfOk result (λ _. SearchesGoal P.may_end self.now.quantum goal.now session.old session.new) }
         ensures told { OnOk result
-            (GoalTells P.may_end word.now goal.now session.old session.new
+            (GoalTells P.may_end self.now.quantum word.now goal.now session.old session.new
             (string_bytes answer.old) (string_bytes answer.new)) }
-        ensures failed { IfErr result (λ _. (session.new ≡ session.old) ⊎ SearchesGoal P.may_end goal.now session.old session.new) }
+        ensures failed { IfErr result (λ _. (session.new ≡ session.old) ⊎ SearchesGoal P.may_end self.now.quantum goal.now session.old session.new) }
     {
         match self.aim(session, goal) {
             Some(aim) => self.search(alloc, session, word, &aim, &[], patience, answer),
@@ -635,7 +653,7 @@ impl Debugger {
         }
     }
 
-    /// Plays P.may_end rounds, and tells what came of them.
+    /// Plays so many rounds, and tells what came of them.
     fn play<P: Patience>(
         &self,
         alloc: Global,
@@ -645,14 +663,14 @@ impl Debugger {
         patience: &mut P,
         answer: &mut String,
     ) -> Result<(), AllocError>
-        ensures done { IfOk result (λ _. Plays P.may_end rounds session.old session.new) }
+        ensures done { IfOk result (λ _. Plays P.may_end self.now.quantum rounds session.old session.new) }
         ensures told { OnOk result
-            (RoundsTell P.may_end word.now rounds session.old session.new
+            (RoundsTell P.may_end self.now.quantum word.now rounds session.old session.new
             (string_bytes answer.old) (string_bytes answer.new)) }
-        ensures failed { IfErr result (λ _. (session.new ≡ session.old) ⊎ Plays P.may_end rounds session.old session.new) }
+        ensures failed { IfErr result (λ _. (session.new ≡ session.old) ⊎ Plays P.may_end self.now.quantum rounds session.old session.new) }
     {
         let mut output = Output::new(alloc)?;
-        let journey = motion::play_rounds(session, QUANTUM, rounds, patience, &mut output);
+        let journey = motion::play_rounds(session, self.quantum, rounds, patience, &mut output);
         self.tell_shown(alloc, session, word, &journey, &output, answer)
     }
 

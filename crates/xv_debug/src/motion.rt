@@ -1,8 +1,9 @@
 //! The debugger's words that move a session: they send it events, or take it back.
 //!
-//! [`step`] sends so many Runs (`specs/motion/Ran.antt`); [`search`] sends Runs up to what is waited for, and takes the
-//! bytes that wait in the console (`specs/motion/Reaching.antt`, `specs/motion/Aims.antt`, `specs/motion/Marks.antt`).
-//! Neither sends one if nobody may run (`specs/motion/Resting.antt`). [`send_often`], [`type_keys`] and [`play_rounds`]
+//! [`step`] sends so many Runs (`specs/motion/Ran.antt`), and none if nobody may run (`specs/motion/Resting.antt`).
+//! [`search`] goes by the clock (`specs/motion/Clock.antt`) up to a Run that is what is waited for, and takes the bytes
+//! that wait in the console (`specs/motion/Reaching.antt`, `specs/motion/Aims.antt`, `specs/motion/Marks.antt`). It ends
+//! if nobody may go on, and no tick wakes one. [`send_often`], [`type_keys`] and [`play_rounds`]
 //! send the other events. [`go_back`] takes the last ones back, [`back_until`] those after the last Run that is the aim
 //! (`specs/motion/Backwards.antt`). All but [`type_keys`] ask a `Patience` now and then (`pace.rt`), and end if it is over.
 //! Each promises which events the session has got then (`specs/motion/Effects.antt`): no event is sent that isn't kept, and
@@ -10,6 +11,7 @@
 
 mod aiming;
 mod backwards;
+mod clock;
 mod finishing;
 mod journey;
 mod lines;

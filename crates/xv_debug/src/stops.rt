@@ -1,7 +1,7 @@
 //! What a word has sent, and why no more, in words.
 ghost use Rattle.std.specs.Prelude.{◌≡◌, ◌++◌, OnOk, option_map, string_bytes};
 ghost use Rattle.xv_machine.specs.Events.{outcome_of};
-ghost use Rattle.xv_debug.specs.StopText.{broken_text, done_text, last_text, met_text, not_yet, refusal_text, stop_text, told_journey, unplayed_text};
+ghost use Rattle.xv_debug.specs.StopText.{asleep_text, broken_text, done_text, last_text, met_text, not_yet, refusal_text, stop_text, told_journey, unplayed_text};
 
 use crate::happened::Happened;
 use crate::motion::{Journey, Stop};
@@ -53,12 +53,24 @@ fn show_broken(answer: &mut String) -> Result<(), AllocError>
     answer.push_str("it was broken off here: what was sent stays, and back goes back\n")
 }
 
+/// Writes that all processes sleep.
+fn show_asleep(word: &Word, answer: &mut String) -> Result<(), AllocError>
+    ensures { OnOk result (string_bytes answer.new ≡ string_bytes answer.old ++ asleep_text word.now) }
+{
+    match word {
+        Word::Step { .. } => {
+            answer.push_str("all processes sleep: tick moves the clock, key types\n")
+        }
+        _ => answer.push_str("all processes sleep, and no tick wakes one: key types\n"),
+    }
+}
+
 /// Writes why a word sent no more events.
 fn show_stop(word: &Word, stop: &Stop, answer: &mut String) -> Result<(), AllocError>
     ensures { OnOk result (string_bytes answer.new ≡ string_bytes answer.old ++ stop_text word.now stop.now) }
 {
     match stop {
-        Stop::Asleep => answer.push_str("all processes sleep: tick moves the clock, key types\n"),
+        Stop::Asleep => show_asleep(word, answer),
         Stop::Halted => answer.push_str(
             "the machine has halted: nothing runs any more, but back goes back\n",
         ),

@@ -3,7 +3,7 @@ ghost use Rattle.std.specs.Prelude.{IfOk};
 ghost use Rattle.terminal_session.specs.DebugSettings.{AreInRange};
 
 use crate::debugging::NAME;
-use program_files::{CommandLine, CommandWord, FRAMES, TRACE, WordsError, given_words};
+use program_files::{CommandLine, CommandWord, FRAMES, QUANTUM, TRACE, WordsError, given_words};
 use std::rt::Env;
 
 /// What the words ask for.
@@ -11,6 +11,8 @@ use std::rt::Env;
 pub(crate) struct Settings {
     /// Frames of RAM: 16 to 32,768.
     pub frames: u32,
+    /// The Runs in a round: 1 to 1,000,000.
+    pub quantum: u32,
     /// The most notes that the trace keeps: 0 to 65,536.
     pub trace: u32,
     /// Whether a prompt is written before each line is read, and the line isn't written again.
@@ -50,6 +52,7 @@ const COMMAND_LINE: CommandLine = CommandLine {
     more_help: MORE_HELP,
     words: &[
         CommandWord::Number(&FRAMES),
+        CommandWord::Number(&QUANTUM),
         CommandWord::Number(&TRACE),
         CommandWord::Flag {
             name: PROMPT,
@@ -75,12 +78,14 @@ pub(crate) fn read_settings<R: Env + AllocGlobal>(rt: &R) -> Result<Settings, Wo
 {
     let given = given_words(rt, &COMMAND_LINE)?;
     let frames = given.number(&FRAMES)?;
+    let quantum = given.number(&QUANTUM)?;
     let trace = given.number(&TRACE)?;
     let prompt = given.flag(PROMPT);
     let lines = given.text(LINES)?;
     let files = given.files()?;
     Ok(Settings {
         frames,
+        quantum,
         trace,
         prompt,
         lines,

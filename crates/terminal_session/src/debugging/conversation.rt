@@ -66,6 +66,7 @@ impl Conversation {
     ghost use Rattle.xv_debug.specs.Conversations.{Converses, MovesByWord};
 
     /// Does what a line says, and writes the answer.
+    #[tactic(auto, using(xv_debug::proofs::Conversed::obeyed, xv_debug::proofs::Conversed::unanswered))]
     fn answer<W: Write>(
         &mut self,
         alloc: Global,

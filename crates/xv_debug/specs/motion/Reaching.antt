@@ -1,14 +1,16 @@
--- Events that are sent up to the first Run that is what is waited for.
-use Rattle.std.specs.Prelude.{◌≡◌, ◌≢◌, ◌≤◌, ◌<◌, ◌||◌, ℕ, length, Bool, true, false, List, [], ◌∷◌, ◌++◌, Option}
-use Rattle.kernel_spec.specs.runs.Run as runs
-use Rattle.kernel_spec.specs.runs.Run.{Event, Run, Outcome, out}
+-- Events that are sent by the clock, up to the first Run that is what is waited for.
+use Rattle.std.specs.Prelude.{◌≡◌, ◌≤◌, ◌<◌, ◌&&◌, ◌||◌, ℕ, length, Bool, true, false, not, List, [], ◌∷◌, ◌++◌, Option}
+use Rattle.kernel_spec.specs.runs.Run.{Event, Run, Outcome, Turn, out}
 use Rattle.kernel_spec.specs.runs.Rounds.{events}
+use Rattle.kernel_spec.specs.views.Words.{is_this}
 use Rattle.xv_session.specs.Answers.{IsReason}
 use Rattle.xv_session.specs.Recorded.{Recorded, running_of}
 use Rattle.xv_session.specs.Steps.{Advances}
 use Rattle.xv_session.specs.declared.running.Running.{Running}
 use Rattle.debug_words.specs.declared.vocabulary.Mark.{Mark}
 use Rattle.xv_debug.specs.motion.Aims.{meets}
+use Rattle.xv_debug.specs.motion.Backwards.{is_run}
+use Rattle.xv_debug.specs.motion.Clock.{IsNext, left_after, left_by, runs_left}
 use Rattle.xv_debug.specs.motion.Effects.{Adds}
 use Rattle.xv_debug.specs.motion.Marks.{meets_marks}
 use Rattle.xv_debug.specs.motion.Resting.{RestsQuietIf}
@@ -23,46 +25,50 @@ use Rattle.xv_debug.specs.declared.motion.journey.Stop.TheVariants.{Done, Met, B
 abbrev pub Test : Type 0
 Test = Running → Outcome → Running → Bool
 
--- the bytes that wait in the console
-abbrev pub waiting : Running → List ℕ
-waiting r = r.machine.world.state.console.to_send
+-- it gives the turn to this process
+abbrev pub is_turn_of : Option ℕ → Outcome → Bool
+is_turn_of p (Turn q) = is_this q p
+is_turn_of p _ = false
 
--- An event of which this came led from the one to the other, and is the aim, or meets a mark
-abbrev pub meets_one : Aim → List Mark → Running → Outcome → Running → Bool
-meets_one aim marks a o b = meets aim a.machine o b.machine || meets_marks marks a o b
+-- An event of which this came led from the one to the other, and is the aim, or meets a mark. A turn of the process that ran at first is neither: it stands there already
+abbrev pub meets_one : (ran : Option ℕ) → Aim → List Mark → Running → Outcome → Running → Bool
+meets_one ran aim marks a o b = not (is_turn_of ran o) && (meets aim a.machine o b.machine || meets_marks marks a o b)
 
--- It was a Send, if a byte waited; or else a Run, and not what is waited for
+-- and so of a way that begins here
+abbrev pub met_from : Recorded → Aim → List Mark → Test
+met_from s aim marks = meets_one s.machine.world.turns.current aim marks
+
+-- If it was a Run, it wasn't what is waited for
 abbrev pub Passes : Test → Running → Event → Outcome → Running → Type 0
-Passes test a runs.Send o b = waiting a ≢ []
-Passes test a Run o b = (waiting a ≡ []) × (test a o b ≡ false)
-Passes test a _ o b = ⊥
+Passes test a e o b = is_run e ≡ true → test a o b ≡ false
 
--- Such events were sent, and these came of them
-abbrev pub NoneMet : Test → List (Event × Outcome) → Running → Running → Type 0
-NoneMet test [] old new = new ≡ old
-NoneMet test (e ∷ es) old new = (mid : Running) × Advances old e.0 e.1 mid × Passes test old e.0 e.1 mid × NoneMet test es mid new
+-- By the clock of a round that has so many Runs left, these events were sent, and these came of them; none is what is waited for
+abbrev pub NoneMet : (quantum : ℕ) → Test → (left : ℕ) → List (Event × Outcome) → Running → Running → Type 0
+NoneMet quantum test left [] old new = new ≡ old
+NoneMet quantum test left (e ∷ es) old new =
+    (mid : Running) × Advances old e.0 e.1 mid × IsNext left old.machine.world e.0 × Passes test old e.0 e.1 mid × NoneMet quantum test (left_by quantum left e.0) es mid new
 
--- Such events were sent, and then, where no byte waited, a Run that is what is waited for
-pub record LastMet (test : Test) (list : List (Event × Outcome)) (old new : Running) : Type 0 where
+-- Such events were sent, and then, as the clock wants it, a Run that is what is waited for
+pub record LastMet (quantum : ℕ) (test : Test) (left : ℕ) (list : List (Event × Outcome)) (old new : Running) : Type 0 where
   pub before : List (Event × Outcome)
   pub mid : Running
   pub outcome : Outcome
-  pub none : NoneMet test before old mid
-  pub quiet : waiting mid ≡ []
+  pub none : NoneMet quantum test left before old mid
+  pub next : IsNext (left_after quantum left (events before)) mid.machine.world Run
   pub last : Advances mid Run outcome new
   pub met : test mid outcome new ≡ true
   pub all : list ≡ before ++ (Run, outcome) ∷ []
 
-abbrev pub ReachesBy : (met : Bool) → Test → List (Event × Outcome) → Running → Running → Type 0
-ReachesBy true test list old new = LastMet test list old new
-ReachesBy false test list old new = NoneMet test list old new
+abbrev pub ReachesBy : (met : Bool) → (quantum : ℕ) → Test → (left : ℕ) → List (Event × Outcome) → Running → Running → Type 0
+ReachesBy true quantum test left list old new = LastMet quantum test left list old new
+ReachesBy false quantum test left list old new = NoneMet quantum test left list old new
 
--- So many events were sent: the first Run that is what is waited for was the last, or none was. This came of the last, and what the console showed of all is kept
-pub record Goes (test : Test) (met : Bool) (sent : ℕ) (last : Option Outcome) (old new : Recorded) (had has : Output) : Type 0 where
+-- So many events were sent, by the clock of the run: the first Run that is what is waited for was the last, or none was. This came of the last, and what the console showed of all is kept
+pub record Goes (quantum : ℕ) (test : Test) (met : Bool) (sent : ℕ) (last : Option Outcome) (old new : Recorded) (had has : Output) : Type 0 where
   pub list : List (Event × Outcome)
   pub adds : Adds (events list) old new
   pub count : length list ≡ sent
-  pub reaches : ReachesBy met test list (running_of old) (running_of new)
+  pub reaches : ReachesBy met quantum test (runs_left quantum old.events) list (running_of old) (running_of new)
   pub last_is : last ≡ last_outcome list
   pub shown : KeepsShown (out list) had has
 
@@ -82,9 +88,9 @@ abbrev pub IsRefusedBy : Stop → Recorded → Type 0
 IsRefusedBy (Refused error) s = IsReason error (length s.events)
 IsRefusedBy _ s = Unit {0}
 
--- Events were sent up to the first Run that is what is waited for; or fewer than that, where nobody may run, it was broken off, which may happen, the session keeps no more events, or `most` were sent
-pub record Reaches (may_end : Bool) (test : Test) (most : ℕ) (stop : Stop) (sent : ℕ) (last : Option Outcome) (old new : Recorded) (had has : Output) : Type 0 where
-  pub goes : Goes test (is_met stop) sent last old new had has
+-- Events were sent by the clock, up to the first Run that is what is waited for; or fewer than that, where nobody may go on and none waits for a tick, it was broken off, which may happen, the session keeps no more events, or `most` were sent
+pub record Reaches (may_end : Bool) (quantum : ℕ) (test : Test) (most : ℕ) (stop : Stop) (sent : ℕ) (last : Option Outcome) (old new : Recorded) (had has : Output) : Type 0 where
+  pub goes : Goes quantum test (is_met stop) sent last old new had has
   pub within : sent ≤ most
   pub all : stop ≡ Done → sent ≡ most
   pub broken : stop ≡ Broken → may_end ≡ true

@@ -1,13 +1,20 @@
--- Where nobody may run.
-use Rattle.std.specs.Prelude.{◌≡◌, ℕ, [], None, IsSome}
+-- Where nobody may run, and who waits for the clock then.
+use Rattle.std.specs.Prelude.{◌≡◌, ◌⊎◌, ℕ, Bool, true, false, [], Option, None, Some, IsSome}
 use Rattle.kernel_spec.specs.runs.Run.{World}
 use Rattle.kernel_spec.specs.waking.Wakes.{IsRunnable}
+use Rattle.xv_report.specs.Waits.{wait_of}
+use Rattle.xv_report.specs.declared.waits.Wait.{Wait}
+use Rattle.xv_report.specs.declared.waits.Wait.TheVariants.{Until}
 use Rattle.xv_debug.specs.declared.motion.journey.Stop.{Stop}
 use Rattle.xv_debug.specs.declared.motion.journey.Stop.TheVariants.{Asleep, Halted}
 
 -- No process lives that doesn't sleep
 abbrev pub NobodyMayRun : World → Type 0
 NobodyMayRun w = (p : ℕ) → ¬ IsRunnable w p
+
+-- A process runs; or the machine hasn't halted, and one may have its turn
+abbrev pub SomebodyMayGoOn : World → Type 0
+SomebodyMayGoOn w = IsSome w.turns.current ⊎ ((w.turns.halted ≡ None) × ((p : ℕ) × IsRunnable w p))
 
 -- Nobody runs, for this reason: process 1 is gone; or it isn't, and all processes sleep
 abbrev pub RestsBy : Stop → World → Type 0
@@ -21,8 +28,29 @@ RestsIf Halted w = RestsBy Halted w
 RestsIf Asleep w = RestsBy Asleep w
 RestsIf _ w = Unit {0}
 
--- and no byte waits in the console
+-- ---- who waits for the clock
+
+-- it is the clock
+abbrev pub is_clock : Option Wait → Bool
+is_clock (Some (Until tick)) = true
+is_clock _ = false
+
+-- process p sleeps up to a tick
+abbrev pub AwaitsTick : World → (p : ℕ) → Type 0
+AwaitsTick w p = is_clock (wait_of w p) ≡ true
+
+abbrev pub NobodyAwaitsTick : World → Type 0
+NobodyAwaitsTick w = (p : ℕ) → ¬ AwaitsTick w p
+
+-- All processes sleep, and one of them up to a tick
+abbrev pub AreAwaitingTicks : World → Type 0
+AreAwaitingTicks w = RestsBy Asleep w × ((p : ℕ) × AwaitsTick w p)
+
+-- ---- where a way rests
+
+-- The machine has halted, or all processes sleep, and none of them up to a tick; and no byte waits in the console
 abbrev pub RestsQuiet : Stop → World → Type 0
+RestsQuiet Asleep w = RestsBy Asleep w × (w.state.console.to_send ≡ []) × NobodyAwaitsTick w
 RestsQuiet stop w = RestsBy stop w × (w.state.console.to_send ≡ [])
 
 abbrev pub RestsQuietIf : Stop → World → Type 0

@@ -20,7 +20,7 @@ const WINDOW_GROWTH: u64 = 16;
 const WINDOWS: u32 = 8;
 
 /// Whether an event is a Run.
-fn is_run(event: Event) -> bool
+pub(crate) fn is_run(event: Event) -> bool
     ensures { result ≡ is_run (event_of event) }
 {
     match event {
@@ -67,13 +67,13 @@ fn look_often(
 
 /// So many equal events.
 #[derive(Clone, Copy)]
-struct Equal {
-    event: Event,
-    count: u64,
+pub(crate) struct Equal {
+    pub event: Event,
+    pub count: u64,
 }
 
 /// Equal events from a place on, before another one, and not more than in a stretch.
-fn equal_from(session: &Session, place: u64, end: u64) -> Equal
+pub(crate) fn equal_from(session: &Session, place: u64, end: u64) -> Equal
     requires before { place < end }
     requires there { end ≤ length session.now.events }
     ensures some { 0 < result.count }

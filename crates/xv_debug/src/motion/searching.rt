@@ -1,26 +1,46 @@
-//! Sending Runs up to what is waited for. Before each the bytes are taken that wait in the console.
-ghost use Rattle.std.specs.Prelude.{◌≡◌, ◌≢◌, ◌<◌, ◌≤◌, ◌||◌, [], IfOk, IfErr, IfSome, false, is_some, length, option_map, slice_get};
+//! Sending events by the clock, up to a Run that is what is waited for.
+ghost use Rattle.std.specs.Prelude.{◌≡◌, ◌<◌, ◌≤◌, ◌&&◌, ◌||◌, IfOk, IfErr, IfSome, false, length, not, option_map};
+ghost use Rattle.kernel_spec.specs.runs.Run as runs;
 ghost use Rattle.kernel_spec.specs.runs.Run.{bytes_out};
 ghost use Rattle.xv_machine.specs.Events.{event_of, outcome_of};
 ghost use Rattle.xv_session.specs.Answers.{IsReason, Sent};
 ghost use Rattle.xv_session.specs.Recorded.{running_of};
 ghost use Rattle.xv_debug.specs.motion.Aims as aims;
+ghost use Rattle.xv_debug.specs.motion.Backwards as backwards;
+ghost use Rattle.xv_debug.specs.motion.Clock.{IsNext, left_by, runs_left};
 ghost use Rattle.xv_debug.specs.motion.Marks as marked;
 ghost use Rattle.xv_debug.specs.motion.Places.{ArePlaces};
-ghost use Rattle.xv_debug.specs.motion.Reaching.{Goes, Reaches, Test, meets_one, waiting};
-ghost use Rattle.xv_debug.specs.motion.Resting.{RestsQuiet};
+ghost use Rattle.xv_debug.specs.motion.Reaching as reached;
+ghost use Rattle.xv_debug.specs.motion.Reaching.{Goes, Reaches, met_from};
 ghost use Rattle.xv_debug.specs.motion.Shown.{KeepsShown};
+ghost use Rattle.xv_debug.specs.motion.Ways.{test_of};
 
 use crate::motion::aiming::{Aim, is_due, is_met};
+use crate::motion::backwards::is_run;
+use crate::motion::clock::{left_by, next_event, runs_left};
 use crate::motion::journey::{Journey, Stop};
 use crate::motion::marks::{is_any_due, meets_marks};
 use crate::motion::output::Output;
 use crate::motion::pace::{Pace, STRETCH, at_once};
 use crate::motion::places::{Places, places_of};
-use crate::motion::resting::rest_of;
 use debug_words::Mark;
-use xv_machine::{ConsoleList, Event, Machine, Outcome};
+use xk_base::Pid;
+use xv_machine::{Event, Outcome};
 use xv_session::{Patience, Session, SessionError};
+
+/// What a way goes by.
+#[derive(Drop)]
+pub(crate) struct Way<'a> {
+    /// The Runs of a round.
+    pub quantum: u32,
+    /// The process that ran at first. A turn of it isn't what is waited for: it stands there already.
+    pub ran: Option<Pid>,
+    /// What is waited for, and the marks.
+    pub aim: &'a Aim,
+    pub marks: &'a [Mark],
+    /// Where Runs that are sent at once have to stop; `None` if each has to be looked at.
+    pub places: Option<Places>,
+}
 
 /// What came of events that were sent.
 #[derive(Drop)]
@@ -31,6 +51,8 @@ pub(crate) struct Went {
     pub met: bool,
     /// What came of the last of them.
     pub last: Option<Outcome>,
+    /// How many Runs the round has left.
+    pub left: u32,
 }
 
 /// Whether a store that is waited for is the next step of the process that runs.
@@ -42,41 +64,37 @@ struct Due {
     mark: bool,
 }
 
-/// Whether a byte waits in the console.
-fn byte_waits(machine: &Machine) -> bool
-    ensures { result ≡ is_some (slice_get machine.now.world.state.console.to_send 0) }
-{
-    machine.console_byte(ConsoleList::ToSend, 0).is_some()
-}
-
-/// Why no event is sent: the machine has halted, or all processes sleep, and no byte waits.
-#[tactic(auto, using(crate::proofs::Searched::rests_quiet))]
-fn rest_without_bytes(machine: &Machine) -> Option<Stop>
-    ensures { IfSome result (λ stop. RestsQuiet stop machine.now.world) }
-{
-    if byte_waits(machine) {
-        return None;
-    }
-    rest_of(machine)
-}
-
 /// Which stores that are waited for are due.
-fn due_now(session: &Session, aim: &Aim, marks: &[Mark]) -> Due
-    ensures aim { result.aim ≡ aims.is_due aim.now session.now.machine }
-    ensures mark { result.mark ≡ marked.is_any_due marks.now session.now.machine.world }
+fn due_now(session: &Session, way: &Way<'_>) -> Due
+    ensures aim { result.aim ≡ aims.is_due way.now.aim.now session.now.machine }
+    ensures mark { result.mark ≡ marked.is_any_due way.now.marks.now session.now.machine.world }
 {
     Due {
-        aim: is_due(aim, session.machine()),
-        mark: is_any_due(session, marks),
+        aim: is_due(way.aim, session.machine()),
+        mark: is_any_due(session, way.marks),
+    }
+}
+
+/// Whether it gives the turn to this process.
+fn is_turn_of(wanted: Option<Pid>, outcome: &Outcome) -> bool
+    ensures { result ≡ reached.is_turn_of wanted (outcome_of outcome.now) }
+{
+    let Outcome::Turn { pid } = outcome else {
+        return false;
+    };
+    match wanted {
+        Some(wanted) => wanted.number() == pid.number(),
+        None => false,
     }
 }
 
 /// Whether a Run of which this came is the aim, or meets a mark.
-fn is_one(session: &Session, aim: &Aim, marks: &[Mark], due: &Due, outcome: &Outcome) -> bool
-    ensures { result ≡ (aims.meets_with aim.now due.now.aim (outcome_of outcome.now) session.now.machine || marked.meets_with marks.now due.now.mark (outcome_of outcome.now) (running_of session.now)) }
+fn is_one(session: &Session, way: &Way<'_>, due: &Due, outcome: &Outcome) -> bool
+    ensures { result ≡ (not (reached.is_turn_of way.now.ran (outcome_of outcome.now)) && (aims.meets_with way.now.aim.now due.now.aim (outcome_of outcome.now) session.now.machine || marked.meets_with way.now.marks.now due.now.mark (outcome_of outcome.now) (running_of session.now))) }
 {
-    is_met(aim, due.aim, outcome, session.machine())
-        | meets_marks(session, marks, due.mark, outcome)
+    !is_turn_of(way.ran, outcome)
+        & (is_met(way.aim, due.aim, outcome, session.machine())
+            | meets_marks(session, way.marks, due.mark, outcome))
 }
 
 /// Sends an event, and keeps what the console shows of it.
@@ -96,44 +114,57 @@ fn send_one(
     Ok(outcome)
 }
 
-/// Takes a byte that waits.
-fn take_byte(session: &mut Session, output: &mut Output) -> Result<Went, SessionError>
-    requires { waiting (running_of session.old) ≢ [] }
-    ensures goes { IfOk result (λ w. (test : Test) → Goes test w.met w.sent (option_map outcome_of w.last) session.old session.new output.old output.new) }
+/// Sends the next event, which is no Run: it is never what is waited for.
+fn send_apart(
+    session: &mut Session,
+    way: &Way<'_>,
+    event: Event,
+    left: u32,
+    output: &mut Output,
+) -> Result<Went, SessionError>
+    requires apart { backwards.is_run (event_of event) ≡ false }
+    requires left { left ≡ runs_left way.now.quantum session.old.events }
+    requires next { IsNext left session.old.machine.world (event_of event) }
+    ensures goes { IfOk result (λ w. Goes way.now.quantum (test_of way.now) w.met w.sent (option_map outcome_of w.last) session.old session.new output.old output.new) }
+    ensures left { IfOk result (λ w. w.left ≡ runs_left way.now.quantum session.new.events) }
     ensures one { IfOk result (λ w. w.sent ≡ 1) }
     ensures refused { IfErr result (λ _. session.new ≡ session.old) }
     ensures silent { IfErr result (λ _. output.new ≡ output.old) }
     ensures reason { IfErr result (λ e. IsReason e (length session.old.events)) }
 {
-    let outcome = send_one(session, Event::Send, output)?;
+    let outcome = send_one(session, event, output)?;
     Ok(Went {
         sent: 1,
         met: false,
         last: Some(outcome),
+        left: left_by(way.quantum, left, event),
     })
 }
 
 /// Sends a Run, and looks whether it is the aim, or meets a mark.
 fn run_once(
     session: &mut Session,
-    aim: &Aim,
-    marks: &[Mark],
+    way: &Way<'_>,
+    left: u32,
     output: &mut Output,
 ) -> Result<Went, SessionError>
-    requires { waiting (running_of session.old) ≡ [] }
-    ensures goes { IfOk result (λ w. Goes (meets_one aim.now marks.now) w.met w.sent (option_map outcome_of w.last) session.old session.new output.old output.new) }
+    requires left { left ≡ runs_left way.now.quantum session.old.events }
+    requires next { IsNext left session.old.machine.world runs.Run }
+    ensures goes { IfOk result (λ w. Goes way.now.quantum (test_of way.now) w.met w.sent (option_map outcome_of w.last) session.old session.new output.old output.new) }
+    ensures left { IfOk result (λ w. w.left ≡ runs_left way.now.quantum session.new.events) }
     ensures one { IfOk result (λ w. w.sent ≡ 1) }
     ensures refused { IfErr result (λ _. session.new ≡ session.old) }
     ensures silent { IfErr result (λ _. output.new ≡ output.old) }
     ensures reason { IfErr result (λ e. IsReason e (length session.old.events)) }
 {
-    let due = due_now(session, aim, marks);
+    let due = due_now(session, way);
     let outcome = send_one(session, Event::Run, output)?;
-    let met = is_one(session, aim, marks, &due, &outcome);
+    let met = is_one(session, way, &due, &outcome);
     Ok(Went {
         sent: 1,
         met,
         last: Some(outcome),
+        left: left.saturating_sub(1),
     })
 }
 
@@ -143,17 +174,20 @@ fn run_once(
 fn run_often(
     session: &mut Session,
     most: u32,
-    aim: &Aim,
-    marks: &[Mark],
+    way: &Way<'_>,
+    left: u32,
     places: &Places,
     output: &mut Output,
 ) -> Result<Went, SessionError>
     requires some { 0 < most }
-    requires quiet { waiting (running_of session.old) ≡ [] }
-    requires places { ArePlaces aim.now marks.now places.now }
-    requires aim { aims.is_due aim.now session.old.machine ≡ false }
-    requires marks { marked.is_any_due marks.now session.old.machine.world ≡ false }
-    ensures goes { IfOk result (λ w. Goes (meets_one aim.now marks.now) w.met w.sent (option_map outcome_of w.last) session.old session.new output.old output.new) }
+    requires few { most ≤ left }
+    requires left { left ≡ runs_left way.now.quantum session.old.events }
+    requires next { IsNext left session.old.machine.world runs.Run }
+    requires places { ArePlaces way.now.aim.now way.now.marks.now places.now }
+    requires aim { aims.is_due way.now.aim.now session.old.machine ≡ false }
+    requires marks { marked.is_any_due way.now.marks.now session.old.machine.world ≡ false }
+    ensures goes { IfOk result (λ w. Goes way.now.quantum (test_of way.now) w.met w.sent (option_map outcome_of w.last) session.old session.new output.old output.new) }
+    ensures left { IfOk result (λ w. w.left ≡ runs_left way.now.quantum session.new.events) }
     ensures within { IfOk result (λ w. w.sent ≤ most) }
     ensures forth { IfOk result (λ w. 0 < w.sent) }
     ensures refused { IfErr result (λ _. session.new ≡ session.old) }
@@ -170,98 +204,123 @@ fn run_often(
         aim: false,
         mark: false,
     };
-    let met = is_one(session, aim, marks, &due, &outcome);
+    let met = is_one(session, way, &due, &outcome);
     Ok(Went {
         sent,
         met,
         last: Some(outcome),
+        left: left.saturating_sub(sent),
     })
 }
 
-/// Sends Runs, so many at most: one, if a store that is waited for is due, or if there are no places; else as many as
-/// lead to none of the places.
-#[tactic(auto, using(crate::proofs::Searched::one_within, crate::proofs::Searched::one_forth))]
+/// Sends Runs, so many at most, and not more than the round has left: one, if a store that is waited for is due, or if
+/// there are no places; else as many as lead to none of the places.
+#[tactic(auto, using(crate::proofs::Searched::one_within, crate::proofs::Searched::one_forth, crate::proofs::Searched::part_within))]
 fn run_some(
     session: &mut Session,
     most: u32,
-    aim: &Aim,
-    marks: &[Mark],
-    places: &Option<Places>,
+    way: &Way<'_>,
+    left: u32,
     output: &mut Output,
 ) -> Result<Went, SessionError>
     requires some { 0 < most }
-    requires quiet { waiting (running_of session.old) ≡ [] }
-    requires places { IfSome places.now (ArePlaces aim.now marks.now) }
-    ensures goes { IfOk result (λ w. Goes (meets_one aim.now marks.now) w.met w.sent (option_map outcome_of w.last) session.old session.new output.old output.new) }
+    requires places { IfSome way.now.places (ArePlaces way.now.aim.now way.now.marks.now) }
+    requires left { left ≡ runs_left way.now.quantum session.old.events }
+    requires next { IsNext left session.old.machine.world runs.Run }
+    ensures goes { IfOk result (λ w. Goes way.now.quantum (test_of way.now) w.met w.sent (option_map outcome_of w.last) session.old session.new output.old output.new) }
+    ensures left { IfOk result (λ w. w.left ≡ runs_left way.now.quantum session.new.events) }
     ensures within { IfOk result (λ w. w.sent ≤ most) }
     ensures forth { IfOk result (λ w. 0 < w.sent) }
     ensures refused { IfErr result (λ _. session.new ≡ session.old) }
     ensures silent { IfErr result (λ _. output.new ≡ output.old) }
     ensures reason { IfErr result (λ e. IsReason e (length session.old.events)) }
 {
-    let Some(places) = places else {
-        return run_once(session, aim, marks, output);
+    let Some(places) = &way.places else {
+        return run_once(session, way, left, output);
     };
-    let due = due_now(session, aim, marks);
+    let due = due_now(session, way);
     if due.aim || due.mark {
-        return run_once(session, aim, marks, output);
+        return run_once(session, way, left, output);
     }
-    run_often(session, most, aim, marks, places, output)
+    run_often(session, most.min(left), way, left, places, output)
 }
 
-/// Takes a byte, if one waits; else sends Runs, so many at most.
-#[tactic(auto, using(crate::proofs::Searched::waits, crate::proofs::Searched::none_waits, crate::proofs::Searched::one_within, crate::proofs::Searched::one_forth))]
+/// Sends the next event; and if it is a Run, more Runs, so many at most in all.
+#[tactic(auto, using(crate::proofs::Searched::one_within, crate::proofs::Searched::one_forth, crate::proofs::Clocked::next_run))]
 fn send_some(
     session: &mut Session,
     most: u32,
-    aim: &Aim,
-    marks: &[Mark],
-    places: &Option<Places>,
+    way: &Way<'_>,
+    event: Event,
+    left: u32,
     output: &mut Output,
 ) -> Result<Went, SessionError>
     requires some { 0 < most }
-    requires places { IfSome places.now (ArePlaces aim.now marks.now) }
-    ensures goes { IfOk result (λ w. Goes (meets_one aim.now marks.now) w.met w.sent (option_map outcome_of w.last) session.old session.new output.old output.new) }
+    requires places { IfSome way.now.places (ArePlaces way.now.aim.now way.now.marks.now) }
+    requires left { left ≡ runs_left way.now.quantum session.old.events }
+    requires next { IsNext left session.old.machine.world (event_of event) }
+    ensures goes { IfOk result (λ w. Goes way.now.quantum (test_of way.now) w.met w.sent (option_map outcome_of w.last) session.old session.new output.old output.new) }
+    ensures left { IfOk result (λ w. w.left ≡ runs_left way.now.quantum session.new.events) }
     ensures within { IfOk result (λ w. w.sent ≤ most) }
     ensures forth { IfOk result (λ w. 0 < w.sent) }
     ensures refused { IfErr result (λ _. session.new ≡ session.old) }
     ensures silent { IfErr result (λ _. output.new ≡ output.old) }
     ensures reason { IfErr result (λ e. IsReason e (length session.old.events)) }
 {
-    if byte_waits(session.machine()) {
-        return take_byte(session, output);
+    if is_run(event) {
+        return run_some(session, most, way, left, output);
     }
-    run_some(session, most, aim, marks, places, output)
+    send_apart(session, way, event, left, output)
 }
 
-/// Sends events, so many at most, up to the first Run that is the aim or meets a mark, and none more if nobody may run, or
-/// if it is broken off. A byte that waits in the console is taken before the next Run.
+/// The way of a session from here on.
+fn way_from<'a>(session: &Session, quantum: u32, aim: &'a Aim, marks: &'a [Mark]) -> Way<'a>
+    ensures quantum { result.quantum ≡ quantum }
+    ensures test { test_of result ≡ met_from session.now aim.now marks.now }
+    ensures places { IfSome result.places (ArePlaces result.aim.now result.marks.now) }
+{
+    Way {
+        quantum,
+        ran: session.machine().current(),
+        aim,
+        marks,
+        places: places_of(aim, marks),
+    }
+}
+
+/// Sends events by the clock, so many at most, up to the first Run that is the aim or meets a mark; and none more if nobody
+/// may go on and nobody waits for a tick, or if it is broken off. A round has `quantum` Runs, and a byte that waits in the
+/// console is taken before the next Run.
 pub(crate) fn search<P: Patience>(
     session: &mut Session,
+    quantum: u32,
     most: u32,
     aim: &Aim,
     marks: &[Mark],
     patience: &mut P,
     output: &mut Output,
 ) -> Journey
-    ensures { Reaches P.may_end (meets_one aim.now marks.now) most result.stop result.sent (option_map outcome_of result.last) session.old session.new output.old output.new }
+    ensures { Reaches P.may_end quantum (met_from session.old aim.now marks.now) most result.stop result.sent (option_map outcome_of result.last) session.old session.new output.old output.new }
 {
-    let places = places_of(aim, marks);
+    let way = way_from(session, quantum, aim, marks);
     let mut pace = Pace::new(u64::from(STRETCH));
+    let mut left = runs_left(session, quantum);
     let mut sent: u32 = 0;
     let mut last = None;
     'events: while sent < most {
-        if let Some(stop) = rest_without_bytes(session.machine()) {
-            return Journey::new(u64::from(sent), stop, last);
-        }
+        let event = match next_event(session.machine(), left) {
+            Ok(event) => event,
+            Err(stop) => return Journey::new(u64::from(sent), stop, last),
+        };
         let far = u64::from(sent);
         if pace.is_over(far, patience) {
             return Journey::new(far, Stop::Broken, last);
         }
         let part = at_once(most - sent);
-        match send_some(session, part, aim, marks, &places, output) {
+        match send_some(session, part, &way, event, left, output) {
             Ok(went) => {
                 sent += went.sent;
+                left = went.left;
                 last = went.last;
                 if went.met {
                     return Journey::new(u64::from(sent), Stop::Met, last);
