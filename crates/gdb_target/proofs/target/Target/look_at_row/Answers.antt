@@ -12,7 +12,7 @@ send_to_stop-requires-clause-runs c = (looks-free c.args.back.now c.args.bytes.n
 
 pub returns-clause-hit : goal.returns-clause-hit
 returns-clause-hit c =
-    hit-within c.args.back.now (let_run_of c.args.back.now) c.point_hit.result c.saturating_sub-place.result c.args.end _
+    hit-within c.args.back.now (let_run_of c.args.back.now) c.point_hit.result c.saturating_sub-place.result c.args.end None
     (looks-free c.args.back.now c.args.bytes.now c.args.self.now c.requires.looks).0
     (subst (λ (r : LetRun). IsPointHit r c.saturating_sub-place.result None c.point_hit.result) c.let_run.ensures c.point_hit.ensures)
     (omega (arith, c.in_ok-row.ensures.more, c.at.ensures, c.saturating_sub-place.ensures, c.send_to_stop.ensures.within))
