@@ -1,7 +1,8 @@
 #!/bin/sh
 # Finds the bug of gdb/game.c with GDB, by the commands of gdb/game.gdb, and compares what GDB says with
 # gdb/game.wanted: checks/gdb.sh [PROGRAM], where PROGRAM serves GDB under its name, xv_gdb, and is without a word the
-# one that is proved and built. `checks/gdb.sh --by-hand [PROGRAM]` leaves you in GDB at the start. It takes a few seconds.
+# one that is proved and built. Then it holds the sessions in gdb/sessions (gdb/sessions.py says how), and one with a
+# machine that starts slowly. `checks/gdb.sh --by-hand [PROGRAM]` leaves you in GDB at the start. It takes half a minute.
 #
 # It needs gdb-multiarch and a C compiler: apt-get install gdb-multiarch gcc-riscv64-unknown-elf.
 set -eu
@@ -16,9 +17,9 @@ done
 
 room=$(mktemp -d)
 trap 'rm -rf "$room"' EXIT
-cp "$here/gdb/game.c" "$room"
+cp "$here/gdb/game.c" "$here/gdb/both.c" "$room"
 cd "$room"
-"$here/../programs/c/build.sh" game.c
+"$here/../programs/c/build.sh" game.c both.c
 bin=$here/../programs/bin
 echo game >rc
 serve="$program --frames 512 --file game $bin/init $bin/sh game rc"
@@ -44,3 +45,14 @@ else
     echo "checks/gdb.sh: GDB says something else" >&2
     exit 1
 fi
+# A machine that needs ten seconds to start, as on a loaded host: by the lines of docs/manual/gdb.md GDB waits for it.
+gdb-multiarch -q -nx -batch -l 60 game.debug -ex "target remote | sleep 10; exec $serve" -ex 'break report' -ex continue -ex 'print game.rounds' >slow 2>&1 </dev/null || true
+if grep -q '^\$1 = 82$' slow; then
+    echo "checks/gdb.sh: GDB waits for a machine that starts slowly"
+else
+    echo "checks/gdb.sh: GDB doesn't wait for a machine that starts slowly" >&2
+    cat slow >&2
+    exit 1
+fi
+echo both >rc
+exec python3 -B "$here/gdb/sessions.py" "$program" .

@@ -3,3 +3,4 @@ pub mod Pieces
 pub mod SixteenDigits
 pub mod Framed
 pub mod NumbersBack
+mod WorkedCommands

@@ -20,6 +20,10 @@ refusal number = 69 ∷ byte_digits number
 abbrev pub exited : ℕ → List ℕ
 exited status = 87 ∷ byte_digits status
 
+-- nobody is let run any more: the thread that was let run alone is gone
+abbrev pub no_resumed : List ℕ
+no_resumed = codes "N"
+
 abbrev pub current_thread : ℕ → List ℕ
 current_thread thread = 81 ∷ 67 ∷ digits thread
 

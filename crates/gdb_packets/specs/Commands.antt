@@ -82,30 +82,40 @@ abbrev pub choose : List ℕ → Command
 choose [] = on.Malformed
 choose (operation ∷ text) = if operation == 99 then chosen true (thread_of text) else if operation == 103 then chosen false (thread_of text) else on.Malformed
 
+-- c, s, C and S let that thread run which was chosen by Hc, or all if none was
+abbrev pub as_chosen : Resume → Command
+as_chosen how = on.Resume how Any
+
 -- c and s: to go on elsewhere, at an address, would change a register
 abbrev pub resume_here : List ℕ → Resume → Command
-resume_here [] resume = on.Resume resume
+resume_here [] resume = as_chosen resume
 resume_here (b ∷ text) resume = on.Change
 
 -- C and S: a signal is left out; with an address a register would change
 abbrev pub by_signal : Option ℕ → Resume → Command
 by_signal None resume = on.Change
-by_signal (Some signal) resume = on.Resume resume
+by_signal (Some signal) resume = as_chosen resume
 
 -- vCont: the threads that an action is for, all if it names none
 abbrev pub acting : Option (List ℕ) → Option Thread
 acting None = Some All
 acting (Some text) = thread_of text
 
-abbrev pub acted : List ℕ → Option Thread → Command
-acted [] thread = on.Malformed
-acted (kind ∷ rest) None = on.Malformed
-acted (kind ∷ rest) (Some thread) =
-    if (kind == 99) || (kind == 67) then on.Resume Continue else (if (kind == 115) || (kind == 83) then on.Resume (Step thread) else on.Malformed)
+-- the threads that are let run: those of the one action; or all, if there are more actions
+abbrev pub let_run : (others : Option (List ℕ)) → Thread → Thread
+let_run None thread = thread
+let_run (Some actions) thread = All
 
--- its first action: the others say what other threads do, and they go on
+abbrev pub acted : List ℕ → (others : Option (List ℕ)) → Option Thread → Command
+acted [] others thread = on.Malformed
+acted (kind ∷ rest) others None = on.Malformed
+acted (kind ∷ rest) others (Some thread) =
+    if (kind == 99) || (kind == 67) then on.Resume Continue (let_run others thread)
+    else (if (kind == 115) || (kind == 83) then on.Resume (Step thread) (let_run others thread) else on.Malformed)
+
+-- what its first action says, and who is let run by all of them
 abbrev pub action : List ℕ → Command
-action text = acted (before 59 text) (acting (behind 58 (before 59 text)))
+action text = acted (before 59 text) (behind 59 text) (acting (behind 58 (before 59 text)))
 
 -- vKill and vRun: the program ends, or begins anew, and GDB stays
 abbrev pub anew : List ℕ → Command

@@ -210,3 +210,14 @@ pub fn exited(alloc: Global, status: u8) -> Result<Vec<u8>, AllocError>
 {
     marked_byte(alloc, b'W', status)
 }
+
+/// Nobody is let run any more, since the thread that was let run alone is gone: `N`.
+///
+/// # Errors
+///
+/// [`AllocError`] if the host has too little memory.
+pub fn no_resumed(alloc: Global) -> Result<Vec<u8>, AllocError>
+    ensures { IfOk result (λ text. text.items ≡ meant.no_resumed) }
+{
+    Vec::from_slice(alloc, b"N")
+}

@@ -53,8 +53,12 @@ pub enum Command {
     Change,
     /// `vCont?`: how the program may go on.
     ResumeKinds,
-    /// `vCont`, `c`, `s`, `C`, `S`: to go on.
-    Resume(Resume),
+    /// `vCont`, `c`, `s`, `C`, `S`: to go on. `runs` is let run, and no other thread: `Any` is the one that was chosen by
+    /// [`Command::Choose`], or all if none was.
+    Resume {
+        how: Resume,
+        runs: Thread,
+    },
     /// `bs`: back to before the last instruction.
     ReverseStep,
     /// `bc`: back to the last place that stops the program.
@@ -187,12 +191,22 @@ fn choose(text: &[u8]) -> Command
     }
 }
 
+/// To go on, as was chosen by `Hc`.
+fn as_chosen(how: Resume) -> Command
+    ensures { result ≡ meant.as_chosen how }
+{
+    Command::Resume {
+        how,
+        runs: Thread::Any,
+    }
+}
+
 /// What `c` and `s` ask for: to go on elsewhere, at an address, would change a register.
 fn resume_here(text: &[u8], resume: Resume) -> Command
     ensures { result ≡ meant.resume_here text.now resume }
 {
     if text.is_empty() {
-        Command::Resume(resume)
+        as_chosen(resume)
     } else {
         Command::Change
     }
@@ -203,7 +217,7 @@ fn resume_by_signal(text: &[u8], resume: Resume) -> Command
     ensures { result ≡ meant.by_signal (digits.number text.now) resume }
 {
     match number(text) {
-        Some(_signal) => Command::Resume(resume),
+        Some(_signal) => as_chosen(resume),
         None => Command::Change,
     }
 }
@@ -218,7 +232,17 @@ fn action_thread(action: &[u8]) -> Option<Thread>
     }
 }
 
-/// What the first action of `vCont` asks for. The others say what other threads do: they go on.
+/// The threads that `vCont` lets run, whose first action is for these: if there are more actions, all.
+fn let_run(text: &[u8], thread: Thread) -> Thread
+    ensures { result ≡ meant.let_run (meant.behind 59 text.now) thread }
+{
+    match behind(text, b';') {
+        Some(_others) => Thread::All,
+        None => thread,
+    }
+}
+
+/// What the first action of `vCont` asks for. If there are others, they say that other threads go on.
 fn action(text: &[u8]) -> Command
     ensures { result ≡ meant.action text.now }
 {
@@ -229,9 +253,16 @@ fn action(text: &[u8]) -> Command
     let Some(thread) = action_thread(first) else {
         return Command::Malformed;
     };
+    let runs = let_run(text, thread);
     match *kind {
-        b'c' | b'C' => Command::Resume(Resume::Continue),
-        b's' | b'S' => Command::Resume(Resume::Step(thread)),
+        b'c' | b'C' => Command::Resume {
+            how: Resume::Continue,
+            runs,
+        },
+        b's' | b'S' => Command::Resume {
+            how: Resume::Step(thread),
+            runs,
+        },
         _ => Command::Malformed,
     }
 }

@@ -16,8 +16,8 @@ mod query;
 mod reader;
 
 pub use answers::{
-    Stop, StopReason, console, current_thread, exited, hex_bytes, part, refusal, stop_reply,
-    thread_list,
+    Stop, StopReason, console, current_thread, exited, hex_bytes, no_resumed, part, refusal,
+    stop_reply, thread_list,
 };
 pub use command::{Command, Point, Resume, Thread, parse};
 pub use framing::packet;

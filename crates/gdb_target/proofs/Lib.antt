@@ -12,4 +12,5 @@ pub mod Shows
 pub mod Stood
 pub mod Watching
 mod WorkedBefore
+mod WorkedLetRun
 mod WorkedRows

@@ -1,9 +1,10 @@
 -- Runs that lead to no stop are so many stretches, at none of whose ends a process of the program stands at a breakpoint.
 use Rattle.std.proofs.Common.{◌≡◌, ◌∙◌, ℕ, zero, suc, ◌+◌, ◌<◌, ◌≤◌, inl, Bool, true, false, List, [], ◌∷◌, ◌++◌, refl, sym, ap, subst, arith, length, length-append, Option, None, Some}
 use Rattle.std.specs.Prelude.{replicate, ◌&&◌, ◌||◌, not, is_some}
-use Rattle.std.proofs.lemmas.Bool.{and_parts, or_parts, not-true}
+use Rattle.std.proofs.lemmas.Bool.{and_parts, false≢true, or_parts, not-true}
 use Rattle.std.proofs.lemmas.List.{length-replicate}
 use Rattle.kernel_spec.specs.runs.Run.{Run, Outcome, Step_of, Turn, Idle, Ticked, Typed, Sent, Halted}
+use Rattle.kernel_spec.specs.steps.Own.{Stepped, Called, Blocked, Exited, Faulted}
 use Rattle.kcall_core.specs.Observers.{registers_of}
 use Rattle.rv64i_core.specs.Registers.{Registers}
 use Rattle.xv_machine.specs.Meaning.{Meaning}
@@ -14,14 +15,17 @@ use Rattle.xv_session.specs.Names.{place_in}
 use Rattle.xv_session.specs.Recorded.{Recorded, running_of}
 use Rattle.xv_session.specs.Steps.{Advances}
 use Rattle.xv_session.specs.Stops.{Unstopped, WentOn, is_before_stop, is_at_one, pc_is_one, stores_to_one, stops_for}
+use Rattle.xv_session.specs.Until as until
 use Rattle.xv_session.specs.declared.running.Running.{Running}
 use Rattle.gdb_target.specs.Came.{Comes}
-use Rattle.gdb_target.specs.Forth.{Passed, Stretch, current_of, is_bare, is_done, is_step, is_reached, standing}
-use Rattle.gdb_target.specs.LastHit.{GoesForth, Looked}
+use Rattle.gdb_target.specs.Forth.{Passed, Stretch, current_of, ends_alone, is_bare, is_done, is_step, is_reached, standing}
+use Rattle.gdb_target.specs.LastHit.{GoesForth, Looked, let_run_of}
+use Rattle.gdb_target.specs.LetRun.{if_let}
 use Rattle.gdb_target.specs.PlayedBy.{is_run}
 use Rattle.gdb_target.specs.Rounds.{event_at}
 use Rattle.gdb_target.specs.Rows.{RunsToStop, watched_addresses, is_free, looks_at_row, starts_row}
 use Rattle.gdb_target.specs.Standing.{NextIsRun, stander, stander_of, starter_of, if_so, begins, is_among, is_place}
+use Rattle.gdb_target.specs.declared.let_run.LetRun.{LetRun}
 use Rattle.gdb_target.specs.declared.played.Played.{Played}
 use Rattle.gdb_target.specs.declared.points.Points.{Points}
 use Rattle.gdb_target.specs.declared.reverse.Back.{Back}
@@ -30,6 +34,7 @@ use Rattle.gdb_target.specs.declared.rounds.Rounds.{Rounds}
 use Rattle.gdb_target.specs.declared.target.Target.{Target}
 use Rattle.gdb_target.specs.declared.target.Until.{Until}
 use Rattle.gdb_target.specs.declared.target.Until.TheVariants.{Point, StepOf, AnyStep}
+use Rattle.gdb_target.specs.declared.target.Way.{Way}
 use Rattle.gdb_target.proofs.PlayedOn.{played_send, run_of_true}
 
 -- ---- a place that is before no stop
@@ -52,6 +57,10 @@ nobody-stands run program addresses bytes free = by run.session.machine.world.tu
         let s = run.session.machine.world.state in
         at p (begins run p) (among-none addresses (registers_of s p) (or_parts (is_at_one addresses s p) (stores_to_one bytes s p) free).0)
 
+-- up to a point
+abbrev pub to_point : LetRun → Way
+to_point r = record { until = Point; let_run = r }
+
 no-step : (o : Outcome) → is_step Point o ≡ false
 no-step (Step_of p a) = by (is_done a)
   where
@@ -64,6 +73,20 @@ no-step Ticked = refl
 no-step (Typed echo) = refl
 no-step (Sent byte) = refl
 no-step Halted = refl
+
+-- by a done instruction nobody is gone
+nobody-ends : (r : LetRun) (o : Outcome) → until.is_done o ≡ true → ends_alone r o ≡ false
+nobody-ends r (Step_of p Stepped) done = refl
+nobody-ends r (Step_of p (Called number value)) done = refl
+nobody-ends r (Step_of p (Blocked number)) done = refl
+nobody-ends r (Step_of p (Exited status)) done = absurd (false≢true done)
+nobody-ends r (Step_of p (Faulted cause)) done = absurd (false≢true done)
+nobody-ends r (Turn p) done = refl
+nobody-ends r Idle done = refl
+nobody-ends r Ticked done = refl
+nobody-ends r (Typed echo) done = refl
+nobody-ends r (Sent byte) done = refl
+nobody-ends r Halted done = refl
 
 -- ---- one Run
 
@@ -98,9 +121,9 @@ module _ (addresses bytes : List ℕ) where
 -- ---- Runs in a row
 
 -- what stands after so many of them
-record IsAt (t : Target) (bytes : List ℕ) (n : ℕ) (mid : Running) (last : Target) : Type 0 where
-  passed : Passed Point n t last
-  looked : Looked back.Point n t last None
+record IsAt (r : LetRun) (t : Target) (bytes : List ℕ) (n : ℕ) (mid : Running) (last : Target) : Type 0 where
+  passed : Passed (to_point r) n t last
+  looked : (q : LetRun) → Looked (back.Point q) n t last None
   free : is_before_stop last.points.breakpoints.items bytes last.run.session.machine.world ≡ false
   machine : last.run.session.machine ≡ mid.machine
   points : last.points ≡ t.points
@@ -108,46 +131,56 @@ record IsAt (t : Target) (bytes : List ℕ) (n : ℕ) (mid : Running) (last : Ta
   count : length last.run.session.events ≡ length t.run.session.events + n
 
 -- A row of Runs from t to `to`: the last of them is a stretch of its own, of which this came, and before it nobody stood at a breakpoint
-pub record IsRow (t : Target) (o : Outcome) (to : Target) : Type 0 where
+pub record IsRow (r : LetRun) (t : Target) (o : Outcome) (to : Target) : Type 0 where
   pub stretches : ℕ
   pub last : Target
-  pub passed : Passed Point stretches t last
-  pub looked : Looked back.Point stretches t last None
+  pub passed : Passed (to_point r) stretches t last
+  pub looked : (q : LetRun) → Looked (back.Point q) stretches t last None
   pub stretch : Stretch Point last to o
-  pub nobody : standing last ≡ None
+  pub nobody : stander last.run last.program last.points.breakpoints.items ≡ None
   pub single : length to.run.session.events ≡ length last.run.session.events + 1
 
-module _ (t : Target) (bytes : List ℕ) (count : ℕ) (free : is_before_stop t.points.breakpoints.items bytes t.run.session.machine.world ≡ false)
+module _ (r : LetRun) (t : Target) (bytes : List ℕ) (count : ℕ) (free : is_before_stop t.points.breakpoints.items bytes t.run.session.machine.world ≡ false)
     (each : (k : ℕ) → k < count → event_at t.run.rounds.keys.items t.run.rounds.quantum (length t.run.session.events + k) ≡ Run) where
   abbrev addresses : List ℕ
   addresses = t.points.breakpoints.items
 
-  one-on : (n : ℕ) (mid new : Running) (o : Outcome) (last : Target) → n < count → IsAt t bytes n mid last → Advances mid Run o new
-      → is_before_stop addresses bytes new.machine.world ≡ false → (next : Target) × IsAt t bytes (suc n) new next
-  one-on n mid new o last few is one free_now =
+  one-on : (n : ℕ) (mid new : Running) (o : Outcome) (last : Target) → n < count → IsAt r t bytes n mid last → Advances mid Run o new → until.is_done o ≡ true
+      → is_before_stop addresses bytes new.machine.world ≡ false → (next : Target) × IsAt r t bytes (suc n) new next
+  one-on n mid new o last few is one done free_now =
       let s = last.run.session in
-      let r = last.run.rounds in
+      let rounds = last.run.rounds in
       let after : Recorded = record s { events = s.events ++ Run ∷ []; machine = new.machine; names = new.names } in
-      let its : event_at r.keys.items r.quantum (length s.events) ≡ Run =
+      let its : event_at rounds.keys.items rounds.quantum (length s.events) ≡ Run =
       subst (λ (x : Rounds). event_at x.keys.items x.quantum (length s.events) ≡ Run) (sym is.rounds)
       (ap (event_at t.run.rounds.keys.items t.run.rounds.quantum) is.count ∙ each n few) in
       let run : Played = record {
         session = after;
-        rounds = r;
-        played = played_send r.keys.items r.quantum s.events after.events Run last.run.played its refl;
+        rounds = rounds;
+        played = played_send rounds.keys.items rounds.quantum s.events after.events Run last.run.played its refl;
       } in
       let next : Target = record last { run = run } in
       let long : length after.events ≡ length s.events + 1 = length-append s.events (Run ∷ []) in
       let came : Comes last.run run o = comes-one last.run run o mid new is.machine refl one long in
       let its_free : is_before_stop last.points.breakpoints.items bytes new.machine.world ≡ false =
       subst (λ (points : Points). is_before_stop points.breakpoints.items bytes new.machine.world ≡ false) (sym is.points) free_now in
-      let here : standing last ≡ None = nobody-stands last.run last.program last.points.breakpoints.items bytes is.free in
-      let nobody : standing next ≡ None = nobody-stands run last.program last.points.breakpoints.items bytes its_free in
+      let here : stander last.run last.program last.points.breakpoints.items ≡ None = nobody-stands last.run last.program last.points.breakpoints.items bytes is.free in
+      let nobody : standing r next ≡ None = ap (if_let r) (nobody-stands run last.program last.points.breakpoints.items bytes its_free) in
       let forth : GoesForth last next = record { more = omega (arith, long); single = inl long } in (
         next,
         record {
-          passed = (last, is.passed, record { outcome = o; stretch = record { came = came; single = inl long }; no_step = ap (λ (b : Bool). is_reached b next) (no-step o); nobody = nobody });
-          looked = (last, None, None, is.looked, record { told = here; forth = forth }, refl);
+          passed = (
+            last,
+            is.passed,
+            record {
+              outcome = o;
+              stretch = record { came = came; single = inl long };
+              no_step = ap (λ (b : Bool). is_reached b next) (no-step o);
+              nobody = nobody;
+              there = ap (λ (b : Bool). is_reached b next) (nobody-ends r o done);
+            },
+          );
+          looked = λ q. (last, None, None, is.looked q, record { told = ap (if_let q) here; forth = forth }, refl);
           free = its_free;
           machine = refl;
           points = is.points;
@@ -156,12 +189,12 @@ module _ (t : Target) (bytes : List ℕ) (count : ℕ) (free : is_before_stop t.
         },
       )
 
-  row-at : (n : ℕ) (mid : Running) → n ≤ count → Unstopped addresses bytes n (running_of t.run.session) mid → (last : Target) × IsAt t bytes n mid last
+  row-at : (n : ℕ) (mid : Running) → n ≤ count → Unstopped addresses bytes n (running_of t.run.session) mid → (last : Target) × IsAt r t bytes n mid last
   row-at zero mid few same = (
     t,
     record {
       passed = refl;
-      looked = (refl, refl);
+      looked = λ q. (refl, refl);
       free = free;
       machine = ap (λ (r : Running). r.machine) (sym same);
       points = refl;
@@ -171,9 +204,9 @@ module _ (t : Target) (bytes : List ℕ) (count : ℕ) (free : is_before_stop t.
   )
   row-at (suc n) new few (mid, o, before, one, done, free_now) =
       let (last, is) = row-at n mid (omega (arith, few)) before in
-      one-on n mid new o last (omega (arith, few)) is one free_now
+      one-on n mid new o last (omega (arith, few)) is one done free_now
 
-  pub row : (to : Target) (o : Outcome) (most sent : ℕ) (met : Bool) → sent ≤ count → Stopped addresses bytes most sent met (Some o) t.run.session to.run.session → IsRow t o to
+  pub row : (to : Target) (o : Outcome) (most sent : ℕ) (met : Bool) → sent ≤ count → Stopped addresses bytes most sent met (Some o) t.run.session to.run.session → IsRow r t o to
   row to o most zero met few ((none, unmet, nothing, same), kept) = let bad : ⊥ = cc in absurd bad
   row to o most (suc n) met few ((mid, x, before, one, stops, was, within, all), kept) =
       let (last, at) = row-at n mid (omega (arith, few)) before in
@@ -194,23 +227,23 @@ module _ (t : Target) (bytes : List ℕ) (count : ℕ) (free : is_before_stop t.
 
 -- ---- where it may start
 
-row-free : (t to : Target) (bytes : List ℕ) (o : Outcome) → is_free bytes t ≡ true → RunsToStop t.points.breakpoints.items bytes t.run o to.run → IsRow t o to
-row-free t to bytes o starts ran =
+row-free : (r : LetRun) (t to : Target) (bytes : List ℕ) (o : Outcome) → is_free bytes t ≡ true → RunsToStop t.points.breakpoints.items bytes t.run o to.run → IsRow r t o to
+row-free r t to bytes o starts ran =
     let at = is_before_stop t.points.breakpoints.items bytes t.run.session.machine.world in
     let free : at ≡ false = not-true at (and_parts (is_some (current_of t)) (not at) starts).1 in
-    row t bytes ran.sent free ran.runs to o ran.most ran.sent ran.met (omega arith) ran.stopped
+    row r t bytes ran.sent free ran.runs to o ran.most ran.sent ran.met (omega arith) ran.stopped
 
-pub row-of : (t to : Target) (bytes : List ℕ) (o : Outcome) → bytes ≡ watched_addresses t.points → is_free bytes t ≡ true
-    → RunsToStop t.points.breakpoints.items (watched_addresses t.points) t.run o to.run → IsRow t o to
-row-of t to bytes o all starts ran = row-free t to (watched_addresses t.points) o (subst (λ (b : List ℕ). is_free b t ≡ true) all starts) ran
+pub row-of : (r : LetRun) (t to : Target) (bytes : List ℕ) (o : Outcome) → bytes ≡ watched_addresses t.points → is_free bytes t ≡ true
+    → RunsToStop t.points.breakpoints.items (watched_addresses t.points) t.run o to.run → IsRow r t o to
+row-of r t to bytes o all starts ran = row-free r t to (watched_addresses t.points) o (subst (λ (b : List ℕ). is_free b t ≡ true) all starts) ran
 
 pub starts-free : (until : Until) (bytes : List ℕ) (t : Target) → starts_row until bytes t ≡ true → (until ≡ Point) × (is_free bytes t ≡ true)
 starts-free Point bytes t starts = (refl, (and_parts (not (is_bare t.points)) (is_free bytes t) starts).1)
 starts-free (StepOf p) bytes t starts = cc
 starts-free AnyStep bytes t starts = cc
 
-pub looks-free : (b : Back) (bytes : List ℕ) (t : Target) → looks_at_row b bytes t ≡ true → (b ≡ back.Point) × (is_free bytes t ≡ true) × NextIsRun t.run
-looks-free back.Point bytes t looks =
+pub looks-free : (b : Back) (bytes : List ℕ) (t : Target) → looks_at_row b bytes t ≡ true → (b ≡ back.Point (let_run_of b)) × (is_free bytes t ≡ true) × NextIsRun t.run
+looks-free (back.Point let_run) bytes t looks =
     let e = event_at t.run.rounds.keys.items t.run.rounds.quantum (length t.run.session.events) in
     let both = and_parts (is_run e) (is_free bytes t) looks in
     (refl, both.1, run_of_true e both.0)

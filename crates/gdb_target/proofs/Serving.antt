@@ -13,7 +13,7 @@ use Rattle.gdb_target.specs.declared.service.serving.After.TheVariants.{GoesOn, 
 use Rattle.gdb_target.specs.declared.service.serving.Service.{Service}
 use Rattle.gdb_target.specs.declared.target.Pause.{Pause}
 use Rattle.gdb_target.specs.declared.target.Target.{Target}
-use Rattle.gdb_target.specs.declared.target.Until.{Until}
+use Rattle.gdb_target.specs.declared.target.Way.{Way}
 
 -- ---- what is kept
 
@@ -36,9 +36,9 @@ pub sent_later : (a b c : Option (List ℕ)) (bytes kept : List ℕ) → Appends
 sent_later a b c bytes kept appends sent = record { text = sent.text; whole = sent.whole; last = ends-later a b c bytes kept appends sent.last }
 
 -- nor does what is written before a pause
-pub paused_later : (until : Until) (old : Target) (p : Option Pause) (new : Target) (a b c : Option (List ℕ)) (kept : List ℕ) → Pauses until old p new a b → IsSentLast kept b c → IsSentLast kept a c
-paused_later until old p new a b c kept (inl is) sent = subst (λ (x : Option (List ℕ)). IsSentLast kept x c) is.nothing sent
-paused_later until old p new a b c kept (inr resumes) sent = sent_later a b c (flat_map shown_told resumes.1.alone.texts) kept resumes.1.alone.sent sent
+pub paused_later : (way : Way) (old : Target) (p : Option Pause) (new : Target) (a b c : Option (List ℕ)) (kept : List ℕ) → Pauses way old p new a b → IsSentLast kept b c → IsSentLast kept a c
+paused_later way old p new a b c kept (inl is) sent = subst (λ (x : Option (List ℕ)). IsSentLast kept x c) is.nothing sent
+paused_later way old p new a b c kept (inr resumes) sent = sent_later a b c (flat_map shown_told resumes.1.alone.texts) kept resumes.1.alone.sent sent
 
 pub kept_later : (sends : Bool) (old new : List ℕ) (a b c : Option (List ℕ)) (bytes : List ℕ) → Appends a b bytes → IsKeptIf sends old new b c → IsKeptIf sends old new a c
 kept_later true old new a b c bytes appends kept = sent_later a b c bytes new appends kept

@@ -1,5 +1,6 @@
 -- A process that stands at a breakpoint.
-use Rattle.std.proofs.Common.{◌≡◌, ℕ, List, Option, None, Some, true, ap}
+use Rattle.std.proofs.Common.{◌≡◌, ℕ, List, Option, None, Some, true, ap, subst}
+use Rattle.std.specs.Prelude.{IfSome}
 use Rattle.std.proofs.lemmas.Bool.{false≢true, eqb-true, and_parts}
 use Rattle.kcall_core.specs.Observers.{registers_of}
 use Rattle.xv_session.specs.Names.{place_in}
@@ -16,3 +17,8 @@ stands_there run program addresses p starts stands =
     let runs = is_place program (place_in p run.session.names) in
     let both = and_parts at runs stands in
     record { starts = starts; runs = is-place program (place_in p run.session.names) both.1; at = both.0 }
+
+-- what holds of the one that is given on, and of what it was before
+pub if-both : (o r : Option ℕ) (P Q : ℕ → Type 0) → IfSome r (λ (p : ℕ). o ≡ Some p) → IfSome r Q → IfSome o P → IfSome r (λ (p : ℕ). P p × Q p)
+if-both o None P Q same other holds = tt
+if-both o (Some p) P Q same other holds = (subst (λ (x : Option ℕ). IfSome x P) same holds, other)

@@ -1,15 +1,20 @@
 -- What is sent of a stop.
-use Rattle.std.proofs.Common.{◌≡◌, ℕ, List, Option, length, subst, sym}
+use Rattle.std.proofs.Common.{◌≡◌, ℕ, List, ◌∷◌, ◌++◌, Option, length, subst, sym, true}
 use Rattle.std.proofs.KnownBytes.{Appends-trans}
+use Rattle.std.specs.Io.KnownBytes.{Appends}
+use Rattle.hex.specs.Hex.{encode_lower}
+use Rattle.gdb_packets.specs.Answers.{no_resumed}
 use Rattle.gdb_packets.specs.Packets.{packet}
 use Rattle.gdb_packets.specs.declared.answers.StopReason.{StopReason}
 use Rattle.gdb_packets.specs.declared.answers.StopReason.TheVariants.{Interrupt, Trap}
 use Rattle.gdb_target.specs.Choices.{StopsAt, choices}
 use Rattle.gdb_target.specs.Found.{StandsFor}
 use Rattle.gdb_target.specs.LastHit.{GoesBackToLast}
+use Rattle.gdb_target.specs.LetRun.{lets}
 use Rattle.gdb_target.specs.Sent.{Sends, stop_told}
 use Rattle.gdb_target.specs.SameRun.{beginning}
-use Rattle.gdb_target.specs.Served.{IsOver, IsRestarted, IsReversed}
+use Rattle.gdb_target.specs.Served.{IsGoneTold, IsOver, IsRestarted, IsReversed, over_note}
+use Rattle.gdb_target.specs.declared.let_run.LetRun.{LetRun}
 use Rattle.gdb_target.specs.declared.reverse.Back.{Back}
 use Rattle.gdb_target.specs.declared.target.Target.{Target}
 
@@ -29,13 +34,17 @@ restarted was old mid new p h k boot begins chosen first stops same sent =
     let told = stops_told old mid new Trap p h k stops same sent in
     record { to = old; boot = boot; same = begins; chosen = chosen; stops = subst (λ (q : ℕ). StopsAt old Trap q new) first told.0; sent = told.1 }
 
-pub over : (old mid new : Target) (reason : StopReason) (p : ℕ) (note : List ℕ) (h k m : Option (List ℕ)) → reason ≡ Interrupt → StopsAt old reason p mid → new ≡ mid
-    → Sends h k note → Sends k m (stop_told mid) → IsOver old new h m
-over old mid new reason p note h k m why stops same noted sent =
+pub over : (r : LetRun) (old mid new : Target) (reason : StopReason) (p : ℕ) (note : List ℕ) (h k m : Option (List ℕ)) → note ≡ 79 ∷ encode_lower (over_note old.most)
+    → reason ≡ Interrupt → lets r p ≡ true → StopsAt old reason p mid → new ≡ mid
+    → Sends h k note → Sends k m (stop_told mid) → IsOver r old new h m
+over r old mid new reason p note h k m text why lets_it stops same noted sent =
     let told = stops_told old mid new reason p k m stops same sent in
     record {
-      note = note;
       pid = p;
-      stops = subst (λ (r : StopReason). StopsAt old r p new) why told.0;
-      sent = Appends-trans h k m (packet note) (packet (stop_told new)) noted told.1;
+      of = lets_it;
+      stops = subst (λ (it : StopReason). StopsAt old it p new) why told.0;
+      sent = subst (λ (it : List ℕ). Appends h m (packet it ++ packet (stop_told new))) text (Appends-trans h k m (packet note) (packet (stop_told new)) noted told.1);
     }
+
+pub gone : (old mid : Target) (reason : StopReason) (p : ℕ) (h k : Option (List ℕ)) → reason ≡ Trap → StopsAt old reason p mid → Sends h k no_resumed → IsGoneTold old mid h k
+gone old mid reason p h k why stops sent = record { pid = p; stops = subst (λ (r : StopReason). StopsAt old r p mid) why stops; sent = sent }

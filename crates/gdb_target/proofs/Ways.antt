@@ -1,22 +1,27 @@
 -- Stretches and looks, one after another.
 use Rattle.std.proofs.Common.{◌≡◌, ◌⊎◌, ◌∙◌, ℕ, zero, suc, ◌+◌, ◌<◌, ◌≤◌, inl, inr, length, refl, sym, ap, subst, arith, Option, None, Some}
-use Rattle.std.specs.Prelude.{IfSome}
+use Rattle.std.proofs.lemmas.Bool.{eq-eqb}
+use Rattle.std.specs.Prelude.{Bool, IfSome, IsSome, false, true}
 use Rattle.kernel_spec.specs.runs.Run.{Outcome}
+use Rattle.kernel_spec.specs.views.State.{live}
 use Rattle.gdb_packets.specs.declared.answers.StopReason.{StopReason}
 use Rattle.gdb_packets.specs.declared.answers.StopReason.TheVariants.{Watch}
 use Rattle.gdb_target.specs.Before.{told_before}
-use Rattle.gdb_target.specs.Forth.{Passed, Stretch, IsJudged, IsStopFor, Goes, GoesBy, Stands, TellsIf, halted_of, is_step, standing}
-use Rattle.gdb_target.specs.LastHit.{IsPointHit, Looked, Looks, later}
+use Rattle.gdb_target.specs.Forth.{Passed, Stretch, IsJudged, IsStopFor, Goes, GoesBy, Stands, TellsIf, halted_of}
+use Rattle.gdb_target.specs.LastHit.{IsHitBefore, IsHitOf, IsPointHit, Looked, Looks, later, step_hit}
+use Rattle.gdb_target.specs.LetRun.{lets}
+use Rattle.gdb_target.specs.Standing.{stander}
+use Rattle.gdb_target.specs.Told.{state_of}
+use Rattle.gdb_target.specs.declared.let_run.LetRun.{LetRun}
 use Rattle.gdb_target.specs.declared.reverse.Back.{Back}
 use Rattle.gdb_target.specs.declared.reverse.Back.TheVariants as backs
 use Rattle.gdb_target.specs.declared.reverse.Hit.{Hit}
 use Rattle.gdb_target.specs.declared.target.Pause.{Pause}
-use Rattle.gdb_target.specs.declared.target.Pause.TheVariants.{Shows, Stopped, Ended}
+use Rattle.gdb_target.specs.declared.target.Pause.TheVariants.{Shows, Stopped, Gone, Ended}
 use Rattle.gdb_target.specs.declared.target.Stopped as stops
 use Rattle.gdb_target.specs.declared.target.Target.{Target}
-use Rattle.gdb_target.specs.declared.target.Until.{Until}
-use Rattle.gdb_target.specs.declared.target.Until.TheVariants.{Point}
-use Rattle.gdb_target.proofs.Rows.{IsRow}
+use Rattle.gdb_target.specs.declared.target.Way.{Way}
+use Rattle.gdb_target.proofs.Rows.{IsRow, to_point}
 
 -- ---- forth
 
@@ -25,57 +30,71 @@ pub one-or : {U : Type 0} (most old new : ℕ) → (most ≡ 1) ⊎ U → old < 
 one-or most old new (inl one) more within = inl (omega (arith, one, more, within))
 one-or most old new (inr free) more within = inr free
 
-module _ (until : Until) where
+module _ (way : Way) where
   -- the stop before what came is told
-  told-goes : (from mid new : Target) (o : Outcome) (p : Option Pause) (before : Option stops.Stopped) → Stretch until from mid o → told_before o ≡ before → TellsIf before mid p new
-      → Goes until from p new
+  told-goes : (from mid new : Target) (o : Outcome) (p : Option Pause) (before : Option stops.Stopped) → Stretch way.until from mid o → told_before way.let_run o ≡ before
+      → TellsIf before mid p new → Goes way from p new
   told-goes from mid new o p None stretch is told = absurd told
-  told-goes from mid new o p (Some s) stretch is told = subst (λ (q : Option Pause). Goes until from q new) (sym told.pause_is)
+  told-goes from mid new o p (Some s) stretch is told = subst (λ (q : Option Pause). Goes way from q new) (sym told.pause_is)
       (inl (record { happened = mid; outcome = o; stretch = stretch; told = is; back = told.back }))
 
-  stands-goes : (from mid new : Target) (o : Outcome) (p : Option Pause) → Stretch until from mid o → new ≡ mid → Stands (is_step until o) new p → Goes until from p new
+  stands-goes : (from mid new : Target) (o : Outcome) (p : Option Pause) → Stretch way.until from mid o → new ≡ mid → Stands way o new p → Goes way from p new
   stands-goes from mid new o None stretch same stands =
-      record { outcome = o; stretch = subst (λ (t : Target). Stretch until from t o) (sym same) stretch; no_step = stands.0; nobody = stands.1 }
+      record { outcome = o; stretch = subst (λ (t : Target). Stretch way.until from t o) (sym same) stretch; no_step = stands.0; nobody = stands.1; there = stands.2 }
   stands-goes from mid new o (Some Shows) stretch same stands = absurd stands
-  stands-goes from mid new o (Some (Stopped s)) stretch same (why, trap) = inr (record {
+  stands-goes from mid new o (Some (Stopped s)) stretch same (why, trap, lets_it) = inr (record {
     outcome = o;
-    stretch = subst (λ (t : Target). Stretch until from t o) (sym same) stretch;
-    is = subst (λ (r : StopReason). IsStopFor (is_step until o) r s.pid new) (sym why) trap;
+    stretch = subst (λ (t : Target). Stretch way.until from t o) (sym same) stretch;
+    is = subst (λ (r : StopReason). IsStopFor way o r s.pid new) (sym why) trap;
+    let_run = lets_it;
   })
+  stands-goes from mid new o (Some Gone) stretch same gone =
+      record { outcome = o; stretch = subst (λ (t : Target). Stretch way.until from t o) (sym same) stretch; gone = gone }
   stands-goes from mid new o (Some (Ended status)) stretch same stands = absurd stands
 
-  pub judged-goes : (from mid new : Target) (o : Outcome) (p : Option Pause) → Stretch until from mid o → IsJudged (told_before o) (is_step until o) mid p new → Goes until from p new
-  judged-goes from mid new o p stretch (inl told) = told-goes from mid new o p (told_before o) stretch refl told
+  pub judged-goes : (from mid new : Target) (o : Outcome) (p : Option Pause) → Stretch way.until from mid o → IsJudged way (told_before way.let_run o) o mid p new → Goes way from p new
+  judged-goes from mid new o p stretch (inl told) = told-goes from mid new o p (told_before way.let_run o) stretch refl told
   judged-goes from mid new o p stretch (inr (same, stands)) = stands-goes from mid new o p stretch same stands
 
-  pub passed-join : (n m : ℕ) (a b c : Target) → Passed until n a b → Passed until m b c → (k : ℕ) × Passed until k a c
-  passed-join n zero a b c p same = (n, subst (λ (t : Target). Passed until n a t) (sym same) p)
+  pub passed-join : (n m : ℕ) (a b c : Target) → Passed way n a b → Passed way m b c → (k : ℕ) × Passed way k a c
+  passed-join n zero a b c p same = (n, subst (λ (t : Target). Passed way n a t) (sym same) p)
   passed-join n (suc m) a b c p (mid, rest, last) = let (k, so_far) = passed-join n m a b mid p rest in (suc k, (mid, so_far, last))
 
-  pub goes-once : (a b : Target) (p : Option Pause) → Goes until a p b → GoesBy until a p b
+  pub goes-once : (a b : Target) (p : Option Pause) → Goes way a p b → GoesBy way a p b
   goes-once a b None g = record { stretches = 1; last = b; passed = (a, refl, g); ends = refl }
   goes-once a b (Some pause) g = record { stretches = 0; last = a; passed = refl; ends = g }
 
-  pub goes-further : (n : ℕ) (a b c : Target) (p : Option Pause) → Passed until n a b → GoesBy until b p c → GoesBy until a p c
+  pub goes-further : (n : ℕ) (a b c : Target) (p : Option Pause) → Passed way n a b → GoesBy way b p c → GoesBy way a p c
   goes-further n a b c p passed g =
       let (k, so_far) = passed-join n g.stretches a b g.last passed g.passed in
       record { stretches = k; last = g.last; passed = so_far; ends = g.ends }
 
-  pub all-passed : (a c : Target) → GoesBy until a None c → (k : ℕ) × Passed until k a c
-  all-passed a c g = (g.stretches, subst (λ (t : Target). Passed until g.stretches a t) (sym g.ends) g.passed)
+  pub all-passed : (a c : Target) → GoesBy way a None c → (k : ℕ) × Passed way k a c
+  all-passed a c g = (g.stretches, subst (λ (t : Target). Passed way g.stretches a t) (sym g.ends) g.passed)
+
+  -- by a stretch bytes that are watched became others
+  pub changed-goes : (a b : Target) (o : Outcome) (s : stops.Stopped) (address : ℕ) → Stretch way.until a b o → s.reason ≡ Watch address → halted_of b ≡ None
+      → IsSome (live (state_of b) s.pid) → lets way.let_run s.pid ≡ true → Goes way a (Some (Stopped s)) b
+  changed-goes a b o s address stretch why goes_on lives lets_it = inr (record {
+    outcome = o;
+    stretch = stretch;
+    is = subst (λ (r : StopReason). IsStopFor way o r s.pid b) (sym why) (goes_on, lives);
+    let_run = lets_it;
+  })
 
 -- a row, and what is judged of it
-pub row-goes : (a mid new : Target) (o : Outcome) (p : Option Pause) → IsRow a o mid → IsJudged (told_before o) (is_step Point o) mid p new → GoesBy Point a p new
-row-goes a mid new o p row judged =
-    goes-further Point row.stretches a row.last new p row.passed (goes-once Point row.last new p (judged-goes Point row.last mid new o p row.stretch judged))
+pub row-goes : (r : LetRun) (a mid new : Target) (o : Outcome) (p : Option Pause) → IsRow r a o mid → IsJudged (to_point r) (told_before r o) o mid p new → GoesBy (to_point r) a p new
+row-goes r a mid new o p row judged =
+    goes-further (to_point r) row.stretches a row.last new p row.passed (goes-once (to_point r) row.last new p (judged-goes (to_point r) row.last mid new o p row.stretch judged))
 
 -- by a row bytes that are watched became others
-pub row-changed : (a mid : Target) (o : Outcome) (s : stops.Stopped) (address : ℕ) → IsRow a o mid → s.reason ≡ Watch address → halted_of mid ≡ None → GoesBy Point a (Some (Stopped s)) mid
-row-changed a mid o s address row why goes_on = record {
+pub row-changed : (r : LetRun) (a mid : Target) (o : Outcome) (s : stops.Stopped) (address : ℕ) → IsRow r a o mid → s.reason ≡ Watch address → halted_of mid ≡ None
+    → IsSome (live (state_of mid) s.pid) → lets r s.pid ≡ true → GoesBy (to_point r) a (Some (Stopped s)) mid
+row-changed r a mid o s address row why goes_on lives lets_it = record {
   stretches = row.stretches;
   last = row.last;
   passed = row.passed;
-  ends = inr (record { outcome = o; stretch = row.stretch; is = subst (λ (r : StopReason). IsStopFor (is_step Point o) r s.pid mid) (sym why) goes_on });
+  ends = changed-goes (to_point r) row.last mid o s address row.stretch why goes_on lives lets_it;
 }
 
 -- ---- back
@@ -99,18 +118,28 @@ looked-join back n (suc m) a b c h k before (here, found, told, rest, looks, is)
     (suc j, (here, later h found, told, so_far, looks, ap (later h) is ∙ later-again h found told))
 
 -- a row, and what was told of its last Run
-pub row-looked : (a to : Target) (o : Outcome) (h : Option Hit) (place : ℕ) → (row : IsRow a o to) → length to.run.session.events ≡ place + 1 → IsPointHit place None h
-    → (n : ℕ) × Looked backs.Point n a to h
-row-looked a to o h place row count told =
+pub row-looked : (r q : LetRun) (a to : Target) (o : Outcome) (h : Option Hit) (place : ℕ) → (row : IsRow q a o to) → length to.run.session.events ≡ place + 1 → IsPointHit r place None h
+    → (n : ℕ) × Looked (backs.Point r) n a to h
+row-looked r q a to o h place row count told =
     let same : place ≡ length row.last.run.session.events = omega (arith, count, row.single) in
-    let here : IsPointHit (length row.last.run.session.events) (standing row.last) h =
-    subst (λ (s : Option ℕ). IsPointHit (length row.last.run.session.events) s h) (sym row.nobody) (subst (λ (n : ℕ). IsPointHit n None h) same told) in
-    (suc row.stretches, (row.last, None, h, row.looked, record { told = here; forth = record { more = omega (arith, row.single); single = inl row.single } }, later-alone h))
+    let here : IsPointHit r (length row.last.run.session.events) (stander row.last.run row.last.program row.last.points.breakpoints.items) h =
+    subst (λ (s : Option ℕ). IsPointHit r (length row.last.run.session.events) s h) (sym row.nobody) (subst (λ (n : ℕ). IsPointHit r n None h) same told) in
+    (suc row.stretches, (row.last, None, h, row.looked r, record { told = here; forth = record { more = omega (arith, row.single); single = inl row.single } }, later-alone h))
 
-pub hit-within : (h : Option Hit) (place end : ℕ) (stands : Option ℕ) → IsPointHit place stands h → place < end → IfSome h (λ (found : Hit). found.place < end)
-hit-within None place end stands told within = tt
-hit-within (Some h) place end stands told within = omega (arith, told.0, within)
+pub hit-within : (b : Back) (r : LetRun) (h : Option Hit) (place end : ℕ) (stands : Option ℕ) → b ≡ backs.Point r → IsPointHit r place stands h → place < end
+    → IfSome h (λ (found : Hit). IsHitBefore b end found)
+hit-within b r None place end stands is told within = tt
+hit-within b r (Some h) place end stands is told within = subst (λ (x : Back). IsHitBefore x end h) (sym is) (omega (arith, told.0, within), told.2)
 
-pub hit-here : (h : Option Hit) (place end : ℕ) → IfSome h (λ (found : Hit). found.place ≡ place) → place < end → IfSome h (λ (found : Hit). found.place < end)
-hit-here None place end told within = tt
-hit-here (Some h) place end told within = omega (arith, told, within)
+pub hit-of-step : (stood : Bool) (place p : ℕ) → IfSome (step_hit stood place p) (λ (found : Hit). IsHitOf (backs.StepOf p) place found)
+hit-of-step true place p = (refl, eq-eqb p p refl)
+hit-of-step false place p = tt
+
+-- what is told of a place is of a process that is let run
+pub hit-of : (r : LetRun) (h : Option Hit) (place : ℕ) (stands : Option ℕ) → IsPointHit r place stands h → IfSome h (λ (found : Hit). IsHitOf (backs.Point r) place found)
+hit-of r None place stands told = tt
+hit-of r (Some h) place stands told = (told.0, told.2)
+
+pub hit-here : (b : Back) (h : Option Hit) (place end : ℕ) → IfSome h (λ (found : Hit). IsHitOf b place found) → place < end → IfSome h (λ (found : Hit). IsHitBefore b end found)
+hit-here b None place end told within = tt
+hit-here b (Some h) place end told within = (omega (arith, told.0, within), told.1)

@@ -1,5 +1,5 @@
 -- What GDB has chosen of a machine, and what it is told last.
-use Rattle.std.specs.Prelude.{◌≡◌, ℕ, ◌⊎◌, Bool, IsSome}
+use Rattle.std.specs.Prelude.{◌≡◌, ℕ, ◌⊎◌, Bool, Option, IsSome}
 use Rattle.kernel_spec.specs.views.State.{State, live}
 use Rattle.gdb_packets.specs.declared.answers.StopReason.{StopReason}
 use Rattle.gdb_target.specs.Told.{state_of}
@@ -11,23 +11,22 @@ pub record Choices : Type 0 where
   pub program : ℕ
   pub points : Points
   pub looked_at : ℕ
-  pub stepped : ℕ
+  pub resumed : Option ℕ
+  pub most : ℕ
   pub stopped : Stopped
   pub interrupted : Bool
 
 abbrev pub choices : Target → Choices
-choices t = record { program = t.program; points = t.points; looked_at = t.looked_at; stepped = t.stepped; stopped = t.stopped; interrupted = t.interrupted }
+choices t = record { program = t.program; points = t.points; looked_at = t.looked_at; resumed = t.resumed; most = t.most; stopped = t.stopped; interrupted = t.interrupted }
 
 -- the process lives, or none does
 abbrev pub IsAlive : State → ℕ → Type 0
 IsAlive s p = IsSome (live s p) ⊎ ((q : ℕ) → ¬ IsSome (live s q))
 
--- This is the last stop from now on. Its process is the one that is looked at and that steps: this one if it lives, or else one that does
+-- This is the last stop from now on. Its process is the one that is looked at: this one if it lives, or else one that does. Nothing else changes
 pub record StopsAt (old : Target) (reason : StopReason) (p : ℕ) (new : Target) : Type 0 where
-  pub run : new.run ≡ old.run
+  pub rest : new ≡ record old { stopped = new.stopped; looked_at = new.looked_at }
   pub reason_is : new.stopped.reason ≡ reason
   pub lives : IsAlive (state_of old) new.stopped.pid
   pub this : IsSome (live (state_of old) p) → new.stopped.pid ≡ p
   pub looked_at : new.looked_at ≡ new.stopped.pid
-  pub stepped : new.stepped ≡ new.stopped.pid
-  pub points : new.points ≡ old.points

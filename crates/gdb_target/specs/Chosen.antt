@@ -1,5 +1,5 @@
 -- What GDB chooses: the process that it looks at, the one that it steps, and the points at which programs stop.
-use Rattle.std.specs.Prelude.{◌≡◌, ℕ, nat_lt, Bool, true, false, ◌==◌, ◌&&◌, not, if◌then◌else◌, List, [], ◌∷◌, ◌++◌, filter, codes, Option, None, Some, is_some, IsSome}
+use Rattle.std.specs.Prelude.{◌≡◌, ℕ, nat_lt, Bool, true, false, ◌==◌, ◌&&◌, not, if◌then◌else◌, List, [], ◌∷◌, ◌++◌, filter, codes, Option, None, Some, is_some, IsSome, unwrap_or}
 use Rattle.std.specs.List.{list_any}
 use Rattle.kernel_spec.specs.views.State.{live}
 use Rattle.gdb_packets.specs.Answers.{refusal}
@@ -11,6 +11,8 @@ use Rattle.gdb_packets.specs.declared.command.Resume.{Resume}
 use Rattle.gdb_packets.specs.declared.command.Resume.TheVariants.{Continue, Step}
 use Rattle.gdb_packets.specs.declared.command.Thread.{Thread}
 use Rattle.gdb_packets.specs.declared.command.Thread.TheVariants.{All, Any, One}
+use Rattle.gdb_target.specs.declared.let_run.LetRun.{LetRun}
+use Rattle.gdb_target.specs.declared.let_run.LetRun.TheVariants as runs
 use Rattle.gdb_target.specs.declared.points.Points.{Points}
 use Rattle.gdb_target.specs.declared.points.TheConstants.{WATCHED_MOST}
 use Rattle.gdb_target.specs.declared.points.Watched.{Watched}
@@ -18,6 +20,7 @@ use Rattle.gdb_target.specs.declared.target.Target.{Target}
 use Rattle.gdb_target.specs.declared.target.Until.{Until}
 use Rattle.gdb_target.specs.declared.target.Until.TheVariants.{StepOf, AnyStep}
 use Rattle.gdb_target.specs.declared.target.Until.TheVariants as untils
+use Rattle.gdb_target.specs.declared.target.Way.{Way}
 use Rattle.gdb_target.specs.Seen.{IsNoThread}
 use Rattle.gdb_target.specs.Told.{state_of}
 
@@ -30,9 +33,13 @@ IsMeant t Any p = p ≡ Some t.stopped.pid
 IsMeant t (One n) None = IsNoThread (state_of t) n
 IsMeant t (One n) (Some p) = (p ≡ n) × IsSome (live (state_of t) n)
 
--- the process that was chosen for steps; none, if it doesn't live
+-- this process, if it lives
+abbrev pub if_live : Target → ℕ → Option ℕ
+if_live t p = if is_some (live (state_of t) p) then Some p else None
+
+-- the process that steps if a command names none: the one that was chosen to run alone, or else the one that is looked at; none, if it doesn't live
 abbrev pub chosen_for_steps : Target → Option ℕ
-chosen_for_steps t = if is_some (live (state_of t) t.stepped) then Some t.stepped else None
+chosen_for_steps t = if_live t (unwrap_or t.resumed t.looked_at)
 
 -- the process that a step of a thread means: that one, if no thread is named
 abbrev pub IsStepped : Target → Thread → Option ℕ → Type 0
@@ -56,15 +63,50 @@ IsUntil t (Step All) until = until ≡ Some AnyStep
 IsUntil t (Step Any) until = IsUntilStep t Any until
 IsUntil t (Step (One n)) until = IsUntilStep t (One n) until
 
+-- this process alone, if there is one
+abbrev pub alone : Option ℕ → Option LetRun
+alone None = None
+alone (Some p) = Some (runs.Alone p)
+
+-- whom a command lets run that names no thread: the one that was chosen to run alone, or else all; none, if that one doesn't live
+abbrev pub to_run : Target → Option ℕ → Option LetRun
+to_run t None = Some runs.All
+to_run t (Some p) = alone (if_live t p)
+
+abbrev pub chosen_to_run : Target → Option LetRun
+chosen_to_run t = to_run t t.resumed
+
+-- whom a command lets run; none, if no live process has the number that it names
+abbrev pub IsLetRun : Target → Thread → Option LetRun → Type 0
+IsLetRun t All let_run = let_run ≡ Some runs.All
+IsLetRun t Any let_run = let_run ≡ chosen_to_run t
+IsLetRun t (One n) None = IsNoThread (state_of t) n
+IsLetRun t (One n) (Some let_run) = (let_run ≡ runs.Alone n) × IsSome (live (state_of t) n)
+
+abbrev pub both : Option Until → Option LetRun → Option Way
+both None let_run = None
+both (Some until) None = None
+both (Some until) (Some let_run) = Some (record { until = until; let_run = let_run })
+
+-- How a command goes on; not at all, if a process that it names doesn't live
+abbrev pub IsWay : Target → Resume → Thread → Option Way → Type 0
+IsWay t how thread way = (until : Option Until) × (let_run : Option LetRun) × IsUntil t how until × IsLetRun t thread let_run × (way ≡ both until let_run)
+
+-- the process that a choice of a thread lets run alone: none, if no thread is named
+abbrev pub runner : Thread → (p : ℕ) → Option ℕ
+runner All p = None
+runner Any p = None
+runner (One n) p = Some p
+
 -- the process is chosen for commands that go on, or for those that look
-abbrev pub chosen : (resumes : Bool) → ℕ → Target → Target
-chosen true p t = record t { stepped = p }
-chosen false p t = record t { looked_at = p }
+abbrev pub chosen : Thread → (resumes : Bool) → ℕ → Target → Target
+chosen thread true p t = record t { resumed = runner thread p }
+chosen thread false p t = record t { looked_at = p }
 
 -- A choice of a process that is there is answered by OK, and any other changes nothing
-abbrev pub IsChosen : Option ℕ → (resumes : Bool) → (old new : Target) → (text : List ℕ) → Type 0
-IsChosen None resumes old new text = (new ≡ old) × (text ≡ refusal 3)
-IsChosen (Some p) resumes old new text = (new ≡ chosen resumes p old) × (text ≡ codes "OK")
+abbrev pub IsChosen : Option ℕ → Thread → (resumes : Bool) → (old new : Target) → (text : List ℕ) → Type 0
+IsChosen None thread resumes old new text = (new ≡ old) × (text ≡ refusal 3)
+IsChosen (Some p) thread resumes old new text = (new ≡ chosen thread resumes p old) × (text ≡ codes "OK")
 
 -- ---- points
 
@@ -121,7 +163,7 @@ IsInserted point address length old new text = IsInsertedIf (is_too_long point l
 
 -- What a command leaves of what GDB has chosen, and what it is answered if it chooses
 abbrev pub Chooses : Target → Command → (new : Target) → (text : List ℕ) → Type 0
-Chooses old (on.Choose thread resumes) new text = (p : Option ℕ) × IsMeant old thread p × IsChosen p resumes old new text
+Chooses old (on.Choose thread resumes) new text = (p : Option ℕ) × IsMeant old thread p × IsChosen p thread resumes old new text
 Chooses old (on.Insert point address length) new text = IsInserted point address length old new text
 Chooses old (on.Remove point address length) new text = PointsAlone old new × IsTaken point address length old.points new.points × (text ≡ codes "OK")
 Chooses old _ new text = new ≡ old

@@ -1,5 +1,6 @@
 -- What a command that goes on goes by, and where it ends.
-use Rattle.std.specs.Prelude.{◌≡◌, ◌⊎◌, ℕ, ℤ, zero, suc, ◌+◌, ◌-◌, Bool, true, false, not, ◌==◌, ◌&&◌, length, Option, None, Some, is_none}
+use Rattle.std.specs.Prelude.{◌≡◌, ◌⊎◌, ℕ, ℤ, zero, suc, ◌+◌, ◌-◌, ◌^◌, Bool, true, false, not, ◌==◌, ◌&&◌, length, min, Option, None, Some, IsSome, is_none}
+use Rattle.kernel_spec.specs.views.State.{live}
 use Rattle.kernel_spec.specs.steps.Own.{Answer, Stepped, Called, Blocked, Exited, Faulted}
 use Rattle.kernel_spec.specs.runs.Run as runs
 use Rattle.kernel_spec.specs.runs.Run.{Outcome}
@@ -7,15 +8,20 @@ use Rattle.gdb_packets.specs.declared.answers.StopReason.{StopReason}
 use Rattle.gdb_packets.specs.declared.answers.StopReason.TheVariants as why
 use Rattle.gdb_target.specs.Before.{told_before}
 use Rattle.gdb_target.specs.Came.{Comes}
+use Rattle.gdb_target.specs.LetRun.{if_let, lets, teller}
 use Rattle.gdb_target.specs.SameRun.{beginning}
 use Rattle.gdb_target.specs.Standing.{stander}
+use Rattle.gdb_target.specs.Told.{state_of}
+use Rattle.gdb_target.specs.declared.let_run.LetRun.{LetRun}
+use Rattle.gdb_target.specs.declared.let_run.LetRun.TheVariants.{All, Alone}
 use Rattle.gdb_target.specs.declared.points.Points.{Points}
 use Rattle.gdb_target.specs.declared.target.Pause.{Pause}
-use Rattle.gdb_target.specs.declared.target.Pause.TheVariants.{Shows, Stopped, Ended}
+use Rattle.gdb_target.specs.declared.target.Pause.TheVariants.{Shows, Stopped, Gone, Ended}
 use Rattle.gdb_target.specs.declared.target.Stopped as stops
 use Rattle.gdb_target.specs.declared.target.Target.{Target}
 use Rattle.gdb_target.specs.declared.target.Until.{Until}
 use Rattle.gdb_target.specs.declared.target.Until.TheVariants.{Point, StepOf, AnyStep}
+use Rattle.gdb_target.specs.declared.target.Way.{Way}
 
 -- ---- steps
 
@@ -43,15 +49,38 @@ is_step until (runs.Typed echo) = false
 is_step until (runs.Sent byte) = false
 is_step until runs.Halted = false
 
+-- by this answer the process is gone
+abbrev pub is_end : Answer → Bool
+is_end Stepped = false
+is_end (Called number value) = false
+is_end (Blocked number) = false
+is_end (Exited status) = true
+is_end (Faulted cause) = true
+
+-- this is the one that is let run alone
+abbrev pub is_alone : LetRun → (p : ℕ) → Bool
+is_alone All p = false
+is_alone (Alone only) p = only == p
+
+-- by this the process is gone that is let run alone
+abbrev pub ends_alone : LetRun → Outcome → Bool
+ends_alone let_run (runs.Step_of p answer) = is_end answer && is_alone let_run p
+ends_alone let_run (runs.Turn p) = false
+ends_alone let_run runs.Idle = false
+ends_alone let_run runs.Ticked = false
+ends_alone let_run (runs.Typed echo) = false
+ends_alone let_run (runs.Sent byte) = false
+ends_alone let_run runs.Halted = false
+
 -- ---- places
 
 -- the status with which the machine has halted
 abbrev pub halted_of : Target → Option ℤ
 halted_of t = t.run.session.machine.world.turns.halted
 
--- the process that stands at a breakpoint
-abbrev pub standing : Target → Option ℕ
-standing t = stander t.run t.program t.points.breakpoints.items
+-- the process that stands at a breakpoint, if it is let run
+abbrev pub standing : LetRun → Target → Option ℕ
+standing let_run t = if_let let_run (stander t.run t.program t.points.breakpoints.items)
 
 -- there is no point
 abbrev pub is_bare : Points → Bool
@@ -80,31 +109,53 @@ pub record Stretch (until : Until) (from to : Target) (o : Outcome) : Type 0 whe
 abbrev pub is_reached : Bool → Target → Bool
 is_reached so t = so && is_none (halted_of t)
 
+-- a step that is waited for is done
+abbrev pub is_step_done : Way → Outcome → Target → Bool
+is_step_done way o t = is_reached (is_step way.until o) t
+
+-- the process that is let run alone is gone
+abbrev pub is_gone : Way → Outcome → Target → Bool
+is_gone way o t = is_reached (ends_alone way.let_run o) t
+
 -- ---- the way
 
--- at its end no step is done that is waited for, and no process stands at a breakpoint
-pub record IsPassed (until : Until) (from to : Target) : Type 0 where
+-- at its end no step is done that is waited for, no process that is let run stands at a breakpoint, and the one that is let run alone isn't gone
+pub record IsPassed (way : Way) (from to : Target) : Type 0 where
   pub outcome : Outcome
-  pub stretch : Stretch until from to outcome
-  pub no_step : is_reached (is_step until outcome) to ≡ false
-  pub nobody : standing to ≡ None
+  pub stretch : Stretch way.until from to outcome
+  pub no_step : is_step_done way outcome to ≡ false
+  pub nobody : standing way.let_run to ≡ None
+  pub there : is_gone way outcome to ≡ false
 
 -- so many such stretches, one after another
-abbrev pub Passed : Until → (stretches : ℕ) → (from to : Target) → Type 0
-Passed until zero from to = to ≡ from
-Passed until (suc n) from to = (mid : Target) × Passed until n from mid × IsPassed until mid to
+abbrev pub Passed : Way → (stretches : ℕ) → (from to : Target) → Type 0
+Passed way zero from to = to ≡ from
+Passed way (suc n) from to = (mid : Target) × Passed way n from mid × IsPassed way mid to
 
 -- ---- the end
 
--- a step is done, or this process stands at a breakpoint
-abbrev pub IsTrap : (done : Bool) → (p : ℕ) → Target → Type 0
-IsTrap done p t = (is_reached done t ≡ true) ⊎ (standing t ≡ Some p)
+-- it may be the process that did a step: the one whose step was waited for
+abbrev pub IsStepper : Until → (p : ℕ) → Type 0
+IsStepper Point p = Unit {0}
+IsStepper (StepOf wanted) p = p ≡ wanted
+IsStepper AnyStep p = Unit {0}
 
--- Why it stops: at a trap; or since bytes that are watched became others
-abbrev pub IsStopFor : (done : Bool) → StopReason → (p : ℕ) → Target → Type 0
-IsStopFor done why.Trap p t = IsTrap done p t
-IsStopFor done (why.Watch address) p t = halted_of t ≡ None
-IsStopFor done _ p t = ⊥
+-- a step is done, which is told of the process that did it
+pub record IsStepDone (way : Way) (o : Outcome) (p : ℕ) (t : Target) : Type 0 where
+  pub reached : is_step_done way o t ≡ true
+  pub by : ℕ
+  pub stepper : IsStepper way.until by
+  pub told_of : p ≡ teller way.let_run by
+
+-- a step is done, or this process stands at a breakpoint; and the one that is let run alone isn't gone
+abbrev pub IsTrap : Way → Outcome → (p : ℕ) → Target → Type 0
+IsTrap way o p t = (IsStepDone way o p t ⊎ (standing way.let_run t ≡ Some p)) × (is_gone way o t ≡ false)
+
+-- Why it stops: at a trap; or since bytes that are watched became others, of a process that lives
+abbrev pub IsStopFor : Way → Outcome → StopReason → (p : ℕ) → Target → Type 0
+IsStopFor way o why.Trap p t = IsTrap way o p t
+IsStopFor way o (why.Watch address) p t = (halted_of t ≡ None) × IsSome (live (state_of t) p)
+IsStopFor way o _ p t = ⊥
 
 -- From the place to which the run had come it went back by one event, and notes that this place was told
 pub record IsOneBack (old new : Target) : Type 0 where
@@ -113,45 +164,69 @@ pub record IsOneBack (old new : Target) : Type 0 where
   pub noted : new.told ≡ Some (length new.run.session.events)
 
 -- The next event of the run makes the fault, or ends process 1, and the stop is the one that is told before that. The last stretch led to there, and the run went back by this event
-pub record IsBeforeTold (until : Until) (from : Target) (stopped : stops.Stopped) (to : Target) : Type 0 where
+pub record IsBeforeTold (way : Way) (from : Target) (stopped : stops.Stopped) (to : Target) : Type 0 where
   pub happened : Target
   pub outcome : Outcome
-  pub stretch : Stretch until from happened outcome
-  pub told : told_before outcome ≡ Some stopped
+  pub stretch : Stretch way.until from happened outcome
+  pub told : told_before way.let_run outcome ≡ Some stopped
   pub back : IsOneBack happened to
 
--- the last stretch led to the stop
-pub record IsStop (until : Until) (from : Target) (reason : StopReason) (p : ℕ) (to : Target) : Type 0 where
+-- The last stretch led to the stop, of a process that is let run
+pub record IsStop (way : Way) (from : Target) (reason : StopReason) (p : ℕ) (to : Target) : Type 0 where
   pub outcome : Outcome
-  pub stretch : Stretch until from to outcome
-  pub is : IsStopFor (is_step until outcome) reason p to
+  pub stretch : Stretch way.until from to outcome
+  pub is : IsStopFor way outcome reason p to
+  pub let_run : lets way.let_run p ≡ true
+
+-- The last stretch led to where the process is gone that was let run alone
+pub record IsGone (way : Way) (from to : Target) : Type 0 where
+  pub outcome : Outcome
+  pub stretch : Stretch way.until from to outcome
+  pub gone : is_gone way outcome to ≡ true
+
+-- the machine has halted with this status, and this came of a Send for which no byte was left
+abbrev pub IsEndOf : Outcome → (status : ℤ) → Target → Type 0
+IsEndOf (runs.Sent None) status t = halted_of t ≡ Some status
+IsEndOf _ status t = ⊥
+
+-- The last stretch led to the end
+pub record IsEnd (way : Way) (from : Target) (status : ℤ) (to : Target) : Type 0 where
+  pub outcome : Outcome
+  pub stretch : Stretch way.until from to outcome
+  pub ended : IsEndOf outcome status to
 
 -- By a stretch it came to this pause; or it passed
-abbrev pub Goes : Until → (from : Target) → Option Pause → (to : Target) → Type 0
-Goes until from None to = IsPassed until from to
-Goes until from (Some Shows) to = IsPassed until from to
-Goes until from (Some (Stopped s)) to = IsBeforeTold until from s to ⊎ IsStop until from s.reason s.pid to
-Goes until from (Some (Ended status)) to = halted_of to ≡ Some status
+abbrev pub Goes : Way → (from : Target) → Option Pause → (to : Target) → Type 0
+Goes way from None to = IsPassed way from to
+Goes way from (Some Shows) to = IsPassed way from to
+Goes way from (Some (Stopped s)) to = IsBeforeTold way from s to ⊎ IsStop way from s.reason s.pid to
+Goes way from (Some Gone) to = IsGone way from to
+Goes way from (Some (Ended status)) to = IsEnd way from status to
 
-abbrev pub EndsBy : Until → (from : Target) → Option Pause → (to : Target) → Type 0
-EndsBy until from None to = to ≡ from
-EndsBy until from (Some pause) to = Goes until from (Some pause) to
+abbrev pub EndsBy : Way → (from : Target) → Option Pause → (to : Target) → Type 0
+EndsBy way from None to = to ≡ from
+EndsBy way from (Some pause) to = Goes way from (Some pause) to
 
 -- The run passed by stretches, none of which led to a stop; and by the next it came to this pause, or it went no further
-pub record GoesBy (until : Until) (old : Target) (pause : Option Pause) (new : Target) : Type 0 where
+pub record GoesBy (way : Way) (old : Target) (pause : Option Pause) (new : Target) : Type 0 where
   pub stretches : ℕ
   pub last : Target
-  pub passed : Passed until stretches old last
-  pub ends : EndsBy until last pause new
+  pub passed : Passed way stretches old last
+  pub ends : EndsBy way last pause new
+
+-- the place after which a command that goes on from here sends no event
+abbrev pub end_of : Target → ℕ
+end_of t = min (length t.run.session.events + t.most) (2 ^ 64 - 1)
 
 -- ---- parts of it
 
--- what stands here: a trap, or nothing that stops
-abbrev pub Stands : (done : Bool) → Target → Option Pause → Type 0
-Stands done t None = (is_reached done t ≡ false) × (standing t ≡ None)
-Stands done t (Some Shows) = ⊥
-Stands done t (Some (Stopped s)) = (s.reason ≡ why.Trap) × IsTrap done s.pid t
-Stands done t (Some (Ended status)) = ⊥
+-- what stands here after this: nobody, since the process is gone that is let run alone; a trap; or nothing that stops
+abbrev pub Stands : Way → Outcome → Target → Option Pause → Type 0
+Stands way o t None = (is_step_done way o t ≡ false) × (standing way.let_run t ≡ None) × (is_gone way o t ≡ false)
+Stands way o t (Some Shows) = ⊥
+Stands way o t (Some (Stopped s)) = (s.reason ≡ why.Trap) × IsTrap way o s.pid t × (lets way.let_run s.pid ≡ true)
+Stands way o t (Some Gone) = is_gone way o t ≡ true
+Stands way o t (Some (Ended status)) = ⊥
 
 -- this stop is told, and the run went back by one event
 pub record Tells (stopped : stops.Stopped) (old : Target) (pause : Option Pause) (new : Target) : Type 0 where
@@ -163,15 +238,21 @@ TellsIf None old pause new = ⊥
 TellsIf (Some stopped) old pause new = Tells stopped old pause new
 
 -- the stop that is told before what came, if there is one; or what stands here
-abbrev pub IsJudged : (before : Option stops.Stopped) → (done : Bool) → (old : Target) → Option Pause → (new : Target) → Type 0
-IsJudged before done old pause new = TellsIf before old pause new ⊎ ((new ≡ old) × Stands done new pause)
+abbrev pub IsJudged : Way → (before : Option stops.Stopped) → Outcome → (old : Target) → Option Pause → (new : Target) → Type 0
+IsJudged way before o old pause new = TellsIf before old pause new ⊎ ((new ≡ old) × Stands way o new pause)
 
 -- the console shows bytes, and then it goes on
 abbrev pub shows : Option Pause → Bool
 shows None = false
 shows (Some Shows) = true
 shows (Some (Stopped s)) = false
+shows (Some Gone) = false
 shows (Some (Ended status)) = false
+
+-- it stops at nothing, or only to tell what the console shows
+abbrev pub goes_on : Option Pause → Bool
+goes_on None = true
+goes_on (Some pause) = shows (Some pause)
 
 -- this pause, or one that tells what the console shows
 abbrev pub or_shows : Option Pause → (shows : Bool) → Option Pause

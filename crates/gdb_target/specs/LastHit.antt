@@ -1,9 +1,12 @@
 -- What stood last among the places that a run goes by.
 use Rattle.std.specs.Prelude.{◌≡◌, ◌⊎◌, ℕ, zero, suc, ◌+◌, ◌<◌, Bool, true, false, length, Option, None, Some}
 use Rattle.kernel_spec.specs.views.Words.{is_this}
-use Rattle.gdb_target.specs.Forth.{current_of, standing}
+use Rattle.gdb_target.specs.Forth.{current_of}
+use Rattle.gdb_target.specs.LetRun.{if_let, lets}
 use Rattle.gdb_target.specs.SameRun.{beginning}
-use Rattle.gdb_target.specs.Standing.{starter}
+use Rattle.gdb_target.specs.Standing.{stander, starter}
+use Rattle.gdb_target.specs.declared.let_run.LetRun.{LetRun}
+use Rattle.gdb_target.specs.declared.let_run.LetRun.TheVariants.{Alone}
 use Rattle.gdb_target.specs.declared.reverse.Back.{Back}
 use Rattle.gdb_target.specs.declared.reverse.Back.TheVariants.{StepOf, Point}
 use Rattle.gdb_target.specs.declared.reverse.Hit.{Hit}
@@ -14,15 +17,28 @@ abbrev pub step_hit : (stood : Bool) → (place p : ℕ) → Option Hit
 step_hit true place p = Some (record { place = place; pid = p; watched = None })
 step_hit false place p = None
 
--- Nothing is told only if no process stands at a breakpoint. What is told is of this place; and if it is no change of watched bytes, that process stands there
-abbrev pub IsPointHit : (place : ℕ) → (stands : Option ℕ) → Option Hit → Type 0
-IsPointHit place stands None = stands ≡ None
-IsPointHit place stands (Some h) = (h.place ≡ place) × (h.watched ≡ None → stands ≡ Some h.pid)
+-- whom a way back lets run
+abbrev pub let_run_of : Back → LetRun
+let_run_of (StepOf p) = Alone p
+let_run_of (Point let_run) = let_run
+
+-- Nothing is told only if no process that is let run stands at a breakpoint. What is told is of this place, and of one that is let run;
+-- and if it is no change of watched bytes, that process stands there
+abbrev pub IsPointHit : LetRun → (place : ℕ) → (stands : Option ℕ) → Option Hit → Type 0
+IsPointHit let_run place stands None = if_let let_run stands ≡ None
+IsPointHit let_run place stands (Some h) = (h.place ≡ place) × (h.watched ≡ None → stands ≡ Some h.pid) × (lets let_run h.pid ≡ true)
 
 -- What is told of a place. Of a step, it is told exactly if the process is about to do an instruction there
 abbrev pub IsHitAt : Back → (place : ℕ) → Target → Option Hit → Type 0
 IsHitAt (StepOf p) place t hit = hit ≡ step_hit (is_this p (starter t.run)) place p
-IsHitAt Point place t hit = IsPointHit place (standing t) hit
+IsHitAt (Point let_run) place t hit = IsPointHit let_run place (stander t.run t.program t.points.breakpoints.items) hit
+
+-- it is of this place, or of one before a place, and of a process that is let run
+abbrev pub IsHitOf : Back → (place : ℕ) → Hit → Type 0
+IsHitOf back place h = (h.place ≡ place) × (lets (let_run_of back) h.pid ≡ true)
+
+abbrev pub IsHitBefore : Back → (end : ℕ) → Hit → Type 0
+IsHitBefore back end h = (h.place < end) × (lets (let_run_of back) h.pid ≡ true)
 
 -- the later of two: the second, if there is one
 abbrev pub later : (first second : Option Hit) → Option Hit

@@ -6,6 +6,7 @@ pub mod Forth
 pub mod Found
 pub mod Kept
 pub mod LastHit
+pub mod LetRun
 pub mod PlayedBy
 pub mod Rounds
 pub mod Rows

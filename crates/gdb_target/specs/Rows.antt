@@ -55,5 +55,5 @@ starts_row AnyStep bytes t = false
 
 -- the next event is Run, and points are looked for
 abbrev pub looks_at_row : Back → (bytes : List ℕ) → Target → Bool
-looks_at_row backs.Point bytes t = is_run (event_at t.run.rounds.keys.items t.run.rounds.quantum (length t.run.session.events)) && is_free bytes t
+looks_at_row (backs.Point let_run) bytes t = is_run (event_at t.run.rounds.keys.items t.run.rounds.quantum (length t.run.session.events)) && is_free bytes t
 looks_at_row (backs.StepOf p) bytes t = false

@@ -6,9 +6,10 @@ ghost use Rattle.gdb_target.specs.Chosen as chooses;
 ghost use Rattle.gdb_target.specs.Told as meant;
 
 use crate::documents::REGISTERS;
+use crate::let_run::LetRun;
 use crate::memory::{memory_bytes, register, register_bytes};
 use crate::points::WATCHED_MOST;
-use crate::target::{Target, Until};
+use crate::target::{Target, Until, Way};
 use crate::threads::{is_live, live_process, processes};
 use crate::words::described;
 use gdb_packets::{
@@ -21,7 +22,7 @@ use xk_base::Pid;
 
 /// What is understood: so many bytes (in hexadecimal digits) of a packet, and the optional parts.
 const SUPPORTED: &[u8] = b"PacketSize=fa0;QStartNoAckMode+;vContSupported+;qXfer:features:read+;\
-qXfer:exec-file:read+;ReverseStep+;ReverseContinue+";
+qXfer:exec-file:read+;ReverseStep+;ReverseContinue+;no-resumed+";
 
 /// Nothing changes the machine.
 const NO_CHANGE: u8 = 1;
@@ -118,6 +119,36 @@ fn step_of(pid: Option<Pid>) -> Option<Until>
     }
 }
 
+/// How a command goes on until this, and lets these run, if there are both.
+fn both(until: Option<Until>, let_run: Option<LetRun>) -> Option<Way>
+    ensures { result ≡ chooses.both until let_run }
+{
+    let until = until?;
+    let let_run = let_run?;
+    Some(Way { until, let_run })
+}
+
+/// This process alone, if there is one.
+fn alone(pid: Option<Pid>) -> Option<LetRun>
+    ensures { result ≡ chooses.alone pid }
+{
+    match pid {
+        Some(pid) => Some(LetRun::Alone(pid)),
+        None => None,
+    }
+}
+
+/// The process that a choice of a thread lets run alone: none, where no thread is named.
+fn runner(thread: Thread, pid: Pid) -> Option<Pid>
+    ensures { result ≡ chooses.runner thread pid }
+{
+    match thread {
+        Thread::All => None,
+        Thread::Any => None,
+        Thread::One(_) => Some(pid),
+    }
+}
+
 impl Target {
     /// Bytes of the memory of the process that is looked at.
     fn tell_memory(&self, alloc: Global, address: u64, size: u64) -> Result<Vec<u8>, AllocError>
@@ -189,15 +220,27 @@ impl Target {
         }
     }
 
-    /// The process that was chosen for steps; `None` where it doesn't live.
+    /// This process, if it lives.
+    fn if_live(&self, pid: Pid) -> Option<Pid>
+        ensures lives { IfSome result (λ found. IsSome (live (meant.state_of self.now) found)) }
+        ensures is { result ≡ chooses.if_live self.now pid }
+    {
+        if is_live(self.run.machine(), pid) {
+            Some(pid)
+        } else {
+            None
+        }
+    }
+
+    /// The process that steps if a command names none: the one that was chosen to run alone, or else the one that is
+    /// looked at; `None` where it doesn't live.
     fn chosen_for_steps(&self) -> Option<Pid>
         ensures lives { IfSome result (λ pid. IsSome (live (meant.state_of self.now) pid)) }
         ensures is { result ≡ chooses.chosen_for_steps self.now }
     {
-        if is_live(self.run.machine(), self.stepped) {
-            Some(self.stepped)
-        } else {
-            None
+        match self.resumed {
+            Some(pid) => self.if_live(pid),
+            None => self.if_live(self.looked_at),
         }
     }
 
@@ -225,12 +268,41 @@ impl Target {
         }
     }
 
+    /// Whom a command lets run that names no process: the one that was chosen to run alone, or else all; `None` where
+    /// that one doesn't live.
+    pub fn chosen_to_run(&self) -> Option<LetRun>
+        ensures { result ≡ chooses.chosen_to_run self.now }
+    {
+        match self.resumed {
+            Some(pid) => alone(self.if_live(pid)),
+            None => Some(LetRun::All),
+        }
+    }
+
+    /// Whom a command lets run; `None` where the process that it names doesn't live.
+    fn let_run(&self, thread: Thread) -> Option<LetRun>
+        ensures { chooses.IsLetRun self.now thread result }
+    {
+        match thread {
+            Thread::All => Some(LetRun::All),
+            Thread::Any => self.chosen_to_run(),
+            Thread::One(number) => alone(live_process(self.run.machine(), number)),
+        }
+    }
+
+    /// How a command goes on; `None` if a process that it names doesn't live.
+    pub fn way(&self, how: Resume, runs: Thread) -> Option<Way>
+        ensures { chooses.IsWay self.now how runs result }
+    {
+        both(self.until(how), self.let_run(runs))
+    }
+
     /// Chooses a process, for commands that go on, or for those that look.
-    fn choose_process(&mut self, pid: Pid, resumes: bool)
-        ensures { self.new ≡ chooses.chosen resumes pid self.old }
+    fn choose_process(&mut self, thread: Thread, pid: Pid, resumes: bool)
+        ensures { self.new ≡ chooses.chosen thread resumes pid self.old }
     {
         if resumes {
-            self.stepped = pid;
+            self.resumed = runner(thread, pid);
         } else {
             self.looked_at = pid;
         }
@@ -250,7 +322,7 @@ impl Target {
         let Some(pid) = self.meant_by(thread) else {
             return refusal(alloc, NO_SUCH);
         };
-        self.choose_process(pid, resumes);
+        self.choose_process(thread, pid, resumes);
         text(alloc, b"OK")
     }
 

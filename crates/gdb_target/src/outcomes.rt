@@ -2,8 +2,9 @@
 ghost use Rattle.std.specs.Prelude.{◌≡◌, None, IfSome, IfNone, option_map};
 ghost use Rattle.xv_machine.specs.Events.{outcome_of};
 ghost use Rattle.gdb_target.specs.Came.{came};
-ghost use Rattle.gdb_target.specs.Forth.{is_meant, is_step};
+ghost use Rattle.gdb_target.specs.Forth.{ends_alone, is_alone, is_meant, is_step};
 
+use crate::let_run::LetRun;
 use crate::target::Until;
 use xk_base::Pid;
 use xv_machine::Outcome;
@@ -43,6 +44,27 @@ pub(crate) fn is_step_of(outcome: &Outcome, until: Until) -> bool
         Outcome::Called { pid, .. } => is_meant(until, *pid),
         Outcome::Exited { pid, .. } => is_meant(until, *pid),
         Outcome::Faulted { pid, .. } => is_meant(until, *pid),
+        _ => false,
+    }
+}
+
+/// Whether this is the process that is let run alone.
+fn is_alone(let_run: LetRun, pid: Pid) -> bool
+    ensures { result ≡ is_alone let_run pid }
+{
+    match let_run {
+        LetRun::All => false,
+        LetRun::Alone(only) => only.number() == pid.number(),
+    }
+}
+
+/// Whether by this the process is gone that is let run alone.
+pub(crate) fn ends_alone(outcome: &Outcome, let_run: LetRun) -> bool
+    ensures { result ≡ ends_alone let_run (outcome_of outcome.now) }
+{
+    match outcome {
+        Outcome::Exited { pid, .. } => is_alone(let_run, *pid),
+        Outcome::Faulted { pid, .. } => is_alone(let_run, *pid),
         _ => false,
     }
 }

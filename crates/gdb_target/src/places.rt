@@ -1,13 +1,17 @@
 //! What there is to see at a place of a run.
-ghost use Rattle.std.specs.Prelude.{◌≡◌, Some, None, IfSome, is_some};
+ghost use Rattle.std.specs.Prelude.{◌≡◌, Some, None, true, IfSome, IsSome, is_some};
 ghost use Rattle.std.specs.List.{list_all};
+ghost use Rattle.kernel_spec.specs.views.State.{live};
 ghost use Rattle.kernel_spec.specs.views.Words.{is_this};
+ghost use Rattle.gdb_target.specs.LetRun.{lets};
 ghost use Rattle.gdb_target.specs.Standing.{Starts, StandsAt, begins, does_instruction, goes_on, is_place};
 ghost use Rattle.gdb_target.specs.Standing.{stander, stands_at, starter};
 
+use crate::let_run::{LetRun, lets};
 use crate::played::{Played, is_run};
 use crate::points::{Points, Watched};
 use crate::target::Stopped;
+use crate::threads::is_live;
 use gdb_packets::StopReason;
 use kcall_core::ProcessState;
 use std::alloc::{AllocError, Global};
@@ -184,21 +188,35 @@ impl Change {
     }
 }
 
-/// The first change of bytes that are watched, of the process that was glimpsed, if the machine hasn't halted.
+/// This change, if its process is let run.
+pub(crate) fn if_told(change: Option<Change>, let_run: LetRun) -> Option<Change>
+    ensures same { IfSome result (λ told. change ≡ Some told) }
+    ensures lets { IfSome result (λ told. lets let_run told.pid ≡ true) }
+{
+    let change = change?;
+    if lets(let_run, change.pid) {
+        return Some(change);
+    }
+    None
+}
+
+/// The first change of bytes that are watched, of the process that was glimpsed, if it lives, and the machine hasn't
+/// halted.
 pub(crate) fn changed(
     run: &Played,
     points: &Points,
     program: usize,
     before: &Glimpse,
 ) -> Option<Change>
-    ensures { IfSome result (λ _. run.now.session.machine.world.turns.halted ≡ None) }
+    ensures goes_on { IfSome result (λ _. run.now.session.machine.world.turns.halted ≡ None) }
+    ensures lives { IfSome result (λ change. IsSome (live run.now.session.machine.world.state change.pid)) }
 {
     let pid = before.of?;
     let machine = run.machine();
     let None = machine.halted() else {
         return None;
     };
-    if machine.registers(pid).is_none() || run.session.program_of(pid) != Some(program) {
+    if !is_live(machine, pid) || run.session.program_of(pid) != Some(program) {
         return None;
     }
     let mut rest = before.bytes.as_slice();

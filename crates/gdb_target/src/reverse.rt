@@ -1,15 +1,17 @@
 //! Going back.
-ghost use Rattle.std.specs.Prelude.{◌≡◌, ℕ, ◌≤◌, ◌<◌, IfOk, IfSome, length};
+ghost use Rattle.std.specs.Prelude.{◌≡◌, ℕ, ◌≤◌, ◌<◌, true, IfOk, IfSome, length};
 ghost use Rattle.gdb_target.specs.Found.{IsBefore, StandsFor, trapped};
 ghost use Rattle.gdb_target.specs.Choices.{choices};
-ghost use Rattle.gdb_target.specs.LastHit.{GoesBackToLast, GoesForth, IsHitAt, IsLastOf, IsPointHit};
-ghost use Rattle.gdb_target.specs.LastHit.{Looked, LooksFrom, later, step_hit};
+ghost use Rattle.gdb_target.specs.LastHit.{GoesBackToLast, GoesForth, IsHitAt, IsHitBefore, IsHitOf, IsLastOf, IsPointHit};
+ghost use Rattle.gdb_target.specs.LastHit.{Looked, LooksFrom, later, let_run_of, step_hit};
+ghost use Rattle.gdb_target.specs.LetRun.{lets};
 ghost use Rattle.gdb_target.specs.Rows.{watched_addresses};
 ghost use Rattle.gdb_target.specs.SameRun.{beginning};
 ghost use Rattle.gdb_target.specs.Standing.{Starts};
 
 use crate::fast::rows::watched_bytes;
-use crate::places::{Change, at_breakpoint, changed, is_starter, starts, watched_now};
+use crate::let_run::{LetRun, if_let};
+use crate::places::{Change, at_breakpoint, changed, if_told, is_starter, starts, watched_now};
 use crate::played::is_run;
 use crate::target::{Stopped, Target};
 use gdb_packets::StopReason;
@@ -31,9 +33,21 @@ const WINDOWS: u32 = 16;
 pub enum Back {
     /// The last place before here at which the process was about to do an instruction.
     StepOf(Pid),
-    /// The last place before here at which a process of the program stood at a breakpoint, or was about to change
-    /// bytes that are watched.
-    Point,
+    /// The last place before here at which a process of the program, if it is let run, stood at a breakpoint, or was
+    /// about to change bytes that are watched.
+    Point(LetRun),
+}
+
+impl Back {
+    /// Whom it lets run.
+    pub(crate) fn let_run(&self) -> LetRun
+        ensures { result ≡ let_run_of self.now }
+    {
+        match self {
+            Back::StepOf(pid) => LetRun::Alone(*pid),
+            Back::Point(let_run) => *let_run,
+        }
+    }
 }
 
 /// A place of the run, and the process that stops there.
@@ -61,17 +75,23 @@ fn step_hit(stood: bool, place: u64, pid: Pid) -> Option<Hit>
 }
 
 /// What is told of a place: a change of watched bytes by the next event, or else the process that stood at a breakpoint.
-pub(crate) fn point_hit(place: u64, stood: Option<Pid>, change: Option<Change>) -> Option<Hit>
-    ensures { IsPointHit place stood result }
+/// Of processes that aren't let run nothing is told.
+pub(crate) fn point_hit(
+    let_run: &LetRun,
+    place: u64,
+    stood: Option<Pid>,
+    change: Option<Change>,
+) -> Option<Hit>
+    ensures { IsPointHit let_run.now place stood result }
 {
-    if let Some(change) = change {
+    if let Some(change) = if_told(change, *let_run) {
         return Some(Hit {
             place,
             pid: change.pid,
             watched: Some(change.address),
         });
     }
-    let Some(pid) = stood else {
+    let Some(pid) = if_let(*let_run, stood) else {
         return None;
     };
     step_hit(true, place, pid)
@@ -113,7 +133,7 @@ impl Target {
         requires { length self.old.run.session.events < end }
         ensures forth { IfOk result (λ _. GoesForth self.old self.new) }
         ensures within { length self.new.run.session.events ≤ end }
-        ensures hit { IfOk result (λ h. IfSome h (λ found. found.place ≡ place)) }
+        ensures hit { IfOk result (λ h. IfSome h (λ found. IsHitOf (Back.StepOf pid) place found)) }
         ensures told { IfOk result (λ h. IsHitAt (Back.StepOf pid) place self.old h) }
         ensures same { beginning self.new.run ≡ beginning self.old.run }
         ensures choices { choices self.new ≡ choices self.old }
@@ -127,14 +147,15 @@ impl Target {
     fn look_for_point(
         &mut self,
         alloc: Global,
+        let_run: LetRun,
         place: u64,
         end: u64,
     ) -> Result<Option<Hit>, SessionError>
         requires { length self.old.run.session.events < end }
         ensures forth { IfOk result (λ _. GoesForth self.old self.new) }
         ensures within { length self.new.run.session.events ≤ end }
-        ensures hit { IfOk result (λ h. IfSome h (λ found. found.place ≡ place)) }
-        ensures told { IfOk result (λ h. IsHitAt Back.Point place self.old h) }
+        ensures hit { IfOk result (λ h. IfSome h (λ found. IsHitOf (Back.Point let_run) place found)) }
+        ensures told { IfOk result (λ h. IsHitAt (Back.Point let_run) place self.old h) }
         ensures same { beginning self.new.run ≡ beginning self.old.run }
         ensures choices { choices self.new ≡ choices self.old }
     {
@@ -144,7 +165,7 @@ impl Target {
         };
         self.send_one(end)?;
         let change = changed(&self.run, &self.points, self.program, &before);
-        Ok(point_hit(place, stood, change))
+        Ok(point_hit(&let_run, place, stood, change))
     }
 
     /// Sends the next event, and tells whether what is looked for stood before it, at this place.
@@ -158,14 +179,14 @@ impl Target {
         requires { length self.old.run.session.events < end }
         ensures forth { IfOk result (λ _. GoesForth self.old self.new) }
         ensures within { length self.new.run.session.events ≤ end }
-        ensures hit { IfOk result (λ h. IfSome h (λ found. found.place ≡ place)) }
+        ensures hit { IfOk result (λ h. IfSome h (λ found. IsHitOf back.now place found)) }
         ensures told { IfOk result (λ h. IsHitAt back.now place self.old h) }
         ensures same { beginning self.new.run ≡ beginning self.old.run }
         ensures choices { choices self.new ≡ choices self.old }
     {
         match back {
             Back::StepOf(pid) => self.look_for_step(*pid, place, end),
-            Back::Point => self.look_for_point(alloc, place, end),
+            Back::Point(let_run) => self.look_for_point(alloc, *let_run, place, end),
         }
     }
 
@@ -181,7 +202,7 @@ impl Target {
         requires room { length self.old.run.session.events < end }
         ensures within { length self.new.run.session.events ≤ end }
         ensures more { IfOk result (λ _. length self.old.run.session.events < length self.new.run.session.events) }
-        ensures hit { IfOk result (λ h. IfSome h (λ found. found.place < end)) }
+        ensures hit { IfOk result (λ h. IfSome h (λ found. IsHitBefore back.now end found)) }
         ensures looked { IfOk result (λ h. (n : ℕ) × Looked back.now n self.old self.new h) }
         ensures same { beginning self.new.run ≡ beginning self.old.run }
         ensures choices { choices self.new ≡ choices self.old }
@@ -202,7 +223,7 @@ impl Target {
         end: u64,
     ) -> Result<Option<Hit>, SessionError>
         requires { length self.old.run.session.events ≤ end }
-        ensures hit { IfOk result (λ h. IfSome h (λ found. found.place < end)) }
+        ensures hit { IfOk result (λ h. IfSome h (λ found. IsHitBefore back.now end found)) }
         ensures last { IfOk result (λ h. (n : ℕ) × Looked back.now n self.old self.new h) }
         ensures end { IfOk result (λ _. length self.new.run.session.events ≡ end) }
         ensures same { beginning self.new.run ≡ beginning self.old.run }
@@ -228,7 +249,7 @@ impl Target {
         begin: u64,
     ) -> Result<Option<Hit>, SessionError>
         requires { begin ≤ length self.old.run.session.events }
-        ensures hit { IfOk result (λ h. IfSome h (λ found. found.place < length self.old.run.session.events)) }
+        ensures hit { IfOk result (λ h. IfSome h (λ found. IsHitBefore back.now (length self.old.run.session.events) found)) }
         ensures last { IfOk result (λ h. LooksFrom back.now begin self.old self.new h) }
         ensures end { IfOk result
             (λ _. length self.new.run.session.events ≡ length self.old.run.session.events) }
@@ -244,7 +265,7 @@ impl Target {
     /// The last place before here at which what is looked for stood. It is looked for from ever further back on, and
     /// the run is then where it was.
     fn search(&mut self, alloc: Global, back: &Back) -> Result<Option<Hit>, SessionError>
-        ensures hit { IfOk result (λ h. IfSome h (λ found. found.place < length self.old.run.session.events)) }
+        ensures hit { IfOk result (λ h. IfSome h (λ found. IsHitBefore back.now (length self.old.run.session.events) found)) }
         ensures last { IfOk result (λ h. IsLastOf back.now self.old self.new h) }
         ensures end { IfOk result
             (λ _. length self.new.run.session.events ≡ length self.old.run.session.events) }
@@ -284,12 +305,13 @@ impl Target {
     {
         match back {
             Back::StepOf(pid) => self.stands_for_step(*pid),
-            Back::Point => at_breakpoint(&self.run, &self.points, self.program),
+            Back::Point(let_run) => self.standing(*let_run),
         }
     }
 
     /// What stands here of what was looked for, and was found here; the begin of the run, where nothing does.
-    fn standing(&self, back: &Back, hit: &Hit) -> Stopped
+    fn found(&self, back: &Back, hit: &Hit) -> Stopped
+        requires { lets (let_run_of back.now) hit.now.pid ≡ true }
         ensures { StandsFor self.now back.now result.reason result.pid }
     {
         if let Some(address) = hit.watched {
@@ -328,6 +350,6 @@ impl Target {
             return Ok(self.stop_here(StopReason::Begin));
         };
         self.run.back_to(alloc, hit.place)?;
-        Ok(self.standing(back, &hit))
+        Ok(self.found(back, &hit))
     }
 }

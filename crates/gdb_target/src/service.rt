@@ -84,13 +84,13 @@ fn booted<'a, R: Files + AllocGlobal>(
     };
     let rounds = Rounds::new(keys, settings.quantum);
     let run = Played::boot(rt.alloc(), settings.frames, programs, rounds)?;
-    Ok(Target::new(rt.alloc(), run, file, path))
+    Ok(Target::new(rt.alloc(), run, file, path, settings.most))
 }
 
 /// Serves GDB by a machine of the settings, until it goes.
 fn serve<'a>(rt: &HostRuntime, settings: &'a Settings) -> Result<(), Failure<'a>> {
     let target = booted(rt, settings)?;
-    let mut service = Service::new(rt.alloc(), target, settings.most);
+    let mut service = Service::new(rt.alloc(), target);
     service.serve(&mut rt.stdin(), &mut rt.stdout())
 }
 

@@ -1,19 +1,21 @@
 //! What GDB debugs: a machine that goes on by its rounds.
-ghost use Rattle.std.specs.Prelude.{◌≡◌, ◌⊎◌, ◌+◌, ◌≤◌, ◌<◌, None, Some, false, IfOk, IfSome, IsSome, length, max};
+ghost use Rattle.std.specs.Prelude.{◌≡◌, ◌⊎◌, ◌+◌, ◌≤◌, ◌<◌, None, Some, false, true, IfOk, IfSome, IsSome, length, max};
 ghost use Rattle.kernel_spec.specs.views.State.{live};
 ghost use Rattle.xv_machine.specs.Events.{outcome_of};
 ghost use Rattle.gdb_target.specs.Before as meant;
 ghost use Rattle.gdb_target.specs.Choices.{IsAlive, StopsAt, choices};
-ghost use Rattle.gdb_target.specs.Forth.{Goes, GoesBy, IsJudged, IsUnseen, Stands};
-ghost use Rattle.gdb_target.specs.Forth.{current_of, halted_of, is_reached, is_step, looks_at_each, or_shows};
+ghost use Rattle.gdb_target.specs.Forth.{Goes, GoesBy, IsEndOf, IsJudged, IsStepper, IsUnseen, Stands};
+ghost use Rattle.gdb_target.specs.Forth.{current_of, end_of, goes_on, halted_of, is_reached, looks_at_each, or_shows, shows, standing};
+ghost use Rattle.gdb_target.specs.LetRun.{lets, teller};
 ghost use Rattle.gdb_target.specs.Rows.{watched_addresses};
 ghost use Rattle.gdb_target.specs.SameRun.{beginning};
-ghost use Rattle.gdb_target.specs.Standing.{NextIsRun};
+ghost use Rattle.gdb_target.specs.Standing.{NextIsRun, StandsAt};
 ghost use Rattle.gdb_target.specs.Told.{state_of};
 
 use crate::fast::rows::watched_bytes;
-use crate::outcomes::is_step_of;
-use crate::places::{at_breakpoint, changed, watched_now};
+use crate::let_run::{LetRun, if_let, lets, teller};
+use crate::outcomes::{ends_alone, is_step_of};
+use crate::places::{at_breakpoint, changed, if_told, watched_now};
 use crate::played::{Played, is_run};
 use crate::points::Points;
 use crate::threads::live_or_other;
@@ -56,8 +58,10 @@ pub struct Target {
     pub path: String,
     /// The process whose registers and memory are asked for.
     pub looked_at: Pid,
-    /// The process that a step is of.
-    pub stepped: Pid,
+    /// The process that `Hc` chose to run alone, if it chose one.
+    pub resumed: Option<Pid>,
+    /// The most events of one command that goes on.
+    pub most: u32,
     /// The last stop.
     pub stopped: Stopped,
     /// Whether an interrupt came since the last stop.
@@ -81,10 +85,17 @@ pub enum Until {
     AnyStep,
 }
 
+/// How a command goes on.
+#[derive(Clone, Copy)]
+pub struct Way {
+    pub until: Until,
+    pub let_run: LetRun,
+}
+
 /// A command that goes on.
 #[derive(Clone, Copy)]
 pub struct Going {
-    pub until: Until,
+    pub way: Way,
     /// The place of the run after which it sends no event.
     pub end: u64,
     /// The place at which a fault or the end was told, and is let happen now.
@@ -97,6 +108,8 @@ pub enum Pause {
     /// The console shows bytes; then it goes on.
     Shows,
     Stopped(Stopped),
+    /// The process that was let run alone is gone.
+    Gone,
     /// Process 1 is gone, with this status, and all that the console has to show is shown.
     Ended(i32),
 }
@@ -118,28 +131,38 @@ fn reason_of(cause: Cause) -> StopReason
 }
 
 /// The stop that is told before the end of this process, if it is process 1.
-fn end_told(pid: Pid) -> Option<Stopped>
-    ensures { result ≡ meant.end_told pid }
+fn end_told(let_run: LetRun, pid: Pid) -> Option<Stopped>
+    ensures { result ≡ meant.end_told let_run pid }
 {
     if pid.number() == 1 {
         return Some(Stopped {
             reason: StopReason::End,
-            pid,
+            pid: teller(let_run, pid),
         });
     }
     None
 }
 
-/// The stop that is told before this comes: a fault of a process, and the end of process 1.
-fn told_before(outcome: &Outcome) -> Option<Stopped>
-    ensures { result ≡ meant.told_before (outcome_of outcome.now) }
+/// The stop that is told before a fault of this process: the fault, if the process is let run.
+fn fault_told(let_run: &LetRun, pid: Pid, cause: Cause) -> Option<Stopped>
+    ensures { result ≡ meant.fault_told let_run.now pid cause }
+{
+    if lets(*let_run, pid) {
+        return Some(Stopped {
+            reason: reason_of(cause),
+            pid,
+        });
+    }
+    end_told(*let_run, pid)
+}
+
+/// The stop that is told before this comes: a fault of a process that is let run, and the end of process 1.
+fn told_before(let_run: LetRun, outcome: &Outcome) -> Option<Stopped>
+    ensures { result ≡ meant.told_before let_run (outcome_of outcome.now) }
 {
     match outcome {
-        Outcome::Faulted { pid, cause } => Some(Stopped {
-            reason: reason_of(*cause),
-            pid: *pid,
-        }),
-        Outcome::Exited { pid, .. } => end_told(*pid),
+        Outcome::Faulted { pid, cause } => fault_told(&let_run, *pid, *cause),
+        Outcome::Exited { pid, .. } => end_told(let_run, *pid),
         _ => None,
     }
 }
@@ -155,11 +178,13 @@ fn or_shows(pause: Option<Pause>, shows: bool) -> Option<Pause>
 }
 
 impl Target {
-    /// A machine that was just booted, which stands before its first event.
-    pub fn new(alloc: Global, run: Played, program: usize, path: String) -> Target
+    /// A machine that was just booted, which stands before its first event. A command that goes on sends `most` events
+    /// at most.
+    pub fn new(alloc: Global, run: Played, program: usize, path: String, most: u32) -> Target
         ensures run { result.run ≡ run }
         ensures program { result.program ≡ program }
         ensures path { result.path ≡ path }
+        ensures most { result.most ≡ most }
     {
         let first = Pid::new(1);
         Target {
@@ -168,7 +193,8 @@ impl Target {
             program,
             path,
             looked_at: first,
-            stepped: first,
+            resumed: None,
+            most,
             stopped: Stopped {
                 reason: StopReason::Trap,
                 pid: first,
@@ -180,16 +206,16 @@ impl Target {
         }
     }
 
-    /// A command that goes on from here, by so many events at most.
-    pub fn going(&mut self, until: Until, most: u32) -> Going
-        ensures until { result.until ≡ until }
-        ensures end { result.end ≤ length self.old.run.session.events + most }
+    /// A command that goes on from here, by so many events as one may send.
+    pub fn going(&mut self, way: Way) -> Going
+        ensures way { result.way ≡ way }
+        ensures end { result.end ≡ end_of self.old }
         ensures rest { self.new ≡ record self.old { told = None } }
     {
         let passes = self.told.take();
         Going {
-            until,
-            end: self.run.at().saturating_add(u64::from(most)),
+            way,
+            end: self.run.at().saturating_add(u64::from(self.most)),
             passes,
         }
     }
@@ -216,8 +242,20 @@ impl Target {
         }
     }
 
-    /// From now on this is the last stop, and its process is the one that is looked at and that steps. If it is gone,
-    /// one that lives takes its place.
+    /// A stop for this reason of the process that is let run alone; or, if all are, as [`Target::stop_here`] says.
+    pub fn stop_of_run(&self, let_run: LetRun, reason: StopReason) -> Stopped
+        ensures reason { result.reason ≡ reason }
+        ensures lets { lets let_run result.pid ≡ true }
+    {
+        let here = self.stop_here(reason);
+        Stopped {
+            reason,
+            pid: teller(let_run, here.pid),
+        }
+    }
+
+    /// From now on this is the last stop, and its process is the one that is looked at. If it is gone, one that lives
+    /// takes its place.
     pub fn stop_at(&mut self, stopped: &Stopped)
         ensures { StopsAt self.old stopped.now.reason stopped.now.pid self.new }
     {
@@ -227,7 +265,6 @@ impl Target {
             pid,
         };
         self.looked_at = pid;
-        self.stepped = pid;
     }
 
     /// Whether an interrupt came since the last stop; from now on none did.
@@ -268,22 +305,23 @@ impl Target {
         self.told = None;
     }
 
-    /// Goes back by one event, to tell of it before it happens; if that was done, it tells what stands here.
+    /// Goes back by one event, of which this came, to tell of it before it happens; if that was done, it tells what stands
+    /// here.
     fn before_last(
         &mut self,
         alloc: Global,
         going: &Going,
         stopped: Stopped,
-        done: bool,
+        outcome: &Outcome,
     ) -> Result<Option<Pause>, SessionError>
         ensures within { length self.new.run.session.events ≤ length self.old.run.session.events }
-        ensures judged { IfOk result (λ p. IsJudged (Some stopped) done self.old p self.new) }
+        ensures judged { IfOk result (λ p. IsJudged going.now.way (Some stopped) (outcome_of outcome.now) self.old p self.new) }
         ensures same { beginning self.new.run ≡ beginning self.old.run }
         ensures choices { choices self.new ≡ choices self.old }
     {
         let place = self.run.at().saturating_sub(1);
         if going.passes == Some(place) {
-            return Ok(self.stands(done));
+            return Ok(self.stands(going.way, outcome));
         }
         self.run.back_to(alloc, place)?;
         self.told = Some(place);
@@ -315,7 +353,7 @@ impl Target {
 
     /// The status of process 1, if it is gone, and this came of a Send, and no byte was left to send.
     fn ended(&self, outcome: &Outcome) -> Option<i32>
-        ensures { IfSome result (λ status. halted_of self.now ≡ Some status) }
+        ensures { IfSome result (λ status. IsEndOf (outcome_of outcome.now) status self.now) }
     {
         match outcome {
             Outcome::Sent(None) => self.run.machine().halted(),
@@ -328,7 +366,7 @@ impl Target {
     fn send_other(&mut self, going: &Going) -> Result<Option<Pause>, SessionError>
         ensures within { length self.new.run.session.events ≤ length self.old.run.session.events + 1 }
         ensures more { IfOk result (λ _. length self.old.run.session.events < length self.new.run.session.events) }
-        ensures goes { IfOk result (λ p. Goes going.now.until self.old p self.new) }
+        ensures goes { IfOk result (λ p. Goes going.now.way self.old p self.new) }
         ensures same { beginning self.new.run ≡ beginning self.old.run }
         ensures choices { choices self.new ≡ choices self.old }
     {
@@ -338,7 +376,7 @@ impl Target {
         if let Some(status) = self.ended(&outcome) {
             return Ok(Some(Pause::Ended(status)));
         }
-        let pause = self.stands(is_step_of(&outcome, going.until));
+        let pause = self.stands(going.way, &outcome);
         Ok(or_shows(pause, shows))
     }
 
@@ -351,14 +389,35 @@ impl Target {
     ) -> Result<Option<Pause>, SessionError>
         ensures within { length self.new.run.session.events ≤ length self.old.run.session.events }
         ensures judged { IfOk result
-            (λ p. IsJudged (meant.told_before (outcome_of outcome.now)) (is_step going.now.until (outcome_of outcome.now)) self.old p self.new) }
+            (λ p. IsJudged going.now.way (meant.told_before going.now.way.let_run (outcome_of outcome.now)) (outcome_of outcome.now) self.old p self.new) }
         ensures same { beginning self.new.run ≡ beginning self.old.run }
         ensures choices { choices self.new ≡ choices self.old }
     {
-        let done = is_step_of(outcome, going.until);
-        match told_before(outcome) {
-            Some(stopped) => self.before_last(alloc, going, stopped, done),
-            None => Ok(self.stands(done)),
+        match told_before(going.way.let_run, outcome) {
+            Some(stopped) => self.before_last(alloc, going, stopped, outcome),
+            None => Ok(self.stands(going.way, outcome)),
+        }
+    }
+
+    /// The process that stands at a breakpoint, if it is let run.
+    pub(crate) fn standing(&self, let_run: LetRun) -> Option<Pid>
+        ensures is { result ≡ standing let_run self.now }
+        ensures stands { IfSome result (λ pid. StandsAt self.now.run self.now.program self.now.points.breakpoints.items pid × (lets let_run pid ≡ true)) }
+    {
+        if_let(
+            let_run,
+            at_breakpoint(&self.run, &self.points, self.program),
+        )
+    }
+
+    /// The process that did a step: the one whose step was waited for, or else the one that runs.
+    fn stepper(&self, until: Until) -> Pid
+        ensures { IsStepper until result }
+    {
+        match until {
+            Until::StepOf(pid) => pid,
+            Until::Point => self.stop_here(StopReason::Trap).pid,
+            Until::AnyStep => self.stop_here(StopReason::Trap).pid,
         }
     }
 
@@ -369,15 +428,21 @@ impl Target {
         done && self.run.machine().halted().is_none()
     }
 
-    /// The stop of a step that is done, or of a process that stands at a breakpoint. A machine that has halted stops for
-    /// nothing: it goes on until all is shown.
-    fn stands(&self, done: bool) -> Option<Pause>
-        ensures { Stands done self.now result }
+    /// What stops the program here, after this came: that the process is gone that is let run alone; a step that is done;
+    /// or a process that stands at a breakpoint. A machine that has halted stops for nothing: it goes on until all is shown.
+    fn stands(&self, way: Way, outcome: &Outcome) -> Option<Pause>
+        ensures { Stands way (outcome_of outcome.now) self.now result }
     {
-        if self.is_reached(done) {
-            return Some(Pause::Stopped(self.stop_here(StopReason::Trap)));
+        if self.is_reached(ends_alone(outcome, way.let_run)) {
+            return Some(Pause::Gone);
         }
-        let Some(pid) = at_breakpoint(&self.run, &self.points, self.program) else {
+        if self.is_reached(is_step_of(outcome, way.until)) {
+            return Some(Pause::Stopped(Stopped {
+                reason: StopReason::Trap,
+                pid: teller(way.let_run, self.stepper(way.until)),
+            }));
+        }
+        let Some(pid) = self.standing(way.let_run) else {
             return None;
         };
         Some(Pause::Stopped(Stopped {
@@ -427,9 +492,9 @@ impl Target {
         requires room { length self.now.run.session.events < going.now.end }
         ensures some { 0 < result }
         ensures within { length self.now.run.session.events + result ≤ going.now.end }
-        ensures single { (result ≡ 1) ⊎ IsUnseen going.now.until self.now }
+        ensures single { (result ≡ 1) ⊎ IsUnseen going.now.way.until self.now }
     {
-        if self.looks_at_each(going.until) {
+        if self.looks_at_each(going.way.until) {
             return self.runs_before(count, going.end);
         }
         self.all_before(count, going.end)
@@ -444,10 +509,10 @@ impl Target {
     ) -> Result<Option<Pause>, SessionError>
         requires some { 0 < most }
         requires runs { NextIsRun self.old.run }
-        requires single { (most ≡ 1) ⊎ IsUnseen going.now.until self.old }
+        requires single { (most ≡ 1) ⊎ IsUnseen going.now.way.until self.old }
         ensures within { length self.new.run.session.events ≤ length self.old.run.session.events + most }
-        ensures more { IfOk result (λ p. p ≡ None → length self.old.run.session.events < length self.new.run.session.events) }
-        ensures goes { IfOk result (λ p. Goes going.now.until self.old p self.new) }
+        ensures more { IfOk result (λ p. goes_on p ≡ true → length self.old.run.session.events < length self.new.run.session.events) }
+        ensures goes { IfOk result (λ p. Goes going.now.way self.old p self.new) }
         ensures same { beginning self.new.run ≡ beginning self.old.run }
         ensures choices { choices self.new ≡ choices self.old }
     {
@@ -457,7 +522,8 @@ impl Target {
         let Some(outcome) = self.run.run(most)? else {
             unreachable!();
         };
-        if let Some(change) = changed(&self.run, &self.points, self.program, &before) {
+        let change = changed(&self.run, &self.points, self.program, &before);
+        if let Some(change) = if_told(change, going.way.let_run) {
             return Ok(Some(Pause::Stopped(change.stopped())));
         }
         self.judged(alloc, going, &outcome)
@@ -473,8 +539,8 @@ impl Target {
         requires watched { bytes.now ≡ watched_addresses self.old.points }
         requires room { length self.old.run.session.events < going.now.end }
         ensures within { length self.new.run.session.events ≤ going.now.end }
-        ensures more { IfOk result (λ p. p ≡ None → length self.old.run.session.events < length self.new.run.session.events) }
-        ensures goes { IfOk result (λ p. GoesBy going.now.until self.old p self.new) }
+        ensures more { IfOk result (λ p. goes_on p ≡ true → length self.old.run.session.events < length self.new.run.session.events) }
+        ensures goes { IfOk result (λ p. GoesBy going.now.way self.old p self.new) }
         ensures same { beginning self.new.run ≡ beginning self.old.run }
         ensures choices { choices self.new ≡ choices self.old }
     {
@@ -482,7 +548,7 @@ impl Target {
         if !is_run(next.event) {
             return self.send_other(going);
         }
-        if self.starts_row(going.until, bytes) {
+        if self.starts_row(going.way.until, bytes) {
             return self.send_row(alloc, going, bytes);
         }
         let most = self.runs_at_once(going, next.count);
@@ -499,7 +565,8 @@ impl Target {
     pub fn go(&mut self, alloc: Global, going: &Going) -> Result<Option<Pause>, SessionError>
         ensures within { length self.new.run.session.events ≤ max (length self.old.run.session.events) going.now.end }
         ensures over { IfOk result (λ p. p ≡ None → going.now.end ≤ length self.new.run.session.events) }
-        ensures goes { IfOk result (λ p. GoesBy going.now.until self.old p self.new) }
+        ensures shown { IfOk result (λ p. shows p ≡ true → length self.old.run.session.events < length self.new.run.session.events) }
+        ensures goes { IfOk result (λ p. GoesBy going.now.way self.old p self.new) }
         ensures same { beginning self.new.run ≡ beginning self.old.run }
         ensures choices { choices self.new ≡ choices self.old }
     {

@@ -1,15 +1,17 @@
 //! Runs that are sent in a row, up to the next stop. Between two instructions that lead to none there is nothing to
 //! look at.
-ghost use Rattle.std.specs.Prelude.{◌≡◌, ℕ, ◌++◌, ◌≤◌, ◌<◌, true, None, IfOk, IfSome, OnOk, length};
+ghost use Rattle.std.specs.Prelude.{◌≡◌, ℕ, ◌++◌, ◌≤◌, ◌<◌, true, None, IfOk, IfSome, IsSome, OnOk, length};
+ghost use Rattle.kernel_spec.specs.views.State.{live};
 ghost use Rattle.xv_machine.specs.Events.{outcome_of};
 ghost use Rattle.gdb_target.specs.Choices.{choices};
-ghost use Rattle.gdb_target.specs.Forth.{GoesBy, halted_of};
-ghost use Rattle.gdb_target.specs.LastHit.{Looked};
+ghost use Rattle.gdb_target.specs.Forth.{GoesBy, goes_on, halted_of};
+ghost use Rattle.gdb_target.specs.LastHit.{IsHitBefore, Looked};
 ghost use Rattle.gdb_target.specs.Rows.{RunsToStop, addresses_of, watched_addresses, is_free, looks_at_row, starts_row};
 ghost use Rattle.gdb_target.specs.SameRun.{beginning};
 ghost use Rattle.gdb_target.specs.Standing.{NextIsRun};
+ghost use Rattle.gdb_target.specs.Told.{state_of};
 
-use crate::places::{Change, Glimpse, changed, watched_now};
+use crate::places::{Change, Glimpse, changed, if_told, watched_now};
 use crate::played::is_run;
 use crate::points::{Points, Watched};
 use crate::reverse::{Back, Hit, point_hit};
@@ -94,6 +96,7 @@ impl Target {
         ensures row { IfOk result
             (λ r. RunsToStop self.old.points.breakpoints.items (watched_addresses self.old.points) self.old.run (outcome_of r.outcome) self.new.run) }
         ensures goes_on { IfOk result (λ r. IfSome r.change (λ _. halted_of self.new ≡ None)) }
+        ensures lives { IfOk result (λ r. IfSome r.change (λ change. IsSome (live (state_of self.new) change.pid))) }
         ensures same { beginning self.new.run ≡ beginning self.old.run }
         ensures choices { choices self.new ≡ choices self.old }
     {
@@ -116,17 +119,17 @@ impl Target {
         bytes: &[u64],
     ) -> Result<Option<Pause>, SessionError>
         requires watched { bytes.now ≡ watched_addresses self.old.points }
-        requires starts { starts_row going.now.until bytes.now self.old ≡ true }
+        requires starts { starts_row going.now.way.until bytes.now self.old ≡ true }
         requires runs { NextIsRun self.old.run }
         requires room { length self.old.run.session.events < going.now.end }
         ensures within { length self.new.run.session.events ≤ going.now.end }
-        ensures more { IfOk result (λ p. p ≡ None → length self.old.run.session.events < length self.new.run.session.events) }
-        ensures goes { IfOk result (λ p. GoesBy going.now.until self.old p self.new) }
+        ensures more { IfOk result (λ p. goes_on p ≡ true → length self.old.run.session.events < length self.new.run.session.events) }
+        ensures goes { IfOk result (λ p. GoesBy going.now.way self.old p self.new) }
         ensures same { beginning self.new.run ≡ beginning self.old.run }
         ensures choices { choices self.new ≡ choices self.old }
     {
         let row = self.send_to_stop(alloc, bytes, going.end)?;
-        if let Some(change) = row.change {
+        if let Some(change) = if_told(row.change, going.way.let_run) {
             return Ok(Some(Pause::Stopped(change.stopped())));
         }
         self.judged(alloc, going, &row.outcome)
@@ -137,7 +140,7 @@ impl Target {
         ensures { result ≡ looks_at_row back.now bytes.now self.now }
     {
         match back {
-            Back::Point => is_run(self.run.next().event) && self.is_free(bytes),
+            Back::Point(_) => is_run(self.run.next().event) && self.is_free(bytes),
             Back::StepOf(_) => false,
         }
     }
@@ -155,13 +158,13 @@ impl Target {
         requires room { length self.old.run.session.events < end }
         ensures within { length self.new.run.session.events ≤ end }
         ensures more { IfOk result (λ _. length self.old.run.session.events < length self.new.run.session.events) }
-        ensures hit { IfOk result (λ h. IfSome h (λ found. found.place < end)) }
+        ensures hit { IfOk result (λ h. IfSome h (λ found. IsHitBefore back.now end found)) }
         ensures looked { IfOk result (λ h. (n : ℕ) × Looked back.now n self.old self.new h) }
         ensures same { beginning self.new.run ≡ beginning self.old.run }
         ensures choices { choices self.new ≡ choices self.old }
     {
         let row = self.send_to_stop(alloc, bytes, end)?;
         let place = self.run.at().saturating_sub(1);
-        Ok(point_hit(place, None, row.change))
+        Ok(point_hit(&back.let_run(), place, None, row.change))
     }
 }

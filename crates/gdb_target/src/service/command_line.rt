@@ -40,7 +40,7 @@ const MOST: NumberOption = NumberOption {
 const MORE_HELP: &str = "\
 GDB starts it, and talks to it by standard input and output:
 
-  gdb-multiarch programs/bin/sh.debug
+  gdb-multiarch -l 60 programs/bin/sh.debug
   (gdb) target remote | ./xv --gdb programs/bin/init programs/bin/sh
 
 A FILE is a program, as for xv_run. A process is a thread, and its pid is the thread's number. GDB knows one

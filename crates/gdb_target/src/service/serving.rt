@@ -1,11 +1,13 @@
 //! What is answered to each packet.
 ghost use Rattle.std.specs.Prelude.{◌≡◌, [], IfOk, OnOk, true, not};
 ghost use Rattle.std.specs.Io.KnownBytes.{Appends};
+ghost use Rattle.std.specs.String.{string_bytes};
 ghost use Rattle.gdb_packets.specs.Answers as packets;
-ghost use Rattle.gdb_target.specs.Forth.{shows};
+ghost use Rattle.gdb_target.specs.Forth.{end_of, shows};
 ghost use Rattle.gdb_target.specs.Sent.{IsAnswered, Sends, stop_told};
-ghost use Rattle.gdb_target.specs.Served.{ButTold, GoesAndTells, IsOver, IsPauseTold, IsRestarted, IsReversed, IsStepBack};
-ghost use Rattle.gdb_target.specs.Served.{Pauses, Performs, Resumes, Takes, damaged_told, low_byte, shown_told};
+ghost use Rattle.gdb_target.specs.Served.{ButTold, GoesAndTells, IsContinuedBack, IsGoneTold, IsOver, IsPauseTold, IsRestarted};
+ghost use Rattle.gdb_target.specs.Served.{IsReversed, IsStepBack};
+ghost use Rattle.gdb_target.specs.Served.{Pauses, Performs, Resumes, Takes, damaged_told, low_byte, over_note, shown_told};
 ghost use Rattle.gdb_target.specs.Kept.{IsSentLast};
 ghost use Rattle.gdb_target.specs.Serving.{IsKept, IsKeptBy, IsKeptIf, IsServed, ServesUntil, acks_after, acks_by, more_after, more_by};
 ghost use Rattle.gdb_packets.specs.Commands.{asked};
@@ -13,14 +15,16 @@ ghost use Rattle.gdb_packets.specs.Packets.{fed_all};
 ghost use Rattle.gdb_packets.specs.Reading.{reading};
 
 use crate::answers::{malformed, no_such_process};
+use crate::let_run::LetRun;
 use crate::reverse::Back;
 use crate::service::link::Link;
-use crate::target::{Going, Pause, Stopped, Target, Until};
+use crate::target::{Going, Pause, Stopped, Target, Way};
 use gdb_packets::{
-    Command, PacketReader, Piece, Resume, StopReason, Thread, console, exited, parse, stop_reply,
+    Command, PacketReader, Piece, Resume, StopReason, Thread, console, exited, no_resumed, parse,
+    stop_reply,
 };
 use program_files::Failure;
-use std::alloc::Global;
+use std::alloc::{AllocError, Global};
 use std::io::{ErrorKind, Read, Write};
 use xk_base::Pid;
 
@@ -43,6 +47,7 @@ fn shows(pause: &Option<Pause>) -> bool
         Some(pause) => match pause {
             Pause::Shows => true,
             Pause::Stopped(_) => false,
+            Pause::Gone => false,
             Pause::Ended(_) => false,
         },
     }
@@ -65,21 +70,25 @@ fn more_after(command: Command) -> After
     }
 }
 
+/// The note that so many events are over, which one command may send.
+fn over_note(alloc: Global, most: u32) -> Result<String, AllocError>
+    ensures { IfOk result (λ text. string_bytes text ≡ over_note most) }
+{
+    format!(in alloc; "xv_gdb: {most} events are over; it can go on\n")
+}
+
 /// GDB, which is served: a machine, and the way to GDB.
 #[derive(Drop)]
 pub(crate) struct Service {
     alloc: Global,
     target: Target,
     link: Link,
-    /// The most events of one command that goes on.
-    most: u32,
 }
 
 impl Service {
-    /// The service of a machine that was just booted, by commands that send so many events at most.
-    pub fn new(alloc: Global, target: Target, most: u32) -> Service
+    /// The service of a machine that was just booted.
+    pub fn new(alloc: Global, target: Target) -> Service
         ensures target { result.target ≡ target }
-        ensures most { result.most ≡ most }
         ensures acks { result.link.acks ≡ true }
         ensures last { result.link.last.items ≡ [] }
     {
@@ -87,7 +96,6 @@ impl Service {
             alloc,
             target,
             link: Link::new(alloc),
-            most,
         }
     }
 
@@ -112,11 +120,12 @@ impl Service {
         output: &mut W,
         going: &Going,
     ) -> Result<Option<Pause>, Failure<'static>>
+        requires { going.now.end ≡ end_of self.old.target }
         ensures goes { IfOk result
-            (λ p. Resumes going.now.until self.old.target p self.new.target (W.contents output.old) (W.contents output.new)) }
+            (λ p. Resumes going.now.way self.old.target p self.new.target (W.contents output.old) (W.contents output.new)) }
         ensures acks { self.new.link.acks ≡ self.old.link.acks }
     {
-        'pauses: for _ in 0..u64::from(self.most) {
+        'pauses: for often in 0..u64::from(self.target.most) {
             let pause = self.target.go(self.alloc, going)?;
             if !shows(&pause) {
                 return Ok(pause);
@@ -130,33 +139,49 @@ impl Service {
     fn go_until<W: Write>(
         &mut self,
         output: &mut W,
-        until: Until,
+        way: Way,
     ) -> Result<Option<Pause>, Failure<'static>>
         ensures pauses { IfOk result
-            (λ p. Pauses until self.old.target p self.new.target (W.contents output.old) (W.contents output.new)) }
+            (λ p. Pauses way self.old.target p self.new.target (W.contents output.old) (W.contents output.new)) }
         ensures acks { self.new.link.acks ≡ self.old.link.acks }
     {
         if self.target.take_interrupt() {
-            let stopped = self.target.stop_here(StopReason::Interrupt);
+            let stopped = self.target.stop_of_run(way.let_run, StopReason::Interrupt);
             return Ok(Some(Pause::Stopped(stopped)));
         }
-        let going = self.target.going(until, self.most);
+        let going = self.target.going(way);
         self.go_on(output, &going)
     }
 
     /// Tells that as many events were sent as may be.
-    fn tell_over<W: Write>(&mut self, output: &mut W) -> Result<(), Failure<'static>>
-        ensures over { OnOk result (IsOver self.old.target self.new.target (W.contents output.old) (W.contents output.new)) }
+    fn tell_over<W: Write>(
+        &mut self,
+        output: &mut W,
+        let_run: LetRun,
+    ) -> Result<(), Failure<'static>>
+        ensures over { OnOk result (IsOver let_run self.old.target self.new.target (W.contents output.old) (W.contents output.new)) }
         ensures kept { OnOk result (IsSentLast self.new.link.last.items (W.contents output.old) (W.contents output.new)) }
         ensures acks { self.new.link.acks ≡ self.old.link.acks }
     {
-        let most = self.most;
-        let note = format!(in self.alloc; "xv_gdb: {most} events are over; it can go on\n")?;
+        let note = over_note(self.alloc, self.target.most)?;
         let payload = console(self.alloc, note.as_bytes())?;
         self.link.send(output, payload.as_slice())?;
-        let stopped = self.target.stop_here(StopReason::Interrupt);
+        let stopped = self.target.stop_of_run(let_run, StopReason::Interrupt);
         self.target.stop_at(&stopped);
         self.tell_stop(output)
+    }
+
+    /// Tells that the process is gone that was let run alone. The last stop is from now on one of a process that lives,
+    /// if any does.
+    fn tell_gone<W: Write>(&mut self, output: &mut W) -> Result<(), Failure<'static>>
+        ensures gone { OnOk result (IsGoneTold self.old.target self.new.target (W.contents output.old) (W.contents output.new)) }
+        ensures kept { OnOk result (IsSentLast self.new.link.last.items (W.contents output.old) (W.contents output.new)) }
+        ensures acks { self.new.link.acks ≡ self.old.link.acks }
+    {
+        let stopped = self.target.stop_here(StopReason::Trap);
+        self.target.stop_at(&stopped);
+        let payload = no_resumed(self.alloc)?;
+        self.link.send(output, payload.as_slice())
     }
 
     /// Tells the end, with the low byte of the status.
@@ -175,10 +200,11 @@ impl Service {
     fn tell<W: Write>(
         &mut self,
         output: &mut W,
+        let_run: LetRun,
         pause: Option<Pause>,
     ) -> Result<(), Failure<'static>>
         ensures told { OnOk result
-            (IsPauseTold pause self.old.target self.new.target (W.contents output.old) (W.contents output.new)) }
+            (IsPauseTold let_run pause self.old.target self.new.target (W.contents output.old) (W.contents output.new)) }
         ensures kept { OnOk result (IsSentLast self.new.link.last.items (W.contents output.old) (W.contents output.new)) }
         ensures acks { self.new.link.acks ≡ self.old.link.acks }
     {
@@ -188,8 +214,9 @@ impl Service {
                 self.target.stop_at(&stopped);
                 self.tell_stop(output)
             }
-            Some(Pause::Shows) => self.tell_over(output),
-            None => self.tell_over(output),
+            Some(Pause::Gone) => self.tell_gone(output),
+            Some(Pause::Shows) => self.tell_over(output, let_run),
+            None => self.tell_over(output, let_run),
         }
     }
 
@@ -206,30 +233,31 @@ impl Service {
     }
 
     /// Goes on, and tells of the pause.
-    fn go_and_tell<W: Write>(
-        &mut self,
-        output: &mut W,
-        until: Until,
-    ) -> Result<(), Failure<'static>>
+    fn go_and_tell<W: Write>(&mut self, output: &mut W, way: &Way) -> Result<(), Failure<'static>>
         ensures goes { OnOk result
-            (GoesAndTells until self.old.target self.new.target (W.contents output.old) (W.contents output.new)) }
+            (GoesAndTells way.now self.old.target self.new.target (W.contents output.old) (W.contents output.new)) }
         ensures kept { OnOk result (IsSentLast self.new.link.last.items (W.contents output.old) (W.contents output.new)) }
         ensures acks { self.new.link.acks ≡ self.old.link.acks }
     {
-        let pause = self.go_until(output, until)?;
+        let pause = self.go_until(output, *way)?;
         self.show(output)?;
-        self.tell(output, pause)
+        self.tell(output, way.let_run, pause)
     }
 
     /// Goes on as the command says, and tells of the pause.
-    fn resume<W: Write>(&mut self, output: &mut W, resume: Resume) -> Result<(), Failure<'static>>
+    fn resume<W: Write>(
+        &mut self,
+        output: &mut W,
+        how: Resume,
+        runs: Thread,
+    ) -> Result<(), Failure<'static>>
         ensures performs { OnOk result
-            (Performs (Command.Resume resume) self.old.target self.new.target (W.contents output.old) (W.contents output.new)) }
+            (Performs (Command.Resume how runs) self.old.target self.new.target (W.contents output.old) (W.contents output.new)) }
         ensures kept { OnOk result (IsSentLast self.new.link.last.items (W.contents output.old) (W.contents output.new)) }
         ensures acks { self.new.link.acks ≡ self.old.link.acks }
     {
-        match self.target.until(resume) {
-            Some(until) => self.go_and_tell(output, until),
+        match self.target.way(how, runs) {
+            Some(way) => self.go_and_tell(output, &way),
             None => self.refuse_process(output),
         }
     }
@@ -267,6 +295,19 @@ impl Service {
     {
         match self.target.steps(Thread::Any) {
             Some(pid) => self.reverse(output, &Back::StepOf(pid)),
+            None => self.refuse_process(output),
+        }
+    }
+
+    /// Goes back to the last point of whom GDB lets run, and tells of the stop.
+    fn reverse_continue<W: Write>(&mut self, output: &mut W) -> Result<(), Failure<'static>>
+        ensures continued { OnOk result
+            (IsContinuedBack self.old.target self.new.target (W.contents output.old) (W.contents output.new)) }
+        ensures kept { OnOk result (IsSentLast self.new.link.last.items (W.contents output.old) (W.contents output.new)) }
+        ensures acks { self.new.link.acks ≡ self.old.link.acks }
+    {
+        match self.target.chosen_to_run() {
+            Some(let_run) => self.reverse(output, &Back::Point(let_run)),
             None => self.refuse_process(output),
         }
     }
@@ -329,12 +370,12 @@ impl Service {
         ensures next { IfOk result (λ next. next ≡ more_after command) }
     {
         match command {
-            Command::Resume(resume) => {
-                self.resume(output, resume)?;
+            Command::Resume { how, runs } => {
+                self.resume(output, how, runs)?;
                 Ok(After::GoesOn)
             }
             Command::ReverseContinue => {
-                self.reverse(output, &Back::Point)?;
+                self.reverse_continue(output)?;
                 Ok(After::GoesOn)
             }
             Command::ReverseStep => {

@@ -4,7 +4,7 @@ use Rattle.gdb_target.proofs.Ways.{hit-here, looked-once}
 use Rattle.gdb_target.proofs.target.Target.look_on.Goals as goal
 
 pub returns-clause-hit : goal.returns-clause-hit
-returns-clause-hit c = hit-here c.in_ok-hit.hit c.at-place.result c.args.end c.in_ok-hit.ensures.hit (omega (arith, c.at-place.ensures, c.requires.room))
+returns-clause-hit c = hit-here c.args.back.now c.in_ok-hit.hit c.at-place.result c.args.end c.in_ok-hit.ensures.hit (omega (arith, c.at-place.ensures, c.requires.room))
 
 pub returns-clause-looked : goal.returns-clause-looked
 returns-clause-looked c =

@@ -16,4 +16,4 @@ returns-clause-goes c =
     let more : length t.run.session.events < length to.session.events =
     subst (λ (x : Option Outcome). IfSome x (λ (y : Outcome). length t.run.session.events < length to.session.events)) c.in-Some.is c.in_ok-outcome.ensures.more in
     let single = one-or c.args.most (length t.run.session.events) (length to.session.events) c.requires.single more c.run.ensures.within in
-    IfOk-weaker c.judged.result _ _ (λ p judged. judged-goes c.args.going.now.until t _ _ o p (record { came = came; single = single }) judged) c.judged.ensures.judged
+    IfOk-weaker c.judged.result _ _ (λ p judged. judged-goes c.args.going.now.way t _ _ o p (record { came = came; single = single }) judged) c.judged.ensures.judged

@@ -23,5 +23,5 @@ returns-clause-kept g c =
     let shown = g.W.Write.contents c.show.new.output in
     let after = g.W.Write.contents c.tell.new.output in
     on_ok_weaker c.tell.result
-    (λ kept. paused_later c.args.until c.args.self.now.target c.in_ok-pause.pause c.go_until.new.self.target before paused after _ c.in_ok-pause.ensures.pauses
+    (λ kept. paused_later c.args.way.now c.args.self.now.target c.in_ok-pause.pause c.go_until.new.self.target before paused after _ c.in_ok-pause.ensures.pauses
     (sent_later paused shown after _ _ c.in_ok-show.ensures.sent kept)) c.tell.ensures.kept

@@ -1,0 +1,26 @@
+-- Worked cases: whom vCont, c and s let run.
+use Rattle.std.proofs.Common.{◌≡◌, refl}
+use Rattle.std.specs.Prelude.{codes}
+use Rattle.gdb_packets.specs.Commands.{asked}
+use Rattle.gdb_packets.specs.declared.command.Command.TheVariants as on
+use Rattle.gdb_packets.specs.declared.command.Resume.TheVariants.{Continue, Step}
+use Rattle.gdb_packets.specs.declared.command.Thread.TheVariants.{All, Any, One}
+
+all_go_on : asked (codes "vCont;c") ≡ on.Resume Continue All
+all_go_on = refl
+
+one_alone_goes_on : asked (codes "vCont;c:4") ≡ on.Resume Continue (One 4)
+one_alone_goes_on = refl
+
+one_alone_steps : asked (codes "vCont;s:1a") ≡ on.Resume (Step (One 26)) (One 26)
+one_alone_steps = refl
+
+-- the others go on by the action that names no thread
+one_steps_and_all_go_on : asked (codes "vCont;s:4;c") ≡ on.Resume (Step (One 4)) All
+one_steps_and_all_go_on = refl
+
+as_was_chosen : asked (codes "c") ≡ on.Resume Continue Any
+as_was_chosen = refl
+
+a_step_as_was_chosen : asked (codes "s") ≡ on.Resume (Step Any) Any
+a_step_as_was_chosen = refl
