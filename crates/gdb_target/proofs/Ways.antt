@@ -7,7 +7,7 @@ use Rattle.kernel_spec.specs.views.State.{live}
 use Rattle.gdb_packets.specs.declared.answers.StopReason.{StopReason}
 use Rattle.gdb_packets.specs.declared.answers.StopReason.TheVariants.{Watch}
 use Rattle.gdb_target.specs.Before.{told_before}
-use Rattle.gdb_target.specs.Forth.{Passed, Stretch, IsJudged, IsStopFor, Goes, GoesBy, Stands, TellsIf, halted_of}
+use Rattle.gdb_target.specs.Forth.{Passed, Stretch, IsJudged, IsStopFor, Goes, GoesBy, Stands, TellsIf, halted_of, or_shows}
 use Rattle.gdb_target.specs.LastHit.{IsHitBefore, IsHitOf, IsPointHit, Looked, Looks, later, step_hit}
 use Rattle.gdb_target.specs.LetRun.{lets}
 use Rattle.gdb_target.specs.Standing.{stander}
@@ -51,6 +51,12 @@ module _ (way : Way) where
   stands-goes from mid new o (Some Gone) stretch same gone =
       record { outcome = o; stretch = subst (λ (t : Target). Stretch way.until from t o) (sym same) stretch; gone = gone }
   stands-goes from mid new o (Some (Ended status)) stretch same stands = absurd stands
+
+  -- what stands here after a stretch, or else what the console shows
+  pub shown-goes : (from new : Target) (o : Outcome) (p : Option Pause) (b : Bool) → Stretch way.until from new o → Stands way o new p → Goes way from (or_shows p b) new
+  shown-goes from new o None true stretch stands = stands-goes from new new o None stretch refl stands
+  shown-goes from new o None false stretch stands = stands-goes from new new o None stretch refl stands
+  shown-goes from new o (Some pause) b stretch stands = stands-goes from new new o (Some pause) stretch refl stands
 
   pub judged-goes : (from mid new : Target) (o : Outcome) (p : Option Pause) → Stretch way.until from mid o → IsJudged way (told_before way.let_run o) o mid p new → Goes way from p new
   judged-goes from mid new o p stretch (inl told) = told-goes from mid new o p (told_before way.let_run o) stretch refl told
