@@ -26,18 +26,18 @@ more_than_all = refl
 -- who may go on doesn't rest
 resting : (w : World) → SomebodyMayGoOn w → RestsBy Asleep w → ⊥
 resting w (inl stands) (stopped, going, nobody) = let no : false ≡ true = sym (ap (λ (o : Option ℕ). is_some o) stopped) ∙ stands in let bad : ⊥ = cc in bad
-resting w (inr (going, p, may)) (stopped, here, nobody) = nobody p may
+resting w (inr (going, (p, may))) (stopped, here, nobody) = nobody p may
 
 -- the clock settles the event
 one_comes : (left : ℕ) (w : World) (e f : Event) → IsNext left w e → IsNext left w f → e ≡ f
 one_comes left w Send Send a b = refl
 one_comes left w Send Tick a (quiet, b) = absurd (a quiet)
-one_comes left w Send Run a (quiet, b) = absurd (a quiet)
+one_comes left w Send Run a (quiet, some, on) = absurd (a quiet)
 one_comes left w Tick Send (quiet, a) b = absurd (b quiet)
 one_comes left w Tick Tick a b = refl
 one_comes left w Tick Run (quiet, inl (none, goes)) (still, some, on) = let bad : ⊥ = omega (arith, none, some) in absurd bad
 one_comes left w Tick Run (quiet, inr (rests, waits)) (still, some, on) = absurd (resting w on rests)
-one_comes left w Run Send (quiet, a) b = absurd (b quiet)
+one_comes left w Run Send (quiet, some, on) b = absurd (b quiet)
 one_comes left w Run Tick (still, some, on) (quiet, inl (none, goes)) = let bad : ⊥ = omega (arith, none, some) in absurd bad
 one_comes left w Run Tick (still, some, on) (quiet, inr (rests, waits)) = absurd (resting w on rests)
 one_comes left w Run Run a b = refl
@@ -50,7 +50,7 @@ one_comes left w Run (Key k) a b = absurd b
 none_at_rest : (left : ℕ) (w : World) (e : Event) → RestsQuiet Asleep w → IsNext left w e → ⊥
 none_at_rest left w Send (rests, quiet, nobody) next = next quiet
 none_at_rest left w Tick (rests, quiet, nobody) (still, inl (none, goes)) = resting w goes rests
-none_at_rest left w Tick (rests, quiet, nobody) (still, inr (asleep, p, waits)) = nobody p waits
+none_at_rest left w Tick (rests, quiet, nobody) (still, inr (asleep, (p, waits))) = nobody p waits
 none_at_rest left w Run (rests, quiet, nobody) (still, some, goes) = resting w goes rests
 none_at_rest left w (Key k) rests next = next
 
