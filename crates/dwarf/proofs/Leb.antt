@@ -1,7 +1,6 @@
 -- Groups of seven bits, from the last one on.
-use Rattle.std.proofs.Common.{◌≡◌, ℕ, zero, suc, ◌+◌, ◌-◌, ◌*◌, ◌/◌, ◌^◌, ◌<◌, ◌≤◌, Bool, true, false, ltb, List, [], ◌∷◌, length, drop, get_or, Some, None, refl, ap, sym, ◌∙◌, arith, add-one, drop-cons}
-use Rattle.std.proofs.lemmas.Bool.{le-ltb, lt-ltb}
-use Rattle.dwarf.specs.Numbers.{group, groups, below_64}
+use Rattle.dwarf.proofs.Prelude.{[], ℕ, ◌*◌, ◌+◌, ◌-◌, ◌/◌, ◌<◌, ◌^◌, ◌∙◌, ◌∷◌, ◌≡◌, ◌≤◌, add-one, ap, arith, below_64, Bool, drop, drop-cons, false, get_or, group, groups, le-ltb, length, List, ltb}
+use Rattle.dwarf.proofs.Prelude.{None, refl, suc, sym, true, zero}
 
 pub groups-drop : (negative : Bool) (bs : List ℕ) (k : ℕ) → k < length bs → groups negative (drop k bs) ≡ group negative (get_or bs k 0) + 128 * groups negative (drop (k + 1) bs)
 groups-drop negative bs k lt = rw add-one (ap (groups negative) (drop-cons bs k 0 lt))
@@ -13,9 +12,6 @@ groups-least negative (b ∷ bs) (suc k) = omega (arith, groups-least negative b
 
 pub below_64-none : (n m : ℕ) → n ≤ m → 2 ^ 64 ≤ n → below_64 m ≡ None
 below_64-none n m le large = let e : ltb m (2 ^ 64) ≡ false = le-ltb _ _ (omega arith) in rw e refl
-
-pub below_64-some : (n m : ℕ) → n ≡ m → n < 2 ^ 64 → below_64 m ≡ Some n
-below_64-some n m same small = let e : ltb m (2 ^ 64) ≡ true = lt-ltb _ _ (omega arith) in rw (e, same) refl
 
 -- a number of more than 64 bits is met before the first group
 pub groups-large : (negative : Bool) (bs : List ℕ) (left number low : ℕ) → 0 < left → left ≤ length bs → number ≡ groups negative (drop left bs) → low ≡ group negative (get_or bs (left - 1) 0)

@@ -1,3 +1,4 @@
+mod Prelude
 pub mod Leb
 pub mod Loops
 pub mod Times

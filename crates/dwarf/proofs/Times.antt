@@ -1,7 +1,5 @@
 -- Steps one after the other, as a loop does them.
-use Rattle.std.proofs.Common.{◌≡◌, ℕ, zero, suc, ◌-◌, ◌+◌, ◌≤◌, ◌<◌, List, length, true, false, eqb, Result, Ok, Err, refl, sym, ap, ◌∙◌, arith}
-use Rattle.dwarf.specs.declared.fault.Fault.{Fault}
-use Rattle.dwarf.specs.Numbers.{◌>>=◌, times}
+use Rattle.dwarf.proofs.Prelude.{ℕ, ◌+◌, ◌-◌, ◌<◌, ◌>>=◌, ◌∙◌, ◌≡◌, ◌≤◌, ap, arith, eqb, Err, false, Fault, length, List, Ok, refl, Result, suc, sym, times, true, zero}
 
 pub times-go_on : {A : Type 0} (f : A → Result A Fault) (count i : ℕ) (a b : A) (total : Result A Fault) → i < count → f a ≡ Ok b → times f (count - i) a ≡ total → times f (count - (i + 1)) b ≡ total
 unfolding times

@@ -1,9 +1,5 @@
 -- Worked lookups: which row covers an address, and at which addresses a line begins.
-use Rattle.std.proofs.Common.{◌≡◌, List, ℕ, ◌∷◌, [], Some, None, refl}
-use Rattle.std.specs.Prelude.{true, false}
-use Rattle.dwarf.specs.declared.row.Row.{Row}
-use Rattle.dwarf.specs.Registers.{first}
-use Rattle.dwarf.specs.Lookup.{row_at, addresses}
+use Rattle.dwarf.proofs.Prelude.{[], ℕ, ◌∷◌, ◌≡◌, addresses, false, first, List, None, refl, Row, row_at, Some, true}
 
 abbrev at : ℕ → ℕ → Row
 at address line = record (first true) { address = address; line = line }

@@ -1,8 +1,6 @@
 -- Worked numbers: those of the table in section 7.6 of DWARF 5, and numbers that don't end, don't fit, or are longer than they need be.
-use Rattle.std.proofs.Common.{◌≡◌, List, ℕ, ◌∷◌, [], Ok, Err, refl}
-use Rattle.std.specs.Prelude.{pos, negsuc, true, false}
+use Rattle.dwarf.proofs.Prelude.{[], ℕ, ◌∷◌, ◌≡◌, Err, false, fixed, leb_bytes, List, negsuc, offset, Ok, pos, refl, signed, skipped, times, true, unsigned}
 use Rattle.dwarf.specs.declared.fault.Fault.TheVariants.{Short, TooLarge}
-use Rattle.dwarf.specs.Numbers.{fixed, offset, leb_bytes, unsigned, signed, skipped, times}
 
 -- unsigned
 

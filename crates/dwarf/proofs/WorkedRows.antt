@@ -1,14 +1,9 @@
 -- Worked rows: what each instruction does, and small programs from their first byte to their last row.
-use Rattle.std.proofs.Common.{◌≡◌, List, ℕ, ◌∷◌, ◌++◌, [], Some, None, Ok, Err, refl, length}
-use Rattle.std.specs.Prelude.{pos, negsuc, true, false}
-use Rattle.dwarf.specs.declared.fault.Fault.TheVariants as faults
-use Rattle.dwarf.specs.declared.line_header.LineHeader.{LineHeader}
-use Rattle.dwarf.specs.declared.operation.Operation.TheVariants as does
-use Rattle.dwarf.specs.declared.row.Row.{Row}
-use Rattle.dwarf.specs.Numbers.{unsigned, signed, leb_bytes, times}
+use Rattle.dwarf.proofs.Prelude.{[], ℕ, ◌++◌, ◌∷◌, ◌≡◌, advanced, done, Err, false, first, leb_bytes, length, LineHeader, List, makes_row, moved, negsuc, None, Ok, pos, program, refl, Row, rows}
+use Rattle.dwarf.proofs.Prelude.{rows_from, settled, signed, Some, step, times, true, unsigned}
 use Rattle.dwarf.specs.Operations.{special, unknown, other, standard, set_address, extended_of, extended, operation}
-use Rattle.dwarf.specs.Registers.{first, advanced, moved, done, makes_row, settled, step}
-use Rattle.dwarf.specs.Rows.{rows_from, program, rows}
+use Rattle.dwarf.specs.declared.fault.Fault.TheVariants as faults
+use Rattle.dwarf.specs.declared.operation.Operation.TheVariants as does
 
 -- instructions of 2 bytes, special opcodes from 14 on by -3 to 8 lines; the opcode 13, which no version knows, has two numbers
 abbrev h : LineHeader

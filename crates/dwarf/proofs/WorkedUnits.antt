@@ -1,12 +1,7 @@
 -- Worked units and headers: their lengths, and what is refused of them.
-use Rattle.std.proofs.Common.{◌≡◌, List, ℕ, ◌∷◌, ◌++◌, [], Ok, Err, refl, length, take}
-use Rattle.std.specs.Prelude.{pos, negsuc, true, false, replicate}
-use Rattle.dwarf.specs.declared.fault.Fault.TheVariants as faults
-use Rattle.dwarf.specs.declared.unit.Unit.{Unit}
-use Rattle.dwarf.specs.declared.line_header.LineHeader.{LineHeader}
-use Rattle.dwarf.specs.Numbers.{offset}
-use Rattle.dwarf.specs.Units.{unit_length, unit_at, units_from, units}
+use Rattle.dwarf.proofs.Prelude.{[], ℕ, ◌++◌, ◌∷◌, ◌≡◌, Err, false, length, LineHeader, List, negsuc, offset, Ok, pos, refl, replicate, take, true, Unit, unit_at, unit_length, units, units_from}
 use Rattle.dwarf.specs.Headers.{find_parts, header_of, header}
+use Rattle.dwarf.specs.declared.fault.Fault.TheVariants as faults
 
 -- a unit of 3 bytes of version 4, and one of 2 bytes of version 9 in the 64-bit format
 abbrev pub two_units : List ℕ

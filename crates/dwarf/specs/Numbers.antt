@@ -1,5 +1,6 @@
 -- Numbers in a debugging table: of so many bytes, and in LEB128 (DWARF 5, section 7.6). All are little-endian.
-use Rattle.std.specs.Prelude.{ℕ, zero, suc, ◌+◌, ◌-◌, ◌*◌, ◌%◌, ◌^◌, ◌≡◌, Bool, true, false, nat_lt, nat_le, if◌then◌else◌, List, [], ◌∷◌, length, take, drop, position, slice_index, Option, Some, None, Result, Ok, Err, ℤ, pos, negsuc}
+use Rattle.std.specs.Prelude.{ℕ, zero, suc, ◌+◌, ◌-◌, ◌*◌, ◌%◌, ◌^◌, ◌≡◌, Bool, true, false, nat_lt, nat_le, if◌then◌else◌, List, [], ◌∷◌, length, take, drop, position, slice_index}
+use Rattle.std.specs.Prelude.{Option, Some, None, Result, Ok, Err, ℤ, pos, negsuc}
 use Rattle.xk_base.specs.ProgramFile.{number_at}
 use Rattle.dwarf.specs.declared.fault.Fault.{Fault}
 use Rattle.dwarf.specs.declared.fault.Fault.TheVariants.{Short, TooLarge}

@@ -4,7 +4,8 @@ use Rattle.dwarf.specs.declared.fault.Fault.{Fault}
 use Rattle.dwarf.specs.declared.fault.Fault.TheVariants.{Short, LineRange, Length, Address}
 use Rattle.dwarf.specs.declared.line_header.LineHeader.{LineHeader}
 use Rattle.dwarf.specs.declared.operation.Operation.{Operation}
-use Rattle.dwarf.specs.declared.operation.Operation.TheVariants.{Special, Copy, AdvanceAddress, AdvanceLine, SetFile, SetColumn, NegateStatement, BeginBlock, AdvanceBytes, EndPrologue, BeginEpilogue, SetIsa, EndSequence, SetAddress, SetDiscriminator, Unknown}
+use Rattle.dwarf.specs.declared.operation.Operation.TheVariants.{Special, Copy, AdvanceAddress, AdvanceLine, SetFile, SetColumn, NegateStatement, BeginBlock, AdvanceBytes}
+use Rattle.dwarf.specs.declared.operation.Operation.TheVariants.{EndPrologue, BeginEpilogue, SetIsa, EndSequence, SetAddress, SetDiscriminator, Unknown}
 use Rattle.dwarf.specs.declared.operation.Decoded.{Decoded}
 use Rattle.dwarf.specs.declared.operations.Advance.{Advance}
 use Rattle.dwarf.specs.Numbers.{◌>>=◌, fixed, unsigned, signed, skipped}

@@ -4,7 +4,8 @@ use Rattle.dwarf.specs.declared.fault.Fault.{Fault}
 use Rattle.dwarf.specs.declared.fault.Fault.TheVariants.{Line}
 use Rattle.dwarf.specs.declared.line_header.LineHeader.{LineHeader}
 use Rattle.dwarf.specs.declared.operation.Operation.{Operation}
-use Rattle.dwarf.specs.declared.operation.Operation.TheVariants.{Special, Copy, AdvanceAddress, AdvanceLine, SetFile, SetColumn, NegateStatement, BeginBlock, AdvanceBytes, EndPrologue, BeginEpilogue, SetIsa, EndSequence, SetAddress, SetDiscriminator, Unknown}
+use Rattle.dwarf.specs.declared.operation.Operation.TheVariants.{Special, Copy, AdvanceAddress, AdvanceLine, SetFile, SetColumn, NegateStatement, BeginBlock, AdvanceBytes}
+use Rattle.dwarf.specs.declared.operation.Operation.TheVariants.{EndPrologue, BeginEpilogue, SetIsa, EndSequence, SetAddress, SetDiscriminator, Unknown}
 use Rattle.dwarf.specs.declared.row.Row.{Row}
 use Rattle.dwarf.specs.declared.registers.Step.{Step}
 use Rattle.dwarf.specs.Numbers.{◌>>=◌, or_fault}

@@ -5,7 +5,7 @@
 //! address, and [`addresses_of`] at which addresses a line begins.
 //!
 //! A table may hold anything, so each place is tested before it is read. What is damaged is refused by name, with its
-//! place in the section. No function takes more steps than there are bytes.
+//! place in the section. Each function takes time in proportion to the bytes, or the rows, that it is given.
 #![tactic(auto)]
 
 mod bytes;

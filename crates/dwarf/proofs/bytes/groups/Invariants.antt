@@ -1,5 +1,4 @@
-use Rattle.std.proofs.Common.{◌≡◌, ◌≤◌, length, drop}
-use Rattle.dwarf.specs.Numbers.{groups}
+use Rattle.dwarf.proofs.Prelude.{◌≡◌, ◌≤◌, drop, groups, length}
 use Rattle.dwarf.proofs.bytes.groups.Given as goal
 
 abbrev pub invariant-groups : goal.invariant-groups

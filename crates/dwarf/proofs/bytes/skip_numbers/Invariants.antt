@@ -1,5 +1,4 @@
-use Rattle.std.proofs.Common.{◌≡◌, ◌-◌}
-use Rattle.dwarf.specs.Numbers.{past_number, skipped, times}
+use Rattle.dwarf.proofs.Prelude.{◌-◌, ◌≡◌, past_number, skipped, times}
 use Rattle.dwarf.proofs.bytes.skip_numbers.Given as goal
 
 abbrev pub invariant-loop : goal.invariant-loop

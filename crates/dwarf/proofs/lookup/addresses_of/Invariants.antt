@@ -1,5 +1,4 @@
-use Rattle.std.proofs.Common.{◌≡◌, ◌++◌, drop}
-use Rattle.dwarf.specs.Lookup.{addresses, addresses_from}
+use Rattle.dwarf.proofs.Prelude.{◌++◌, ◌≡◌, addresses, addresses_from, drop}
 use Rattle.dwarf.proofs.lookup.addresses_of.Given as goal
 
 abbrev pub invariant-loop-row : goal.invariant-loop-row

@@ -1,5 +1,4 @@
-use Rattle.std.proofs.Common.{◌≡◌, drop}
-use Rattle.dwarf.specs.Lookup.{row_at, row_from}
+use Rattle.dwarf.proofs.Prelude.{◌≡◌, drop, row_at, row_from}
 use Rattle.dwarf.proofs.lookup.row_at.Given as goal
 
 abbrev pub invariant-loop-next : goal.invariant-loop-next

@@ -1,6 +1,4 @@
-use Rattle.std.proofs.Common.{◌≡◌, ◌-◌, length}
-use Rattle.dwarf.specs.Made.{with_front}
-use Rattle.dwarf.specs.Rows.{program, rows_from}
+use Rattle.dwarf.proofs.Prelude.{◌-◌, ◌≡◌, length, program, rows_from, with_front}
 use Rattle.dwarf.proofs.program.run.Given as goal
 
 abbrev pub invariant-loop : goal.invariant-loop

@@ -1,6 +1,4 @@
-use Rattle.std.proofs.Common.{◌≡◌, ◌-◌, length}
-use Rattle.dwarf.specs.Made.{with_front}
-use Rattle.dwarf.specs.Units.{units, units_from}
+use Rattle.dwarf.proofs.Prelude.{◌-◌, ◌≡◌, length, units, units_from, with_front}
 use Rattle.dwarf.proofs.unit_list.units.Given as goal
 
 abbrev pub invariant-loop : goal.invariant-loop
