@@ -1,0 +1,30 @@
+use Rattle.dwarf.proofs.Prelude.{◌≡◌, arith, err_from_is_err_and, le-leb, length, lt-leb, sym}
+use Rattle.dwarf.proofs.Loops.{rows-go_on, rows-fail, rows-end, rows-out}
+use Rattle.dwarf.proofs.program.run.Goals as goal
+
+pub returns-then-at-bytes : goal.returns-then-at-bytes
+returns-then-at-bytes c =
+    let h = c.args.header.now in
+    let bytes = c.args.bytes.now in
+    rows-end h bytes c.loop.rows.items (length bytes) c.loop.counter c.loop.at c.loop.registers _ c.loop-test.true (le-leb _ _ (omega arith)) c.loop.invariant
+
+pub returns-in_err-step : goal.returns-in_err-step
+returns-in_err-step c =
+    let h = c.args.header.now in
+    let bytes = c.args.bytes.now in
+    let p = err_from_is_err_and c.from_residual.result c.from_residual.ensures.1 in
+    rw (p.1, p.2) (rows-fail h bytes c.loop.rows.items (length bytes) c.loop.counter c.loop.at c.loop.registers c.in_err-step.field-0.0 _
+    c.loop-test.true (lt-leb _ _ (omega arith)) (sym c.in_err-step.ensures) c.loop.invariant)
+
+pub loop-preserved : goal.loop-preserved
+loop-preserved c =
+    let h = c.args.header.now in
+    let bytes = c.args.bytes.now in
+    rw c.in_ok-add.ensures (rows-go_on h bytes c.loop.rows.items (length bytes) c.loop.counter c.loop.at c.loop.registers c.in_ok-step.step _
+    c.loop-test.true (lt-leb _ _ (omega arith)) (sym c.in_ok-step.ensures) c.loop.invariant)
+
+pub returns : goal.returns
+returns c =
+    let h = c.args.header.now in
+    let bytes = c.args.bytes.now in
+    rows-out h bytes c.loop.rows.items (length bytes) c.loop.counter c.loop.at c.loop.registers _ c.loop-test.false c.loop.invariant
