@@ -47,6 +47,7 @@ tell_others() {
     tell release.sh 'release.sh FOLDER' 'a release, tried in a bare Debian 12, natively and by Node: some minutes; needs root, debootstrap and the network'
     tell imports.py 'imports.py [--tell] CRATE..' 'writes the heads of the proofs, and the module that hands on their words: a second'
     tell html-links.py 'html-links.py FOLDER' 'the links of a release that was untarred'
+    tell assumed.py 'assumed.py' "the C functions that programs reach are those that docs/TRUST.md names: some 10 minutes; needs rt, and a gate's libraries"
     tell exercise_8.py 'exercise_8.py' "what the kit says of the mistake in the course's exercise 8 is what the page shows: a minute; needs rt"
     tell cases.py 'cases.py --tell [WORD]' 'what tries a case that a reader would ask for by name'
     tell commands.py 'commands.py --tell' 'which commands of the pages are run by hand alone; the others are run here'
