@@ -1,21 +1,23 @@
-// The mistakes of a source: all of them, what is wrong in each line in words, and the line that is to stand in its place.
+// The mistakes of a source: all of them, what is wrong in each line in words, and the line that is to stand in its
+// place.
 
 /** So many mistakes are told of one source. */
 export const MOST_MISTAKES = 20;
 
 const LABEL = /^\s*[A-Za-z_]\w*:/;
 
-/** A line without its mistake, so that others are found: its label alone, or, if this stands twice, all but the label. */
+/** A line without its mistake, so that others are found: its label alone; if this stands twice, all but the label. */
 function line_without(kind, text) {
   const label = LABEL.exec(text)?.[0] ?? "";
   return kind === "DuplicateLabel" ? text.slice(label.length) : label;
 }
 
 /**
- * The mistakes of a source, by the order in which the assembler tells them: {line, kind, written} each, of which `written`
- * is the line as it is meant, or null; and whether there are `more`. `first_of` tells the first mistake of a text, or
- * nothing. A line that is told is written as it is meant then, if the assembler takes that; else it is left out, but for
- * its label, so a mistake may come of one before it. A mistake of no line, as too little memory, is the last that is told.
+ * The mistakes of a source, by the order in which the assembler tells them: {line, kind, written} each, of which
+ * `written` is the line as it is meant, or null; and whether there are `more`. `first_of` tells the first mistake of a
+ * text, or nothing. A line that is told is written as it is meant then, if the assembler takes that; else it is left
+ * out, but for its label, so a mistake may come of one before it. A mistake of no line, as too little memory, is the
+ * last that is told.
  */
 export function all_mistakes(source, first_of) {
   const lines = source.split("\n"), mistakes = [];
@@ -212,7 +214,8 @@ function with_commas(operands) {
 /** The line of a source that has a mistake, as it is meant; null if that can't be told. */
 export function mended({ kind }, text) {
   if (kind !== "UnknownWord" && kind !== "BadOperand") return null;
-  const [, before, code, comment] = /^(\s*(?:[A-Za-z_]\w*:)?\s*)((?:"(?:[^"\\]|\\.)*"?|'\\?.'|[^#"'])*)(.*)$/s.exec(text);
+  const line = /^(\s*(?:[A-Za-z_]\w*:)?\s*)((?:"(?:[^"\\]|\\.)*"?|'\\?.'|[^#"'])*)(.*)$/s;
+  const [, before, code, comment] = line.exec(text);
   const [, word, operands, end] = /^(\.?[\w.]*)\s*(.*?)(\s*)$/s.exec(code);
   const other = kind === "UnknownWord" ? instruction_for(word, operands) : null;
   if (other !== null) return other || comment ? `${before}${other}${other ? end : ""}${comment}` : before.trimEnd();
