@@ -184,8 +184,8 @@ one instruction, over the whole function or kernel call that it calls.
 Also: n, ni, nexti.
 A jump that keeps its return address in ra is a call of a function: it is over
 when the process is back after the jump, with the stack pointer not below. An
-ecall is over when the kernel has answered. Other processes may run meanwhile.
-At most 100000000 events are sent.",
+ecall is over when the kernel has answered. Other processes may run meanwhile,
+and ticks come (help until). At most 100000000 events are sent.",
             Topic::Back => "\
 back [N], back until GOAL
 go back by N events, or to a goal
@@ -196,8 +196,8 @@ back until GOAL goes back to the last Run before this place that was the goal
 place are forgotten. If there were fewer events, it goes back to the boot.",
             Topic::Until => "\
 until [GOAL]
-send Runs up to a goal: help until lists them
-send Runs up to the first that is the goal.
+go on up to a goal: help until lists them
+go on up to the first Run that is the goal.
 Also: u, advance.
 until call CALL          a step of this kernel call, by its name or number:
                          until call write
@@ -211,18 +211,20 @@ until exit               a process is gone, by a call, a kill or a fault
 until [line]             the process stands in another line of its source, also
                          of a function that it calls
 help print tells what a PLACE may be. One of another program is met by
-whichever process runs that. The bytes that wait in the console are taken
-before each Run, and told. 100000000 events are sent at most. It stops early
-if all processes sleep.",
+whichever process runs that. The clock goes on: a Tick comes after each round
+of Runs, 1,000 or as many as --quantum says, and while all processes sleep, if
+one of them sleeps up to a tick. The bytes that wait in the console are taken
+before each Run, and told. A turn of the process that runs at first isn't the
+goal. 100000000 events are sent at most. It stops early if no tick wakes one.",
             Topic::Finish => "\
 finish
-send Runs up to the end of the function that runs
-send Runs up to the end of the function in which the process that runs is.
+go on up to the end of the function that runs
+go on up to the end of the function in which the process that runs is.
 Also: fin.
 It is over when the process is back at the return address, with the stack
 pointer not below: the address in ra, if that lies in another function, or else
 the one that the frame of s0 has. A program without frame pointers (most are)
-has no such frame. At most 100000000 events are sent.",
+has no such frame. Ticks come (help until). At most 100000000 events are sent.",
             Topic::Break => "\
 break [PLACE]
 stop c at PLACE; the marks that c stops at
@@ -254,8 +256,9 @@ run [N]
 play N rounds of 1,000 Runs, a Tick, 32 Sends
 play N rounds of 1,000 Runs, a Tick and 32 Sends; 1 if N is left out.
 Also: r.
-These are the rounds of xv_run, without its keys. What the console shows is
-told. It stops early if a process faults or the machine halts. N is 1 to 90000.",
+These are the rounds of xv_run, without its keys; with --quantum a round has as
+many Runs as that says. What the console shows is told. It stops early if a
+process faults or the machine halts. N is 1 to 90000.",
             Topic::Tick => "\
 tick [N]
 send N Ticks: the clock counts N more
@@ -396,11 +399,12 @@ at the one that made the last step.",
             Topic::Continue => "\
 c
 go on to the next mark or fault
-send Runs up to the first that meets a mark, or by which a process is gone by a
+go on up to the first Run that meets a mark, or by which a process is gone by a
 fault.
 Also: continue.
-100000000 at most. It stops early if all processes sleep. At the prompt that
-Ctrl-C opened it leaves the debugger, if there is no mark: the machine goes on.",
+Ticks come (help until). 100000000 events are sent at most. It stops early if
+no tick wakes a process. At the prompt that Ctrl-C opened it leaves the
+debugger, if there is no mark: the machine goes on.",
             Topic::Quit => "\
 quit
 end the debugger and the machine

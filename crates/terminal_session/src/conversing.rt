@@ -51,7 +51,8 @@ fn prompt<H: Host + Patience, E: Write>(
 ) -> Result<Option<End>, Failure<'static>>
     ensures end { IfOk result (λ e. IfSome e (λ f. IsEndOf session.new f)) }
     ensures is { IfOk result (IsEndBehindPrompt session.new.machine.world.turns.halted) }
-    ensures lines { Converses H.may_end session.old session.new }
+    ensures lines { Converses H.may_end debugger.old.quantum session.old session.new }
+    ensures quantum { debugger.new.quantum ≡ debugger.old.quantum }
 {
     let next = stop(session, host, debugger, notes)?;
     Ok(end_of_prompt(session, next))
@@ -69,7 +70,8 @@ fn end_behind<H: Host + Patience, E: Write>(
     requires { IsPauseOf session.old pause }
     ensures end { IfOk result (λ e. IfSome e (λ f. IsEndOf session.new f)) }
     ensures is { IfOk result (IsEndBehind pause session.new.machine.world.turns.halted) }
-    ensures lines { Converses H.may_end session.old session.new }
+    ensures lines { Converses H.may_end debugger.old.quantum session.old session.new }
+    ensures quantum { debugger.new.quantum ≡ debugger.old.quantum }
 {
     match pause {
         Pause::Halted(status) => Ok(Some(End::Halted(status))),
@@ -88,7 +90,8 @@ fn turn<H: Host + Patience, W: ByteSink, E: Write>(
     screen: &mut Screen<W, Notes<E>>,
 ) -> Result<Option<End>, Failure<'static>>
     ensures end { IfOk result (λ e. IfSome e (λ f. IsEndOf session.new f)) }
-    ensures stretch { OnOk result (Stretch H.may_end session.old session.new (W.sink screen.old.sink).held (W.sink screen.new.sink).held) }
+    ensures stretch { OnOk result (Stretch H.may_end debugger.old.quantum session.old session.new (W.sink screen.old.sink).held (W.sink screen.new.sink).held) }
+    ensures quantum { debugger.new.quantum ≡ debugger.old.quantum }
 {
     host.restart()?;
     let pause = attend(session, host, pending, screen)?;
@@ -103,7 +106,7 @@ fn converse<H: Host + Patience, W: ByteSink, E: Write>(
     screen: &mut Screen<W, Notes<E>>,
 ) -> Result<End, Failure<'static>>
     ensures end { IfOk result (λ e. IsEndOf session.new e) }
-    ensures lives { OnOk result (Lives H.may_end session.old session.new (W.sink screen.old.sink).held (W.sink screen.new.sink).held) }
+    ensures lives { OnOk result (Lives H.may_end debugger.old.quantum session.old session.new (W.sink screen.old.sink).held (W.sink screen.new.sink).held) }
 {
     let mut pending = Pending::new(screen.teller.alloc);
     'turns: for _ in 0..u64::MAX {
@@ -153,7 +156,7 @@ pub fn live<H: Host + Patience, W: ByteSink, E: Write>(
     debugger: &mut Debugger,
     screen: &mut Screen<W, Notes<E>>,
 ) -> u8
-    ensures { Tells (Lives H.may_end session.old session.new (W.sink screen.old.sink).held (W.sink screen.new.sink).held) result session.new }
+    ensures { Tells (Lives H.may_end debugger.old.quantum session.old session.new (W.sink screen.old.sink).held (W.sink screen.new.sink).held) result session.new }
 {
     let outcome = converse(session, host, debugger, screen);
     tell_outcome(session, &outcome, &mut screen.teller)

@@ -4,6 +4,7 @@
 //!
 //! What a word does to the machine is promised by `xv_debug`, and that nothing else is done to it by `Converses` of its
 //! `specs/Conversations.antt`. The answers' text is compared with stored sessions (`checks/debugger`).
+ghost use Rattle.std.specs.Prelude.{◌≡◌, IfOk};
 ghost use Rattle.program_files.specs.Statuses.{IsPlainStatus};
 
 mod command_line;
@@ -23,7 +24,9 @@ use xv_session::Session;
 const NAME: &str = "xv_debugger";
 
 /// A conversation about a machine of the settings, which has got no event yet.
-fn begun<'a>(rt: &HostRuntime, settings: &'a Settings) -> Result<Conversation, Failure<'a>> {
+fn begun<'a>(rt: &HostRuntime, settings: &'a Settings) -> Result<Conversation, Failure<'a>>
+    ensures { IfOk result (λ c. c.debugger.quantum ≡ settings.quantum) }
+{
     let files = settings.files.as_slice();
     let made = programs(rt, files)?;
     let table = line_table(rt, &settings.lines)?;

@@ -1,4 +1,5 @@
 //! The prompt at which the machine is stopped, and the debugger is asked.
+ghost use Rattle.std.specs.Prelude.{◌≡◌};
 ghost use Rattle.xv_debug.specs.Conversations.{Converses, MovesByWord};
 
 use crate::completing::rest_of_word;
@@ -165,7 +166,8 @@ fn answer<P: Patience, E: Write>(
     patience: &mut P,
     notes: &mut Notes<E>,
 ) -> Result<Next, Failure<'static>>
-    ensures { MovesByWord P.may_end session.old session.new }
+    ensures moves { MovesByWord P.may_end debugger.old.quantum session.old session.new }
+    ensures quantum { debugger.new.quantum ≡ debugger.old.quantum }
 {
     let Ok(line) = std::str::from_utf8(line) else {
         return Ok(Next::Stays);
@@ -183,7 +185,8 @@ fn exchange<H: Host + Patience, E: Write>(
     debugger: &mut Debugger,
     notes: &mut Notes<E>,
 ) -> Result<Next, Failure<'static>>
-    ensures { MovesByWord H.may_end session.old session.new }
+    ensures moves { MovesByWord H.may_end debugger.old.quantum session.old session.new }
+    ensures quantum { debugger.new.quantum ≡ debugger.old.quantum }
 {
     notes.write_text(PROMPT);
     let mut editor = LineEditor::new();
@@ -209,7 +212,8 @@ pub fn stop<H: Host + Patience, E: Write>(
     debugger: &mut Debugger,
     notes: &mut Notes<E>,
 ) -> Result<Next, Failure<'static>>
-    ensures { Converses H.may_end session.old session.new }
+    ensures lines { Converses H.may_end debugger.old.quantum session.old session.new }
+    ensures quantum { debugger.new.quantum ≡ debugger.old.quantum }
 {
     notes.break_line();
     notes.write_note(WELCOME);

@@ -260,6 +260,7 @@ impl Debugger {
     ) -> Result<Next, AllocError>
         ensures done { IfOk result (λ next. Obeys P.may_end self.old.quantum session.old session.new next) }
         ensures failed { IfErr result (λ _. (session.new ≡ session.old) ⊎ DoesSome P.may_end self.old.quantum session.old session.new) }
+        ensures quantum { self.new.quantum ≡ self.old.quantum }
     {
         match self.read(session, line) {
             Ok(word) => self.answer_marked(alloc, session, word, patience, answer),
@@ -311,6 +312,7 @@ impl Debugger {
         requires { IsInRange word }
         ensures done { IfOk result (λ next. Obeys P.may_end self.old.quantum session.old session.new next) }
         ensures failed { IfErr result (λ _. (session.new ≡ session.old) ⊎ DoesSome P.may_end self.old.quantum session.old session.new) }
+        ensures quantum { self.new.quantum ≡ self.old.quantum }
     {
         let word = self.with_marks(word);
         let next = self.obey_word(alloc, session, &word, patience, answer);
@@ -320,7 +322,8 @@ impl Debugger {
 
     /// Forgets the marks for once that are met where the session is, after the word that goes on to them.
     fn forget_met(&mut self, session: &Session, word: &Word)
-        ensures { self.new.marks.kept.items ≡ left_after (running_of session.now) word.now self.old.marks.kept.items }
+        ensures marks { self.new.marks.kept.items ≡ left_after (running_of session.now) word.now self.old.marks.kept.items }
+        ensures quantum { self.new.quantum ≡ self.old.quantum }
     {
         if let Word::ToMark(_) = word {
             self.marks.forget_met(session);
@@ -339,6 +342,7 @@ impl Debugger {
         requires { IsInRange word.now }
         ensures done { IfOk result (λ next. Obeys P.may_end self.old.quantum session.old session.new next) }
         ensures failed { IfErr result (λ _. (session.new ≡ session.old) ⊎ DoesSome P.may_end self.old.quantum session.old session.new) }
+        ensures quantum { self.new.quantum ≡ self.old.quantum }
     {
         self.answer(alloc, session, word, patience, answer)
     }
@@ -362,6 +366,7 @@ impl Debugger {
             (Answers P.may_end self.old.quantum self.old.shown word.now session.old session.new
             (string_bytes answer.old) (string_bytes answer.new)) }
         ensures failed { IfErr result (λ _. DoesOrStays P.may_end self.old.quantum word.now session.old session.new) }
+        ensures quantum { self.new.quantum ≡ self.old.quantum }
     {
         self.act(alloc, session, word, patience, answer)?;
         Ok(next_of(word))
@@ -381,6 +386,7 @@ impl Debugger {
             (Answers P.may_end self.old.quantum self.old.shown word.now session.old session.new
             (string_bytes answer.old) (string_bytes answer.new)) }
         ensures failed { IfErr result (λ _. DoesOrStays P.may_end self.old.quantum word.now session.old session.new) }
+        ensures quantum { self.new.quantum ≡ self.old.quantum }
     {
         match word {
             Word::Back { count } => self.go_back(alloc, session, *count, patience, answer),
@@ -782,9 +788,10 @@ impl Debugger {
         word: &Word,
         answer: &mut String,
     ) -> Result<(), AllocError>
-        ensures { OnOk result
+        ensures shows { OnOk result
             (Shows self.old.shown session.now word.now
             (string_bytes answer.old) (string_bytes answer.new)) }
+        ensures quantum { self.new.quantum ≡ self.old.quantum }
     {
         match word {
             Word::Where { pid } => self.show_focus(alloc, session, *pid, INSTRUCTIONS, answer),
@@ -878,10 +885,11 @@ impl Debugger {
         count: u32,
         answer: &mut String,
     ) -> Result<(), AllocError>
-        ensures { OnOk result
+        ensures shows { OnOk result
             (Writes (string_bytes answer.old) (string_bytes answer.new)
             (IsOfFocus session.now named
             (λ p text. text ≡ memory_shown session.now p (unwrap_or address self.old.shown) count))) }
+        ensures quantum { self.new.quantum ≡ self.old.quantum }
     {
         let Some(pid) = focus(session, named) else {
             return show_nobody(answer);

@@ -62,7 +62,7 @@ pub(crate) struct Conversation {
 }
 
 impl Conversation {
-    ghost use Rattle.std.specs.Prelude.{false};
+    ghost use Rattle.std.specs.Prelude.{◌≡◌, false};
     ghost use Rattle.xv_debug.specs.Conversations.{Converses, MovesByWord};
 
     /// Does what a line says, and writes the answer.
@@ -73,7 +73,8 @@ impl Conversation {
         line: &str,
         output: &mut W,
     ) -> Result<Next, Failure<'static>>
-        ensures { MovesByWord false self.old.session self.new.session }
+        ensures moves { MovesByWord false self.old.debugger.quantum self.old.session self.new.session }
+        ensures quantum { self.new.debugger.quantum ≡ self.old.debugger.quantum }
     {
         let mut text = String::new(alloc);
         let next = self
@@ -90,7 +91,8 @@ impl Conversation {
         input: &mut R,
         output: &mut W,
     ) -> Result<bool, Failure<'static>>
-        ensures { MovesByWord false self.old.session self.new.session }
+        ensures moves { MovesByWord false self.old.debugger.quantum self.old.session self.new.session }
+        ensures quantum { self.new.debugger.quantum ≡ self.old.debugger.quantum }
     {
         show(self.prompt, PROMPT, output)?;
         let Some(line) = next_line(alloc, input)? else {
@@ -114,7 +116,8 @@ impl Conversation {
         input: &mut R,
         output: &mut W,
     ) -> Result<(), Failure<'static>>
-        ensures { Converses false self.old.session self.new.session }
+        ensures lines { Converses false self.old.debugger.quantum self.old.session self.new.session }
+        ensures quantum { self.new.debugger.quantum ≡ self.old.debugger.quantum }
     {
         show(self.prompt, GREETING, output)?;
         for _ in 0..u64::MAX {

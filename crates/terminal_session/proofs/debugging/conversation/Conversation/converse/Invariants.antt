@@ -1,6 +1,6 @@
-use Rattle.std.proofs.Common.{false}
+use Rattle.std.proofs.Common.{◌≡◌, false}
 use Rattle.xv_debug.specs.Conversations.{Converses}
 use Rattle.terminal_session.proofs.debugging.conversation.Conversation.converse.Given as goal
 
 abbrev pub invariant-loop : goal.invariant-loop
-invariant-loop g l = Converses false l.initial.self.session l.self.session
+invariant-loop g l = Converses false l.initial.self.debugger.quantum l.initial.self.session l.self.session × (l.self.debugger.quantum ≡ l.initial.self.debugger.quantum)
