@@ -1,2 +1,4 @@
+mod Learned
 mod Stopped
 mod Stretches
+mod WorkedKnown

@@ -1,4 +1,5 @@
 pub mod Ends
+pub mod Known
 pub mod Ranges
 pub mod Sent
 pub mod Stops

@@ -143,6 +143,7 @@ impl Ends {
 
     /// Notes a call that was made last in a session, and its answer.
     pub fn note_call(&mut self, session: &Session, call: &CallMade, value: i64)
+        ensures complete { self.new.complete ≡ true → self.old.complete ≡ true }
         ensures kills { self.new.complete ≡ true → self.new.kills.items ≡ meant.kills_after session.now call.now value self.old.kills.items }
         ensures refused { self.new.complete ≡ true → self.new.refused.items ≡ meant.refused_after call.now value self.old.refused.items }
     {
@@ -155,6 +156,7 @@ impl Ends {
 
     // Notes a kill by this call.
     fn note_kill(&mut self, session: &Session, call: &CallMade)
+        ensures complete { self.new.complete ≡ true → self.old.complete ≡ true }
         ensures kills { self.new.complete ≡ true → self.new.kills.items ≡ meant.with_kill self.old.kills.items call.now (meant.newly_killed session.now.machine.world self.old.kills.items session.now.names) }
         ensures refused { self.new.refused ≡ self.old.refused }
     {
@@ -166,6 +168,7 @@ impl Ends {
 
     // Notes that this call was refused.
     fn note_refused(&mut self, call: &CallMade)
+        ensures complete { self.new.complete ≡ true → self.old.complete ≡ true }
         ensures kills { self.new.kills ≡ self.old.kills }
         ensures refused { self.new.complete ≡ true → self.new.refused.items ≡ meant.with_refused self.old.refused.items call.now }
     {

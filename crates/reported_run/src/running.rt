@@ -1,6 +1,7 @@
 //! A run: from boot to the closing line.
 ghost use Rattle.std.specs.Prelude.{◌≡◌, ◌≢◌, map};
 ghost use Rattle.kernel_spec.specs.views.State.{named_file};
+ghost use Rattle.reported_run.specs.Known.{known_of, nothing_known};
 ghost use Rattle.run_work.specs.Runs.{EndsSo, Says};
 
 use crate::teller::Teller;
@@ -53,6 +54,7 @@ pub(crate) fn run_with<R: KeySource, W: ByteSink, E: Write + Drop>(
     sink: &mut W,
     mut teller: Teller<E>,
 ) -> u8
+    requires { known_of teller.ends ≡ nothing_known }
     ensures { Says result config plan (map named_file programs.items)
         (record { source = R.source keys.old; failed_reads = R.failures keys.old; sink = W.sink sink.old; failed_writes = W.failures sink.old })
         (record { source = R.source keys.new; failed_reads = R.failures keys.new; sink = W.sink sink.new; failed_writes = W.failures sink.new }) }
@@ -60,11 +62,7 @@ pub(crate) fn run_with<R: KeySource, W: ByteSink, E: Write + Drop>(
     match Session::boot(alloc, config, programs) {
         Ok(session) => {
             teller.note_names(&session);
-            let mut watched = Watched {
-                session,
-                teller,
-                work,
-            };
+            let mut watched = Watched::new(session, teller, work);
             watch_to_end(&mut watched, plan, keys, sink)
         }
         Err(error) => teller.say_failure(&Failure::from(error)),

@@ -1,7 +1,10 @@
 //! What is told of a run while it goes on, and at its end.
-ghost use Rattle.std.specs.Prelude.{◌≡◌, [], true, false};
+ghost use Rattle.std.specs.Prelude.{◌≡◌, [], true, false, option_map};
+ghost use Rattle.kcall_core.specs.Observers.{registers_of};
 ghost use Rattle.program_files.specs.Failures.{failure_status};
 ghost use Rattle.program_files.specs.Statuses.{status_of};
+ghost use Rattle.xv_machine.specs.Events.{outcome_of};
+ghost use Rattle.reported_run.specs.Known.{known_of, learned, learned_by, runner_place, with_call};
 ghost use Rattle.reported_run.specs.Stops.{stop_status};
 
 use crate::NAME;
@@ -54,7 +57,9 @@ pub(crate) struct Teller<E> {
 }
 
 /// The process that runs.
-pub(crate) fn running_now(session: &Session) -> Runner {
+pub(crate) fn running_now(session: &Session) -> Runner
+    ensures { result.program ≡ runner_place session.now }
+{
     let pid = session.machine().current();
     let program = match pid {
         Some(pid) => session.program_of(pid),
@@ -176,7 +181,10 @@ impl<E: Write> Teller<E> {
     }
 
     /// Tells what came of Runs.
-    pub fn tell_runs(&mut self, session: &Session, runner: &Runner, runs: &Runs) {
+    pub fn tell_runs(&mut self, session: &Session, runner: &Runner, runs: &Runs)
+        ensures ends { self.new.ends.complete ≡ true → known_of self.new.ends ≡ learned session.now runner.now.program (option_map outcome_of runs.now.last) (known_of self.old.ends) }
+        ensures complete { self.new.ends.complete ≡ true → self.old.ends.complete ≡ true }
+    {
         match self.telling {
             Telling::Faults => {}
             Telling::Words => self.explain_runs(session, runner, runs),
@@ -188,7 +196,10 @@ impl<E: Write> Teller<E> {
     }
 
     /// Notes a call that may be told later, or tells why a process is gone, if it is by a fault or a kill.
-    fn tell_end(&mut self, session: &Session, runner: &Runner, last: &Outcome) {
+    fn tell_end(&mut self, session: &Session, runner: &Runner, last: &Outcome)
+        ensures ends { self.new.ends.complete ≡ true → known_of self.new.ends ≡ learned_by session.now runner.now.program (outcome_of last.now) (known_of self.old.ends) }
+        ensures complete { self.new.ends.complete ≡ true → self.old.ends.complete ≡ true }
+    {
         match last {
             Outcome::Called { pid, number, value } => {
                 self.note_call(session, runner, *pid, *number, *value)
@@ -206,7 +217,10 @@ impl<E: Write> Teller<E> {
     }
 
     /// Notes the call of the last event.
-    fn note_call(&mut self, session: &Session, runner: &Runner, pid: Pid, number: i32, value: i64) {
+    fn note_call(&mut self, session: &Session, runner: &Runner, pid: Pid, number: i32, value: i64)
+        ensures ends { self.new.ends.complete ≡ true → known_of self.new.ends ≡ with_call session.now pid runner.now.program number value (registers_of session.now.machine.world.state pid) (known_of self.old.ends) }
+        ensures complete { self.new.ends.complete ≡ true → self.old.ends.complete ≡ true }
+    {
         let Some(regs) = session.machine().registers(pid) else {
             return;
         };
@@ -220,7 +234,9 @@ impl<E: Write> Teller<E> {
     }
 
     /// Tells who has killed a process that is gone, if it was killed.
-    fn tell_kill(&mut self, session: &Session, pid: Pid, runner: &Runner) {
+    fn tell_kill(&mut self, session: &Session, pid: Pid, runner: &Runner)
+        ensures ends { self.new.ends ≡ self.old.ends }
+    {
         let Some(kill) = self.ends.kill_of(pid) else {
             return;
         };
@@ -231,7 +247,9 @@ impl<E: Write> Teller<E> {
     }
 
     /// Tells the fault of the last event.
-    fn tell_fault(&mut self, session: &Session, pid: Pid, runner: &Runner) {
+    fn tell_fault(&mut self, session: &Session, pid: Pid, runner: &Runner)
+        ensures ends { self.new.ends ≡ self.old.ends }
+    {
         let place = session.at().saturating_sub(1);
         if let Ok(Some(report)) = report_at(self.alloc, session, place) {
             let text = fault_text(self.alloc, &report, &self.sources, session, runner.program);
@@ -246,7 +264,9 @@ impl<E: Write> Teller<E> {
     }
 
     /// Tells the growth that a process was refused, if its fault is one of a null pointer.
-    fn tell_refused(&mut self, session: &Session, pid: Pid, runner: &Runner, hint: Option<Hint>) {
+    fn tell_refused(&mut self, session: &Session, pid: Pid, runner: &Runner, hint: Option<Hint>)
+        ensures ends { self.new.ends ≡ self.old.ends }
+    {
         let Some(Hint::NullPointer { .. }) = hint else {
             return;
         };
@@ -262,7 +282,9 @@ impl<E: Write> Teller<E> {
     }
 
     /// Tells in words what came of Runs.
-    fn explain_runs(&mut self, session: &Session, runner: &Runner, runs: &Runs) {
+    fn explain_runs(&mut self, session: &Session, runner: &Runner, runs: &Runs)
+        ensures ends { self.new.ends ≡ self.old.ends }
+    {
         let Some(last) = &runs.last else {
             self.add_steps(runner, runs.sent);
             return;
@@ -281,7 +303,9 @@ impl<E: Write> Teller<E> {
     }
 
     /// Counts done instructions.
-    fn add_steps(&mut self, runner: &Runner, count: u32) {
+    fn add_steps(&mut self, runner: &Runner, count: u32)
+        ensures ends { self.new.ends ≡ self.old.ends }
+    {
         if count == 0 {
             return;
         }
@@ -294,7 +318,9 @@ impl<E: Write> Teller<E> {
     }
 
     /// Tells the done instructions that were counted.
-    fn close_steps(&mut self, session: &Session) {
+    fn close_steps(&mut self, session: &Session)
+        ensures ends { self.new.ends ≡ self.old.ends }
+    {
         if self.steps == 0 {
             return;
         }
@@ -311,7 +337,9 @@ impl<E: Write> Teller<E> {
     }
 
     /// Tells the Runs in which nobody could run.
-    fn close_idles(&mut self) {
+    fn close_idles(&mut self)
+        ensures ends { self.new.ends ≡ self.old.ends }
+    {
         if self.idles == 0 {
             return;
         }
@@ -325,13 +353,17 @@ impl<E: Write> Teller<E> {
     }
 
     /// Tells all that was counted.
-    pub fn close(&mut self, session: &Session) {
+    pub fn close(&mut self, session: &Session)
+        ensures ends { self.new.ends ≡ self.old.ends }
+    {
         self.close_steps(session);
         self.close_idles();
     }
 
     /// Tells what came of a Run, but a done instruction, in words.
-    fn explain(&mut self, session: &Session, runner: &Runner, outcome: &Outcome) {
+    fn explain(&mut self, session: &Session, runner: &Runner, outcome: &Outcome)
+        ensures ends { self.new.ends ≡ self.old.ends }
+    {
         self.close(session);
         let before = runner.program;
         match outcome {
@@ -370,7 +402,9 @@ impl<E: Write> Teller<E> {
     }
 
     /// Tells once that the machine has halted.
-    fn say_halted(&mut self, session: &Session) {
+    fn say_halted(&mut self, session: &Session)
+        ensures ends { self.new.ends ≡ self.old.ends }
+    {
         self.close(session);
         if !self.halted {
             let _ = writeln!(self.errors, "the machine has halted");
@@ -379,7 +413,9 @@ impl<E: Write> Teller<E> {
     }
 
     /// Tells what came of an event other than Run.
-    pub fn tell_event(&mut self, session: &Session, event: Event, outcome: &Outcome) {
+    pub fn tell_event(&mut self, session: &Session, event: Event, outcome: &Outcome)
+        ensures ends { self.new.ends ≡ self.old.ends }
+    {
         match self.telling {
             Telling::Faults => {}
             Telling::Words => self.explain_event(session, event, outcome),
@@ -388,7 +424,9 @@ impl<E: Write> Teller<E> {
     }
 
     /// Writes which programs live processes run that were not told yet, each in a line: `name 3 wc`.
-    pub fn note_names(&mut self, session: &Session) {
+    pub fn note_names(&mut self, session: &Session)
+        ensures ends { self.new.ends ≡ self.old.ends }
+    {
         if self.telling != Telling::Notes {
             return;
         }
@@ -408,7 +446,9 @@ impl<E: Write> Teller<E> {
     }
 
     /// Writes what came of Runs, each in the trace's line.
-    fn note_runs(&mut self, session: &Session, runner: &Runner, runs: &Runs) {
+    fn note_runs(&mut self, session: &Session, runner: &Runner, runs: &Runs)
+        ensures ends { self.new.ends ≡ self.old.ends }
+    {
         let Some(last) = &runs.last else {
             self.note_steps(runner, runs.sent);
             return;
@@ -429,7 +469,9 @@ impl<E: Write> Teller<E> {
     }
 
     /// Writes done instructions, a line each.
-    fn note_steps(&mut self, runner: &Runner, count: u32) {
+    fn note_steps(&mut self, runner: &Runner, count: u32)
+        ensures ends { self.new.ends ≡ self.old.ends }
+    {
         let Some(pid) = runner.pid else {
             return;
         };
@@ -441,7 +483,9 @@ impl<E: Write> Teller<E> {
 
     /// Writes what a trace's line doesn't hold: the names that a call has changed, and what a process waits for that has
     /// fallen asleep: `waits 3 read on descriptor 0, the read end of a pipe`.
-    fn note_more(&mut self, session: &Session, outcome: &Outcome) {
+    fn note_more(&mut self, session: &Session, outcome: &Outcome)
+        ensures ends { self.new.ends ≡ self.old.ends }
+    {
         match outcome {
             Outcome::Called { .. } => self.note_names(session),
             Outcome::Blocked { pid, .. } => {
@@ -456,7 +500,9 @@ impl<E: Write> Teller<E> {
     }
 
     /// Writes what came of an event other than Run, in the trace's line.
-    fn note_event(&mut self, event: Event, outcome: &Outcome) {
+    fn note_event(&mut self, event: Event, outcome: &Outcome)
+        ensures ends { self.new.ends ≡ self.old.ends }
+    {
         let _ = match (event, outcome) {
             (Event::Key(key), Outcome::Typed(echo)) => {
                 let echo = echo.len();
@@ -467,7 +513,9 @@ impl<E: Write> Teller<E> {
     }
 
     /// Tells in words what came of an event other than Run.
-    fn explain_event(&mut self, session: &Session, event: Event, outcome: &Outcome) {
+    fn explain_event(&mut self, session: &Session, event: Event, outcome: &Outcome)
+        ensures ends { self.new.ends ≡ self.old.ends }
+    {
         match outcome {
             Outcome::Ticked => {
                 self.close(session);
@@ -496,12 +544,16 @@ impl<E: Write> Teller<E> {
     }
 
     /// Writes the notes that the machine keeps, the oldest first.
-    pub fn show_trace(&mut self, session: &Session) {
+    pub fn show_trace(&mut self, session: &Session)
+        ensures ends { self.new.ends ≡ self.old.ends }
+    {
         show_trace(session.machine(), &mut self.errors);
     }
 
     /// Tells of each process that has not ended why it doesn't go on; if the machine has halted, of none.
-    pub fn tell_waits(&mut self, session: &Session) {
+    pub fn tell_waits(&mut self, session: &Session)
+        ensures ends { self.new.ends ≡ self.old.ends }
+    {
         if session.machine().halted().is_some() {
             return;
         }
@@ -513,7 +565,9 @@ impl<E: Write> Teller<E> {
     }
 
     /// Tells why a process doesn't go on, or that it has ended and its parent hasn't waited for it.
-    fn tell_wait(&mut self, session: &Session, pid: Pid) {
+    fn tell_wait(&mut self, session: &Session, pid: Pid)
+        ensures ends { self.new.ends ≡ self.old.ends }
+    {
         if let Some(text) = wait_text(self.alloc, &self.sources, session, pid) {
             let _ = writeln!(self.errors, "{text}");
         }
@@ -521,14 +575,16 @@ impl<E: Write> Teller<E> {
 
     /// Writes the closing line of a run that ended so, and gives the exit status.
     pub fn say_end(&mut self, end: Result<DriveEnd, DriveError>) -> u8
-        ensures { result ≡ status_of end }
+        ensures status { result ≡ status_of end }
+        ensures ends { self.new.ends ≡ self.old.ends }
     {
         close_run(NAME, end, &mut self.errors)
     }
 
     /// Writes the closing line of a run that was broken off, and gives the exit status.
     pub fn say_stop(&mut self, stop: &Stop, work: &Work) -> u8
-        ensures { result ≡ stop_status stop.now }
+        ensures status { result ≡ stop_status stop.now }
+        ensures ends { self.new.ends ≡ self.old.ends }
     {
         match stop {
             Stop::Session(error) => self.say_failure(&Failure::from(*error)),
@@ -538,7 +594,8 @@ impl<E: Write> Teller<E> {
 
     /// Writes the closing line of a run that ended early, or that has not begun, and gives the exit status.
     pub fn say_failure(&mut self, failure: &Failure<'_>) -> u8
-        ensures { result ≡ failure_status failure.now }
+        ensures status { result ≡ failure_status failure.now }
+        ensures ends { self.new.ends ≡ self.old.ends }
     {
         failure.close(NAME, &mut self.errors)
     }

@@ -1,7 +1,9 @@
 //! A session that plays rounds, and tells what comes of its events as they come, until its budget is used up.
-ghost use Rattle.std.specs.Prelude.{◌≡◌, IfOk, IfErr};
+ghost use Rattle.std.specs.Prelude.{◌≡◌, ◌≢◌, [], true, IfOk, IfErr};
+ghost use Rattle.kernel_spec.specs.runs.Run as runs;
 ghost use Rattle.xv_machine.specs.Events.{event_of, outcome_of};
 ghost use Rattle.xv_machine.specs.Reached.{IsEvent};
+ghost use Rattle.reported_run.specs.Known.{IsKnown, known_of, nothing_known};
 ghost use Rattle.reported_run.specs.Sent.{byte_sent};
 
 use crate::stop::Stop;
@@ -11,12 +13,14 @@ use std::io::Write;
 use xv_machine::{Event, Outcome, RoundPlayer, Sends};
 use xv_session::Session;
 
-/// A session, and who tells of its events.
+/// A session, and who tells of its events. What is known of kills and of refused growths is what the session's events since
+/// its boot give, if there was memory for it.
 #[derive(Drop)]
 pub(crate) struct Watched<E> {
     pub session: Session,
     pub teller: Teller<E>,
     pub work: Work,
+    ghost known: { ∥ (teller.ends.complete ≡ true → IsKnown session (known_of teller.ends)) ∥₁ },
 }
 
 // The byte that was sent, if this came of Send.
@@ -30,8 +34,22 @@ fn byte_of(outcome: &Outcome) -> Option<u8>
 }
 
 impl<E: Write> Watched<E> {
+    /// A session that has just booted, of which nothing is told yet.
+    pub fn new(session: Session, teller: Teller<E>, work: Work) -> Watched<E>
+        requires fresh { session.events ≡ [] }
+        requires unknown { known_of teller.ends ≡ nothing_known }
+        ensures { result.session ≡ session }
+    {
+        Watched {
+            session,
+            teller,
+            work,
+        }
+    }
+
     // Sends an event other than Run, and tells what comes of it.
     fn send(&mut self, event: Event) -> Result<Outcome, Stop>
+        requires { event_of event ≢ runs.Run }
         ensures sent { IfOk result (λ outcome. IsEvent self.old.session.machine (event_of event) (outcome_of outcome) self.new.session.machine) }
         ensures refused { IfErr result (λ _. self.new.session.machine ≡ self.old.session.machine) }
     {
