@@ -347,7 +347,7 @@ export class Adapter {
 
   on_evaluate(args) {
     const { own } = this, pid = args.frameId === undefined ? this.shown.pid : this.shown.frame_in(args).pid;
-    const options = { may_do: args.context === "repl", base: this.base };
+    const options = { may_do: [undefined, null, "repl"].includes(args.context), base: this.base };
     const { text, address, then } = evaluated(own, pid, text_in(args, "expression") ?? "", options);
     const body = { result: text, variablesReference: 0, ...(address === undefined ? {} : { memoryReference: hex(address) }) };
     return then ? Adapter.after(then, body) : body;
