@@ -10,8 +10,8 @@
 #
 # The archive holds the programs twice: for Linux on x86-64, as `./xv --build` proved and built them (libexec/), and for
 # Node on every host (anywhere/). It holds the page, the extension for VS Code (nektavoly.vsix), the programs for the machine with
-# their sources, and the manual and the course as HTML, with a search that needs no network, and as text; a link of theirs to what it doesn't hold is words. npm
-# takes it as a package, since package.json stands in its one folder. No file of it is a link: npm leaves links out, and
+# their sources, and the manual and the course as HTML, with a search that needs no network, and as text; a link of theirs to
+# what it doesn't hold is words. npm takes it as a package, since package.json stands in its one folder. No file of it is a link: npm leaves links out, and
 # Windows makes them for some users alone. Windows has `tar`, so there is no .zip.
 #
 # The same commit, kit and pandoc give the same bytes, whoever makes it, when and in which folder. pandoc is Debian's

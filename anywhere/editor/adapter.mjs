@@ -13,7 +13,7 @@ import { Shown, pid_in } from "./shown.mjs";
 const MOST_LINES = 1000000; // of a source
 const DEFAULT_FRAMES = 4096, DEFAULT_QUANTUM = 1000;
 const FORTH = 1, BACK = 2; // the targets of goto
-const LOOKED_AT = ["setVariable", "setExpression", "writeMemory", "terminateThreads", "restartFrame"];
+const CHANGES = ["setVariable", "setExpression", "writeMemory", "terminateThreads", "restartFrame"];
 const NO_CHANGE = "what the machine has is looked at here, and never changed";
 
 const MOST_WORDS = 1000; // letters of a refusal
@@ -21,13 +21,14 @@ const MOST_WORDS = 1000; // letters of a refusal
 /** What went wrong in words: an argument that isn't of the protocol's form makes an error of the language. */
 function words_of(error, command) {
   const is_of_form = !(error instanceof TypeError || error instanceof RangeError || error instanceof SyntaxError);
-  const words = is_of_form ? error.message : `the arguments of ${command} are none that can be taken (${error.message})`;
+  const { message } = error, words = is_of_form ? message : `the arguments of ${command} can't be taken (${message})`;
   return words.length > MOST_WORDS ? `${words.slice(0, MOST_WORDS)}..` : words;
 }
 
 export class Adapter {
   constructor(module, writer, leave) {
-    Object.assign(this, { module, writer, leave, session: null, base: process.cwd(), args: {}, is_configured: false, has_begun: false });
+    Object.assign(this, { module, writer, leave, session: null, base: process.cwd(), args: {} });
+    Object.assign(this, { is_configured: false, has_begun: false }); // what the editor has told, and what came of it
     this.breaks = new BreakRequests();
     this.filters = { faults: true, calls: [] };
     this.shown = new Shown(this);
@@ -51,7 +52,7 @@ export class Adapter {
   answer(command, args) {
     const name = `on_${command}`, owner = [this, this.shown].find((it) => typeof it[name] === "function");
     if (owner) return owner[name](args);
-    return refuse(LOOKED_AT.includes(command) ? NO_CHANGE : `${command} is no request that is known here`);
+    return refuse(CHANGES.includes(command) ? NO_CHANGE : `${command} is no request that is known here`);
   }
 
   /** Does what comes after an answer; what goes wrong is told. */
@@ -217,7 +218,8 @@ export class Adapter {
   set_breaks() {
     const { session } = this;
     if (!session) return;
-    const { is_debugged } = this.machine, calls = this.filters.calls.map((it) => ({ kind: "call", program: null, ...it }));
+    const { is_debugged } = this.machine;
+    const calls = this.filters.calls.map((it) => ({ kind: "call", program: null, ...it }));
     session.set_breaks(is_debugged ? [...this.breaks.places, ...calls] : []);
     session.stops_at_faults = this.filters.faults && is_debugged;
   }
@@ -270,9 +272,9 @@ export class Adapter {
   on_setDataBreakpoints(args) {
     const wanted = objects_in(args, "breakpoints"), program = this.program_seen();
     wanted.forEach((it) => address_in(it, "dataId"));
-    const kept = (it) => ["read", "readWrite"].includes(it.accessType) && refuse("only stores are watched, and no loads");
     return this.breaks_of("data", wanted, "data breakpoint", (it) => {
-      const address = kept(it) || address_in(it, "dataId");
+      if (["read", "readWrite"].includes(it.accessType)) refuse("only stores are watched, and no loads");
+      const address = address_in(it, "dataId");
       return { places: [{ kind: "store", address, program }], name: hex(address) };
     });
   }
@@ -286,9 +288,8 @@ export class Adapter {
     const other = names.find((it) => call_number(it) === undefined);
     if (other) refuse(`${other} is no kernel call`);
     const wanted = calls.length && !names.length ? all_calls() : names;
-    this.filters = {
-      faults: all.some((it) => it.filterId === FAULTS), calls: wanted.map((name) => ({ number: call_number(name), name })),
-    };
+    const faults = all.some((it) => it.filterId === FAULTS);
+    this.filters = { faults, calls: wanted.map((name) => ({ number: call_number(name), name })) };
     this.set_breaks();
     return { breakpoints: all.map(() => ({ verified: true })) };
   }
@@ -349,7 +350,8 @@ export class Adapter {
     const { own } = this, pid = args.frameId === undefined ? this.shown.pid : this.shown.frame_in(args).pid;
     const options = { may_do: [undefined, null, "repl"].includes(args.context), base: this.base };
     const { text, address, then } = evaluated(own, pid, text_in(args, "expression") ?? "", options);
-    const body = { result: text, variablesReference: 0, ...(address === undefined ? {} : { memoryReference: hex(address) }) };
+    const more = address === undefined ? {} : { memoryReference: hex(address) };
+    const body = { result: text, variablesReference: 0, ...more };
     return then ? Adapter.after(then, body) : body;
   }
 }

@@ -41,10 +41,12 @@ export class BreakRequests {
 
   found({ id, wanted, find, reason }, { session, is_debugged }) {
     try {
-      const holds = condition_of(text_in(wanted, "condition") ?? "", text_in(wanted, "hitCondition") ?? "");
+      const [condition, hits] = ["condition", "hitCondition"].map((it) => text_in(wanted, it) ?? "");
+      const holds = condition_of(condition, hits);
       if (!session || !is_debugged) return { places: [], words: session ? NO_DEBUG : NOT_YET };
       const { places, name, words } = find();
-      return { places: places.map((it) => ({ kind: "address", program: null, id, reason, name, holds, ...it })), words };
+      const own = { kind: "address", program: null, id, reason, name, holds };
+      return { places: places.map((it) => ({ ...own, ...it })), words };
     } catch (error) {
       return { places: [], words: error.message };
     }

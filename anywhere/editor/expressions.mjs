@@ -17,6 +17,7 @@ const HELP = [
   "at: how many events the machine has made",
   "save FILE: the run as a record, which a launch plays by `replay`, and ./xv by --replay",
 ].join("\n");
+const PLACES = "the number of an event, a call as fork or fork.2, turn, tick, key, fault, exit or last";
 const KNOWN = "a register, a label, a number, x ADDRESS COUNT, type TEXT, key TEXT, goto EVENT, at, save FILE";
 
 /** A number, a label or a register as an address: {address, text}; undefined if the word is none. */
@@ -70,7 +71,7 @@ function typed(session, bytes, text) {
 
 function went(session, rest) {
   const way = way_of(rest.trim(), [...session.machine.kernel_calls.values()]);
-  if (!way) return refuse("goto takes the number of an event, a call as fork or fork.2, turn, tick, key, fault, exit or last");
+  if (!way) return refuse(`goto takes ${PLACES}`);
   if (session.is_playing) return refuse("the machine plays: pause it first");
   if (way.place > session.run.end) return { text: `the run has ${session.run.end} events` };
   return { text: `to ${way.place === undefined ? rest.trim() : `event ${way.place}`}`, then: () => session.go(way) };

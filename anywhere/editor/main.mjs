@@ -4,7 +4,7 @@ import { Adapter } from "./adapter.mjs";
 import { page_module } from "./page_module.mjs";
 import { Reader, Writer } from "./protocol.mjs";
 
-/** Serves one editor until it leaves; the exit status: 1 if it sends what is no message, and nothing can be read any more. */
+/** Serves one editor until it leaves; the exit status: 1 if what it sends can't be read any more. */
 export function main(name) {
   return new Promise((leave) => {
     const say = ({ message }) => writeSync(2, `${name}: ${message}\n`);

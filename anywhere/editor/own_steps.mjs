@@ -1,7 +1,7 @@
 // Steps by an instruction of one process, forth and back: what others do between is passed over.
 import { is_made } from "../machine/record.mjs";
+import { AT_ONCE } from "../machine/steps.mjs";
 
-const AT_ONCE = 100000; // Runs of one call of the module
 const MOST_TURNS = 10000; // of the process, in which it makes no step
 
 const is_own = (line, k, pid) => line.pid(k) === pid && is_made(line.kind(k));

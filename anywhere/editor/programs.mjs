@@ -23,7 +23,8 @@ const real = (path) => (existsSync(path) ? realpathSync(path) : resolve(path));
 /** The program that was made of a source in C: it stands beside it, without `.c`. */
 function made_of(path) {
   const program = path.slice(0, -SOURCE_IN_C.length);
-  return existsSync(program) ? program : refuse(`${path} is a source in C: xvcc -g makes a program of it, which goes beside it`);
+  if (existsSync(program)) return program;
+  return refuse(`${path} is a source in C: xvcc -g makes a program of it, which goes beside it`);
 }
 
 /** The files that a word names: of a folder those in it that are no tables, sources in C or hidden. */
@@ -36,7 +37,8 @@ function paths_of(word, base) {
     .filter((it) => statSync(it).isFile());
 }
 
-const ENTRY = 24; // where an ELF-64 file has the address at which the program begins (ELF-64 Object File Format, "e_entry")
+// Where an ELF-64 file has the address at which the program begins (ELF-64 Object File Format, "e_entry").
+const ENTRY = 24;
 
 const entry_of = (bytes) => new DataView(bytes.buffer, bytes.byteOffset, bytes.byteLength).getBigUint64(ENTRY, true);
 
@@ -73,11 +75,12 @@ export class Programs {
     return { ...file_of_bytes(name, readFileSync(path), table, source_of), from, path };
   }
 
-  /** Where a source in C lies, of which the table of the program at a path has the name; undefined if it isn't found. */
+  /** Where a source in C lies that the table of the program at a path names; undefined if it isn't found. */
   source_path(name, path) {
     const key = `${dirname(path)}\0${name}`;
     if (!this.found.has(key)) {
-      const all = [dirname(path), ...this.folders].map((folder) => resolve(folder, name)), found = all.find(existsSync);
+      const all = [dirname(path), ...this.folders].map((folder) => resolve(folder, name));
+      const found = all.find(existsSync);
       this.found.set(key, found && real(found));
     }
     return this.found.get(key);

@@ -10,13 +10,14 @@ const MOST_EVENTS = 400000000; // of a record that is played at a launch: some s
 
 const sum_of = (bytes) => createHash("sha256").update(bytes).digest("hex");
 
-/** What a record says, {frames, programs, spans}; refused in words if it is none. */
+/** What a record says, {frames, programs, spans}; refused in words if it is none, or too long. */
 function read(path) {
   if (!existsSync(path)) refuse(`${path}: there is no such record`);
   const text = readFileSync(path, "utf8").replaceAll("\r\n", "\n");
   if (!text.startsWith(RECORD_BEGINNING)) refuse(`${path} is no record: it begins with other words than one does`);
   const said = read_record(text), events = said.spans.reduce((sum, [, , count]) => sum + count, 0);
-  if (events > MOST_EVENTS) refuse(`${path} has ${grouped(events)} events, and ${grouped(MOST_EVENTS)} are played here`);
+  const [has, most] = [events, MOST_EVENTS].map(grouped);
+  if (events > MOST_EVENTS) refuse(`${path} has ${has} events, and ${most} are played here`);
   return said;
 }
 
@@ -26,7 +27,8 @@ export function recorded(path, files) {
   const file_of = ({ sum, name }) => {
     const found = by_sum.get(sum), same = files.some((it) => it.name === name);
     const why = same ? "the file of this name is another one than that which was recorded" : "no file here is that";
-    return found ? { ...found, name } : refuse(`the record has the program ${name}, and ${why} (SHA-256 ${sum.slice(0, 12)}..)`);
+    if (found) return { ...found, name };
+    return refuse(`the record has the program ${name}, and ${why} (SHA-256 ${sum.slice(0, 12)}..)`);
   };
   return { frames, spans, files: programs.map(file_of) };
 }

@@ -219,7 +219,8 @@ export class Session {
     const { run } = this, met = words === null ? [] : this.stops.met();
     if (met.length) return this.stop_at(met);
     if (words !== null && this.stops.call_here()) return this.stop_after_call();
-    if (was_recorded && run.at === this.end_of_record) return this.stop("pause", "the record is over: the run goes on from here");
+    const is_record_over = was_recorded && run.at === this.end_of_record;
+    if (is_record_over) return this.stop("pause", "the record is over: the run goes on from here");
     return this.is_still() ? this.stop("pause", "nobody may run: all wait, maybe for keys") : undefined;
   }
 
@@ -269,7 +270,8 @@ export class Session {
     const known = programs.known(run.program_of(pid), pc ?? 0n), wants = { how, back: is_back, pid, halts };
     const words = by_instruction || !known.lines.length
       ? own_step(run, player.plan, wants) : line_step(run, player.plan, { ...wants, ...known });
-    const fault = is_back || !this.stops_at_faults ? undefined : run.faults.find((it) => it.at > from && it.at < run.at);
+    const is_fault = (it) => !is_back && this.stops_at_faults && it.at > from && it.at < run.at;
+    const fault = run.faults.find(is_fault);
     if (fault) return this.stop_before(fault);
     if (met.length) return this.stop_at(met);
     if (this.is_over && !is_back) return this.end();

@@ -18,7 +18,7 @@ export function pid_in(session, args) {
 }
 
 export class Shown {
-  /** `owner.own`: the session, or a refusal; `owner.line_told(line)`, `owner.source_told(source)`: as the editor wants it. */
+  /** `owner.own`: the session, or a refusal; `line_told(line)`, `source_told(source)`: as the editor wants them. */
   constructor(owner) {
     Object.assign(this, { owner, first: 1, handles: [], pid: 1 });
   }

@@ -55,10 +55,13 @@ export class Stops {
     const outcome = line.outcome(line.find(at - 1)), found = breaks.list.find((it) => it.number === outcome.number);
     if (!breaks.is_stop_after(outcome)) return null;
     const { words, answer } = run.aside(() => told_event(run, at - 1));
-    const told = outcome.kind === KIND.WAIT ? `in ${words}, which ${answer}` : `after ${words}, which answers ${answer}`;
+    const is_asleep = outcome.kind === KIND.WAIT;
+    const told = is_asleep ? `in ${words}, which ${answer}` : `after ${words}, which answers ${answer}`;
     return { name: found.name, pid: outcome.pid, words: told };
   }
 }
 
 /** Break points in words: `at wc.c:24`. */
-export const words_of = (met) => met.map((it) => `${it.kind === STORE ? "before a store to" : "at"} ${it.name}`).join(", ");
+export const words_of = (met) => (
+  met.map((it) => `${it.kind === STORE ? "before a store to" : "at"} ${it.name}`).join(", ")
+);

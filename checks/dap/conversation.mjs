@@ -143,11 +143,15 @@ async function looked() {
   const client = await begun({ programs: "programs/bin", keys: "echo hi\nexit\n" });
   await client.event("stopped");
   const names = { breakpoints: [{ name: "echo:main" }, { name: "nothing" }] };
-  for (const { verified, message } of (await client.ask("setFunctionBreakpoints", names)).breakpoints) say(verified, message ?? "");
+  const { breakpoints: told } = await client.ask("setFunctionBreakpoints", names);
+  for (const { verified, message } of told) say(verified, message ?? "");
   const pid = await stopped(client, "a function of another program", await client.stop_after("continue"));
   const { stackFrames: [{ instructionPointerReference: at }] } = await client.ask("stackTrace", { threadId: pid });
-  const { instructions } = await client.ask("disassemble", { memoryReference: at, instructionOffset: -1, instructionCount: 3 });
-  for (const it of instructions) say("   ", it.address, it.symbol ?? "", it.instruction, it.location?.name ?? "", it.line ?? "");
+  const some = { memoryReference: at, instructionOffset: -1, instructionCount: 3 };
+  const { instructions } = await client.ask("disassemble", some);
+  for (const it of instructions) {
+    say("   ", it.address, it.symbol ?? "", it.instruction, it.location?.name ?? "", it.line ?? "");
+  }
   const { data, unreadableBytes } = await client.ask("readMemory", { memoryReference: at, count: 8 });
   say("   ", Buffer.from(data, "base64").toString("hex"), unreadableBytes, "can't be read");
   await client.ask("setInstructionBreakpoints", { breakpoints: [{ instructionReference: at, offset: 12 }] });
@@ -157,7 +161,8 @@ async function looked() {
   say(description);
   await client.ask("setDataBreakpoints", { breakpoints: [{ dataId, condition: "a0 == 99" }] });
   await client.ask("setFunctionBreakpoints", { breakpoints: [] });
-  const { breakpoints } = await client.ask("breakpointLocations", { source: { path: "programs/c/src/echo.c" }, line: 1, endLine: 12 });
+  const part = { source: { path: "programs/c/src/echo.c" }, line: 1, endLine: 12 };
+  const { breakpoints } = await client.ask("breakpointLocations", part);
   say("lines:", breakpoints.map((it) => it.line).join(" "));
   await evaluated(client, "sp", "hover");
   await evaluated(client, "type x", "hover");
@@ -168,7 +173,8 @@ async function looked() {
 
 /** A run that is saved is played again by a launch, and stops at the same places; ways forth and back in it. */
 async function recorded() {
-  const kept = join(room, "run.txt"), wanted = { programs: "programs/bin", keys: "echo one | wc\nexit\n", stopAtEnd: true };
+  const kept = join(room, "run.txt");
+  const wanted = { programs: "programs/bin", keys: "echo one | wc\nexit\n", stopAtEnd: true };
   const first = await begun({ ...wanted, stopOnEntry: false });
   await stopped(first, "the end", await first.event("stopped"));
   await evaluated(first, `save ${kept}`);
@@ -205,7 +211,8 @@ async function early() {
   const { reason, breakpoint } = await client.event("breakpoint");
   say(reason, breakpoint.verified, breakpoint.line, breakpoint.id === first.id);
   const body = await client.event("stopped"), { stackFrames: [top] } = await client.ask("stackTrace", body);
-  say(body.reason, body.hitBreakpointIds[0] === first.id, "line", top.line, "column", top.column, top.source.path === source.path);
+  const is_own = [body.hitBreakpointIds[0] === first.id, top.source.path === source.path];
+  say(body.reason, ...is_own, "line", top.line, "column", top.column);
   await client.ask("restart");
   await stopped(client, "again", await client.event("stopped"));
   await left(client);

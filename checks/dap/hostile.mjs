@@ -94,6 +94,8 @@ function sent(texts, { closes = true } = {}) {
 const framed = (text) => `Content-Length: ${Buffer.byteLength(text)}\r\n\r\n${text}`;
 const asked = (command, args = {}, seq = 1) => framed(JSON.stringify({ seq, type: "request", command, arguments: args }));
 
+const FIRST = /launch comes first/, DEEP = 100000, LONG = 20000000; // brackets, letters
+
 /** What is said of texts: {name, texts, status, err, out}; `err` and `out` are patterns. */
 const TEXTS = [
   { name: "nothing", texts: [], status: 0, err: /^$/ },
@@ -101,15 +103,18 @@ const TEXTS = [
   { name: "a head without a length", texts: ["Length: 5\r\n\r\nhello"], status: 1, err: /no Content-Length/ },
   { name: "too long", texts: ["Content-Length: 999999999\r\n\r\n"], status: 1, err: /no Content-Length/ },
   { name: "below 0", texts: ["Content-Length: -5\r\n\r\n"], status: 1, err: /no Content-Length/ },
-  { name: "no JSON, then a request", texts: [framed("{no"), asked("threads")], status: 0, err: /no JSON/, out: /launch comes first/ },
-  { name: "an empty message", texts: [framed(""), asked("threads")], status: 0, err: /no JSON/, out: /launch comes first/ },
+  { name: "no JSON, then a request", texts: [framed("{no"), asked("threads")], status: 0, err: /no JSON/, out: FIRST },
+  { name: "an empty message", texts: [framed(""), asked("threads")], status: 0, err: /no JSON/, out: FIRST },
   { name: "values that ask nothing", texts: ["3", "null", "[]", '"x"', "{}"].map(framed), status: 0, err: /^$/ },
   { name: "half a message", texts: ["Content-Length: 500\r\n\r\n{"], status: 0, err: /^$/ },
-  { name: "arguments that are a list", texts: [framed('{"seq":1,"type":"request","command":"launch","arguments":[]}')], status: 0, out: /arguments is an object/ },
-  { name: "letters one by one", texts: [...asked("threads")], status: 0, out: /launch comes first/ },
-  { name: "deep", texts: [framed(`${"[".repeat(100000)}${"]".repeat(100000)}`), asked("threads")], status: 0, out: /launch comes first/ },
-  { name: "20 MB", texts: [asked("launch", { program: "x".repeat(20000000) }), asked("threads")], status: 0, out: /launch comes first/ },
-  { name: "1,000 requests at once", texts: Array.from({ length: 1000 }, (_, k) => asked("threads", {}, k + 1)), status: 0, out: /"request_seq":1000,/ },
+  { name: "arguments that are a list", texts: [asked("launch", [])], status: 0, out: /arguments is an object/ },
+  { name: "letters one by one", texts: [...asked("threads")], status: 0, out: FIRST },
+  { name: "deep", texts: [framed(`${"[".repeat(DEEP)}${"]".repeat(DEEP)}`), asked("threads")], status: 0, out: FIRST },
+  { name: "20 MB", texts: [asked("launch", { program: "x".repeat(LONG) }), asked("threads")], status: 0, out: FIRST },
+  {
+    name: "1,000 requests at once", status: 0, out: /"request_seq":1000,/,
+    texts: Array.from({ length: 1000 }, (_, k) => asked("threads", {}, k + 1)),
+  },
   {
     name: "an editor that goes away while the machine plays", status: 0, err: /^$/,
     texts: [asked("launch", { programs: "programs/bin", stopOnEntry: false }), asked("configurationDone")],
@@ -141,5 +146,6 @@ async function while_it_plays() {
 await by_texts();
 await by_chance();
 await while_it_plays();
-console.log(bad ? `${bad} not as they should be` : `hostile editors: ${TEXTS.length} kinds of texts, ${count} requests by chance, each is answered`);
+const all_is_well = `hostile editors: ${TEXTS.length} kinds of texts, ${count} requests by chance, each is answered`;
+console.log(bad ? `${bad} not as they should be` : all_is_well);
 process.exit(bad ? 1 : 0);

@@ -14,6 +14,7 @@ const [count = "2000", seed = "1"] = process.argv.slice(2), XV = fileURLToPath(n
 const PROGRAMS = ["init", "sh", "echo", "wc", "sort", "cat", "primes"].map((name) => `programs/bin/${name}`);
 const KEYS = "echo one two | wc\nprimes\necho b | sort\nexit\n";
 const EVENTS = ["step", "tick", "key", "send"]; // the debugger's words, by the numbers of events
+const REGISTERS = 32; // with the pc
 let state = Number(seed) >>> 0;
 
 function chance(most) {
@@ -41,14 +42,16 @@ async function standing(client, pid) {
 
 /** The stops, and what the run is saved as. */
 async function led(record) {
-  const client = new Client(process.cwd()), breakpoints = [{ name: "wc:main" }, { name: "read" }, { name: "sort:main" }], found = [];
+  const client = new Client(process.cwd()), found = [];
+  const breakpoints = [{ name: "wc:main" }, { name: "read" }, { name: "sort:main" }];
   await client.ask("launch", { programs: PROGRAMS, keys: KEYS, stopAtEnd: true });
   await client.ask("setFunctionBreakpoints", { breakpoints });
   await client.ask("configurationDone");
   let here = await standing(client, (await client.event("stopped")).threadId);
   while (found.length < Number(count)) {
     // From the end of the run a step forth ends the session: then it goes elsewhere.
-    const ways = here.registers === null ? WAYS.slice(-2) : WAYS, [command, args] = ways[chance(ways.length)](here.pid, here.end);
+    const ways = here.registers === null ? WAYS.slice(-2) : WAYS;
+    const [command, args] = ways[chance(ways.length)](here.pid, here.end);
     here = await standing(client, (await client.stop_after(command, args)).threadId);
     found.push({ ...here, command });
   }
@@ -77,7 +80,8 @@ function words_for({ spans }, stops) {
 
 /** The registers that the debugger shows, one table after another. */
 function shown(words) {
-  const { stdout } = spawnSync(process.execPath, [XV, "--debug", ...PROGRAMS], { input: `${words.join("\n")}\n`, encoding: "utf8", maxBuffer: 1 << 28 });
+  const how = { input: `${words.join("\n")}\n`, encoding: "utf8", maxBuffer: 1 << 28 };
+  const { stdout } = spawnSync(process.execPath, [XV, "--debug", ...PROGRAMS], how);
   return stdout.split(/^> /m).filter((it) => /^regs of/.test(it)).map((text) => (
     Object.fromEntries([...text.matchAll(/(\w+) +(0x[0-9a-f]+)/g)].map(([, name, value]) => [name, BigInt(value)]))
   ));
@@ -88,10 +92,14 @@ process.on("exit", () => rmSync(room, { recursive: true }));
 const all = await led(record), kinds = new Set(all.map((it) => it.command));
 const live = all.filter((it) => it.registers !== null).sort((a, b) => a.at - b.at);
 const tables = shown(words_for(read_record(readFileSync(record, "utf8")), live));
-const is_same = (one, other) => Object.keys(one).length === 32 && Object.keys(one).every((name) => one[name] === other?.[name]);
-const differing = ({ registers }, table) => Object.keys(registers).filter((it) => registers[it] !== table?.[it]).map((it) => `${it} ${registers[it]} ${table?.[it]}`).join(", ");
-const other = live.filter((it, k) => !is_same(it.registers, tables[k]));
-for (const it of other.slice(0, 10)) console.log(`event ${it.at}, process ${it.pid}, after ${it.command}: ${differing(it, tables[live.indexOf(it)])}`);
+/** The names of the registers in which two tables differ. */
+const differing = (one, other) => Object.keys(one).filter((name) => one[name] !== other?.[name]);
+const is_same = (one, other) => Object.keys(one).length === REGISTERS && differing(one, other).length === 0;
+const other = live.map((it, k) => ({ ...it, table: tables[k] })).filter((it) => !is_same(it.registers, it.table));
+for (const it of other.slice(0, 10)) {
+  console.log(`event ${it.at}, process ${it.pid}, after ${it.command}: ${differing(it.registers, it.table).join(" ")}`);
+}
 const places = new Set(live.map((it) => it.at)).size;
-console.log(`${live.length} of ${all.length} stops by ${kinds.size} requests, at ${places} places: ${other.length} differ from the debugger's`);
+const where = `${live.length} of ${all.length} stops by ${kinds.size} requests, at ${places} places`;
+console.log(`${where}: ${other.length} differ from the debugger's`);
 process.exit(other.length || tables.length !== live.length ? 1 : 0);
