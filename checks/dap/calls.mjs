@@ -1,8 +1,8 @@
-// Compares the calls that the debug adapter shows with GDB's: calls.mjs FOLDER NAME.. [-- STOPS]. FOLDER has NAME, NAME.debug
-// and NAME.lines of each program, which runs alone, as init. Both stop after each so many instructions; at each stop the
-// functions of all calls and the lines of the callers are the same. (In the line of the place itself GDB passes over rows
-// of the table that begin no statement; checks/c-lines.py compares these lines with addr2line's.) checks/dap/calls.sh
-// builds the programs and calls it.
+// Compares the calls that the debug adapter shows with GDB's: calls.mjs FOLDER NAME.. [-- STOPS]. FOLDER has NAME,
+// NAME.debug and NAME.lines of each program, which runs alone, as init. Both stop after each so many instructions, up to
+// the end; at each stop the functions of all calls and the lines of the callers are the same. (In the line of the place
+// itself GDB passes over rows of the table that begin no statement; checks/c-lines.py compares these lines with
+// addr2line's.) checks/dap/calls.sh builds the programs and calls it.
 import { execFileSync } from "node:child_process";
 import { join } from "node:path";
 import { fileURLToPath } from "node:url";
@@ -43,12 +43,12 @@ function by_gdb(name) {
 /** The calls at each stop, by the adapter. */
 async function by_adapter(name) {
   const client = new Client(folder), found = [];
-  await client.ask("launch", { program: name, keys: KEYS });
+  await client.ask("launch", { program: name, keys: KEYS, stopAtEnd: true });
   await client.ask("configurationDone");
   await client.event("stopped");
-  while (found.length < stops) {
-    for (let k = 0; k < APART; k++) await client.stop_after("next", { threadId: 1, granularity: "instruction" });
-    found.push((await client.calls(1)).map((it) => call_of(...it.split(" "))));
+  const step = () => client.stop_after("next", { threadId: 1, granularity: "instruction" });
+  for (let k = 1; k <= APART * stops && (await step()).reason === "step"; k++) {
+    if (k % APART === 0) found.push((await client.calls(1)).map((it) => call_of(...it.split(" "))));
   }
   await client.ask("disconnect");
   return found;

@@ -1,7 +1,8 @@
 #!/bin/sh
-# Whether the calls that the debug adapter shows are those of gdb-multiarch's `bt`, in three programs of programs/c/src at 60 stops
-# each; calls.sh STOPS for another number. They are built without inlining, of which the tables of lines know nothing. It needs
-# Node, gdb-multiarch and the C compiler: apt-get install gdb-multiarch gcc-riscv64-unknown-elf. The status is 1 if some differ.
+# Whether the calls that the debug adapter shows are those of gdb-multiarch's `bt`, in three programs of programs/c/src at 60
+# stops each, if they run so long; calls.sh STOPS for another number. They are built without inlining, of which the tables of
+# lines know nothing. It needs Node, gdb-multiarch and the C compiler: apt-get install gdb-multiarch gcc-riscv64-unknown-elf.
+# The status is 1 if some differ.
 set -eu
 cd "$(dirname "$0")/../.."
 for tool in gdb-multiarch riscv64-unknown-elf-gcc; do

@@ -1,6 +1,7 @@
 #!/bin/sh
-# Whether each message of the debug adapter, in all conversations that checks/dap/run.sh plays, has the form that Go's library of
-# the protocol knows. It needs Node, and golang-go and golang-github-google-go-dap-dev of Debian. The status is 1 if one hasn't.
+# Whether each message of the debug adapter, in all conversations that checks/dap/run.sh plays, has the form that Go's library
+# of the protocol knows. It needs Node, and golang-go and golang-github-google-go-dap-dev of Debian. The status is 1 if one
+# hasn't.
 set -eu
 cd "$(dirname "$0")/../.."
 command -v go >/dev/null ||

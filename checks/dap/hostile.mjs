@@ -2,6 +2,9 @@
 // away. The adapter answers each request once, in words of a person, or ends by itself; it never hangs or breaks off.
 // hostile.mjs [SEED] [COUNT]: COUNT requests by chance, 3000 without it.
 import { spawn } from "node:child_process";
+import { mkdtempSync, rmSync, writeFileSync } from "node:fs";
+import { tmpdir } from "node:os";
+import { join } from "node:path";
 import { fileURLToPath } from "node:url";
 import { Client } from "./client.mjs";
 
@@ -62,8 +65,9 @@ function object(depth = 0) {
 async function by_chance() {
   const client = new Client(process.cwd());
   const right = [
-    ["launch", { program: "programs/examples/fork/init.s", keys: "" }], ["configurationDone", {}], ["stackTrace", { threadId: 1 }],
-    ["next", { threadId: 1 }], ["continue", { threadId: 1 }], ["setFunctionBreakpoints", { breakpoints: [{ name: "_start" }] }],
+    ["launch", { program: "programs/examples/fork/init.s", keys: "" }], ["configurationDone", {}],
+    ["stackTrace", { threadId: 1 }], ["next", { threadId: 1 }], ["continue", { threadId: 1 }],
+    ["setFunctionBreakpoints", { breakpoints: [{ name: "_start" }] }],
   ];
   for (let k = 0; k < Number(count); k++) {
     const [command, args] = chance(8) === 0 ? one_of(right) : [one_of(COMMANDS), chance(9) ? object() : value()];
@@ -131,8 +135,10 @@ async function by_texts() {
 
 /** A pause and a disconnect are answered while the machine plays for ever, or looks back. */
 async function while_it_plays() {
-  const client = new Client(process.cwd());
-  await client.ask("launch", { programs: "programs/bin", keys: "storm\nexit\n", stopOnEntry: false });
+  const client = new Client(process.cwd()), room = mkdtempSync(join(tmpdir(), "dap-")), program = join(room, "init.s");
+  process.on("exit", () => rmSync(room, { recursive: true }));
+  writeFileSync(program, ".text\n_start:\n    jal zero, _start\n");
+  await client.ask("launch", { program, keys: "", stopOnEntry: false });
   await client.ask("configurationDone");
   for (let k = 0; k < 5; k++) {
     await client.ask("pause");
