@@ -138,7 +138,7 @@ export class Session {
   end() {
     const { status } = this.machine.facts();
     if (this.settings.stops_at_end && !this.was_over) {
-      return this.stop("exited", `init has ended with ${status}: to go back is possible, to go on ends the session`);
+      return this.stop("exited", `init has ended with ${status}: you can go back, and to go on ends the session`);
     }
     this.close();
     this.tell_output();
