@@ -9,9 +9,9 @@
 # repository is refused, unless git ignores it.
 #
 # The archive holds the programs twice: for Linux on x86-64, as `./xv --build` proved and built them (libexec/), and for
-# Node on every host (anywhere/). It holds the page, the programs for the machine with their sources, and the manual and the
-# course as HTML, with a search that needs no network, and as text; a link of theirs to what it doesn't hold is words. npm
-# takes it as a package, since package.json stands in its one folder. No file of it is a link: npm leaves links out, and
+# Node on every host (anywhere/). It holds the page, the extension for VS Code (nektavoly.vsix), the programs for the machine with
+# their sources, and the manual and the course as HTML, with a search that needs no network, and as text; a link of theirs to
+# what it doesn't hold is words. npm takes it as a package, since package.json stands in its one folder. No file of it is a link: npm leaves links out, and
 # Windows makes them for some users alone. Windows has `tar`, so there is no .zip.
 #
 # The same commit, kit and pandoc give the same bytes, whoever makes it, when and in which folder. pandoc is Debian's
@@ -139,6 +139,8 @@ END
     chmod +x "$RELEASE/libexec/$program"
 done
 { git log -1 --format='commit %H of %cs'; rt version; } >"$RELEASE/BUILT"
+# The extension for VS Code, which has all that it needs.
+python3 -B editor/vscode/pack.py "$RELEASE/nektavoly.vsix" >/dev/null
 
 # The way from a page's folder up to the release's.
 up_from() {

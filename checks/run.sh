@@ -56,6 +56,12 @@ tell_others() {
     tell grading/run.sh 'grading/run.sh --all' '210 submissions, twice, in two orders, with a kill and a second start: a minute'
     tell grading/run.sh 'grading/run.sh --many' 'a thousand submissions by GNU parallel (Debian: parallel): two minutes'
     tell c-lines.py 'c-lines.py' 'the lines of the programs in C are those of addr2line: half a minute; needs the C compiler'
+    tell dap/run.sh 'dap/run.sh' 'conversations of an editor with the debug adapter: half a minute; needs nodejs'
+    tell dap/hostile.mjs 'dap/hostile.mjs [SEED] [COUNT]' 'what no editor should send: a minute; needs nodejs'
+    tell dap/stops.mjs 'dap/stops.mjs [COUNT] [SEED]' '2,000 stops of the debug adapter are those of the debugger: a minute; needs nodejs'
+    tell dap/forms.sh 'dap/forms.sh' "each message of it has the form that Go's library knows: a minute; needs packages, told by the script"
+    tell dap/calls.sh 'dap/calls.sh' "its calls are those of gdb-multiarch's bt: a minute; needs gdb-multiarch and the C compiler"
+    tell dap/measure.mjs 'dap/measure.mjs' 'how long it takes to start, and for 1,000 steps, on a host that does nothing else: half a minute'
     tell gdb.sh 'gdb.sh' 'gdb-multiarch finds a planted bug, forth and back: a minute; needs gdb-multiarch and the C compiler'
     tell ../page/check.sh '../page/check.sh' 'the page runs what the program runs, by Node: some minutes; needs nodejs'
     tell ../page/measure.sh '../page/measure.sh' 'how fast the page is, in a browser on a host that does nothing else: two minutes; needs the same'
@@ -104,7 +110,8 @@ case "$*" in
     ;;
 --node)
     begin_node
-    do_all $quick $longer checks/dap/run.sh 'node anywhere/try/machine_room.mjs'
+    do_all $quick $longer checks/dap/run.sh 'node checks/dap/hostile.mjs 1 1000' 'node checks/dap/extension.mjs' \
+        'node checks/dap/stops.mjs 200' 'node anywhere/try/machine_room.mjs'
     ;;
 '--node --quick' | '--quick --node')
     begin_node

@@ -1,98 +1,118 @@
 // The requests of an editor (Debug Adapter Protocol), answered by a session. A thread is a process: its id is the pid.
 import { basename, resolve } from "node:path";
+import { fileURLToPath, pathToFileURL } from "node:url";
 import { all_calls, call_number } from "../machine/calls.mjs";
-import { calls_of } from "../machine/line_steps.mjs";
-import { word_at } from "../machine/memory.mjs";
-import { hex, number } from "../machine/number_words.mjs";
-import { REGISTERS } from "../machine/registers.mjs";
-import { condition_of } from "./conditions.mjs";
-import { evaluated } from "./expressions.mjs";
+import { hex } from "../machine/number_words.mjs";
+import { address_in, is_object, number_in, object_in, objects_in, refuse, text_in, texts_in } from "./arguments.mjs";
+import { BreakRequests } from "./break_requests.mjs";
+import { CALLS, CAPABILITIES, FAULTS } from "./capabilities.mjs";
+import { address_named, evaluated } from "./expressions.mjs";
 import { Session } from "./session.mjs";
-import { kernel_variables, state_words } from "./kernel_scope.mjs";
+import { Shown, pid_in } from "./shown.mjs";
 
-const MOST_READ = 65536, MOST_INSTRUCTIONS = 4096; // of one answer
-const INSTRUCTION = 4n; // bytes
-const FAULTS = "fault", CALLS = "call";
-const KNOWN = "a register, a label, a number, x ADDRESS COUNT, type TEXT, goto EVENT";
+const MOST_LINES = 1000000; // of a source
+const DEFAULT_FRAMES = 4096, DEFAULT_QUANTUM = 1000;
+const FORTH = 1, BACK = 2; // the targets of goto
+const CHANGES = ["setVariable", "setExpression", "writeMemory", "terminateThreads", "restartFrame"];
+const NO_CHANGE = "what the machine has is looked at here, and never changed";
 
-const CAPABILITIES = {
-  supportsConfigurationDoneRequest: true, supportsFunctionBreakpoints: true, supportsConditionalBreakpoints: true,
-  supportsHitConditionalBreakpoints: true, supportsStepBack: true, supportsSteppingGranularity: true,
-  supportsInstructionBreakpoints: true, supportsDataBreakpoints: true, supportsReadMemoryRequest: true,
-  supportsDisassembleRequest: true, supportsEvaluateForHovers: true, supportsTerminateRequest: true,
-  supportsRestartRequest: true, supportsExceptionInfoRequest: true, supportsExceptionFilterOptions: true,
-  exceptionBreakpointFilters: [
-    { filter: FAULTS, label: "Faults", description: "Stop before an instruction that can't be done", default: true },
-    {
-      filter: CALLS, label: "Kernel calls", description: "Stop after a kernel call", supportsCondition: true,
-      conditionDescription: "Names of calls, as: fork exec. Without names, all of them",
-    },
-  ],
-};
+const MOST_WORDS = 1000; // letters of a refusal
 
-/** A text that a launch has; an error if it is something else. */
-function text_in(args, name) {
-  const value = args[name];
-  if (value !== undefined && value !== null && typeof value !== "string") throw new Error(`${name} is a text`);
-  return value ?? undefined;
-}
-
-function number_in(args, name, least, most) {
-  const value = args[name];
-  if (value === undefined) return undefined;
-  const is_one = Number.isInteger(value) && value >= least && value <= most;
-  if (!is_one) throw new Error(`${name} is a number from ${least} to ${most}`);
-  return value;
-}
-
-function texts_in(args, name) {
-  const value = args[name] ?? [], list = Array.isArray(value) ? value : [value];
-  if (!list.every((it) => typeof it === "string")) throw new Error(`${name} is a text, or a list of texts`);
-  return list;
+/** What went wrong in words: an argument that isn't of the protocol's form makes an error of the language. */
+function words_of(error, command) {
+  const is_of_form = !(error instanceof TypeError || error instanceof RangeError || error instanceof SyntaxError);
+  const { message } = error, words = is_of_form ? message : `the arguments of ${command} can't be taken (${message})`;
+  return words.length > MOST_WORDS ? `${words.slice(0, MOST_WORDS)}..` : words;
 }
 
 export class Adapter {
   constructor(module, writer, leave) {
-    Object.assign(this, { module, writer, leave, session: null, base: process.cwd(), handles: [], frames: [] });
-    this.points = new Map(); // the break points of each source, and of each kind of others
+    Object.assign(this, { module, writer, leave, session: null, base: process.cwd(), args: {} });
+    Object.assign(this, { is_configured: false, has_begun: false }); // what the editor has told, and what came of it
+    this.breaks = new BreakRequests();
     this.filters = { faults: true, calls: [] };
+    this.shown = new Shown(this);
+    Object.assign(this, { first_line: 1, column: 1, takes_addresses: false }); // how the editor counts and names
   }
 
-  /** Answers a request, or refuses it in words. */
+  /** Answers a request, or refuses it in words. What asks for nothing is passed over. */
   take(request) {
-    if (request.type !== "request") return;
+    if (!is_object(request) || request.type !== "request") return;
+    const command = typeof request.command === "string" ? request.command.slice(0, 100) : "";
+    const seq = Number.isInteger(request.seq) ? request.seq : 0, asked = { seq, command };
     try {
-      const does = this[`on_${request.command}`];
-      if (!does) throw new Error(`${request.command} is no request that is known here`);
-      const answer = does.call(this, request.arguments ?? {});
-      this.writer.answer(request, answer?.body ?? answer ?? {});
-      answer?.then?.();
+      const answer = this.answer(command, object_in(request, "arguments"));
+      this.writer.answer(asked, answer?.body ?? answer ?? {});
+      if (answer?.then) this.attempt(answer.then);
     } catch (error) {
-      this.writer.refuse(request, error.message);
+      this.writer.refuse(asked, words_of(error, command));
+    }
+  }
+
+  answer(command, args) {
+    const name = `on_${command}`, owner = [this, this.shown].find((it) => typeof it[name] === "function");
+    if (owner) return owner[name](args);
+    return refuse(CHANGES.includes(command) ? NO_CHANGE : `${command} is no request that is known here`);
+  }
+
+  /** Does what comes after an answer; what goes wrong is told. */
+  attempt(does) {
+    try {
+      does();
+    } catch (error) {
+      this.failed(error);
     }
   }
 
   /** An answer, and what is done after it is sent. */
   static after(then, body = {}) {
-    return { body, then: () => setTimeout(then, 0) };
+    return { body, then };
   }
 
   get own() {
-    if (!this.session) throw new Error("no machine is booted: launch comes first");
-    return this.session;
+    return this.session ?? refuse("no machine is booted: launch comes first");
+  }
+
+  /** The session, if it stands. */
+  get standing() {
+    return this.own.is_playing ? refuse("the machine plays: pause it first") : this.own;
+  }
+
+  // ---- how the editor counts lines and names files
+
+  line_told(line) { return line - 1 + this.first_line; }
+
+  line_in(args) {
+    const line = number_in(args, "line", 0, MOST_LINES) ?? refuse("a break point has a line");
+    return line + 1 - this.first_line;
+  }
+
+  /** The path of a source that a request names. */
+  path_in(args) {
+    const path = text_in(object_in(args, "source"), "path") ?? refuse("a source has a path");
+    return resolve(this.base, /^file:/.test(path) ? fileURLToPath(path) : path);
+  }
+
+  /** A source, {name, path}, as the editor names it. */
+  source_told(source) {
+    return this.takes_addresses ? { ...source, path: String(pathToFileURL(source.path)) } : source;
   }
 
   // ---- what the session tells
 
-  stopped(reason, text) {
-    this.handles = [];
-    this.frames = [];
-    const body = { reason, threadId: this.session.pid, allThreadsStopped: true };
-    this.writer.event("stopped", text ? { ...body, description: text, text } : body);
+  stopped(reason, text, breaks) {
+    const { pid } = this.session, body = { reason, threadId: pid, allThreadsStopped: true };
+    this.shown.forget(pid);
+    const more = breaks.length ? { hitBreakpointIds: breaks } : {};
+    this.writer.event("stopped", text ? { ...body, description: text, text, ...more } : { ...body, ...more });
   }
 
   output(text, category = "stdout") {
     this.writer.event("output", { category, output: text });
+  }
+
+  failed(error) {
+    this.output(`what was asked for failed: ${error.message}\n`, "stderr");
   }
 
   ended(status) {
@@ -103,127 +123,170 @@ export class Adapter {
 
   // ---- begin and end
 
-  on_initialize() {
+  on_initialize(args) {
+    this.first_line = args.linesStartAt1 === false ? 0 : 1;
+    this.column = args.columnsStartAt1 === false ? 0 : 1;
+    this.takes_addresses = args.pathFormat === "uri";
     return Adapter.after(() => this.writer.event("initialized"), CAPABILITIES);
   }
 
   on_launch(args) {
-    this.args = args;
-    this.base = resolve(text_in(args, "cwd") ?? process.cwd());
-    const words = [...texts_in(args, "program"), ...texts_in(args, "programs")], clock = text_in(args, "clock") ?? null;
-    if (![null, "rounds", "live"].includes(clock)) throw new Error("clock is rounds or live");
+    const base = resolve(text_in(args, "cwd") ?? process.cwd()), clock = text_in(args, "clock") ?? null;
+    const words = [...texts_in(args, "program"), ...texts_in(args, "programs")], replay = text_in(args, "replay");
+    if (![null, "rounds", "live"].includes(clock)) refuse("clock is rounds or live");
     const settings = {
-      frames: number_in(args, "frames", 16, 32768) ?? 4096, quantum: number_in(args, "quantum", 1, 1000000) ?? 1000,
-      keys: text_in(args, "keys") ?? null, clock,
+      frames: number_in(args, "frames", 16, 32768) ?? DEFAULT_FRAMES, keys: text_in(args, "keys") ?? null, clock,
+      quantum: number_in(args, "quantum", 1, 1000000) ?? DEFAULT_QUANTUM, stops_at_end: args.stopAtEnd === true,
+      replay: replay === undefined ? null : resolve(base, replay),
     };
+    this.session?.close();
     this.session = null;
     const session = new Session(this.module, this);
-    session.boot(words, this.base, texts_in(args, "sourceFolders"), settings);
-    this.session = session;
-    if (this.session.programs.told) this.output(`${this.session.programs.told}\n`, "console");
+    session.boot(words, base, texts_in(args, "sourceFolders"), settings);
+    Object.assign(this, { session, args, base, has_begun: false });
+    this.shown.forget(session.pid);
+    return Adapter.after(() => this.booted());
+  }
+
+  /** Tells what a launch has come to, and begins, if the editor has told all that it wants. */
+  booted() {
+    const { told } = this.session.programs;
+    if (told) this.output(`${told}\n`, "console");
+    for (const it of this.breaks.look_up_all(this.machine)) {
+      this.writer.event("breakpoint", { reason: "changed", breakpoint: this.break_told(it) });
+    }
     this.set_breaks();
-    return {};
+    this.go_on();
+  }
+
+  /** Begins once a machine is there and the editor has told all that it wants: it stops at the entry, or plays. */
+  go_on() {
+    const { session, args } = this;
+    if (!session || !this.is_configured || this.has_begun) return;
+    this.has_begun = true;
+    const plays = args.stopOnEntry === false || args.noDebug === true;
+    if (plays) session.play();
+    else session.stop("entry");
   }
 
   on_attach() {
-    throw new Error("there is nothing to attach to: launch boots a machine");
+    refuse("there is nothing to attach to: launch boots a machine");
   }
 
   on_configurationDone() {
-    return Adapter.after(() => {
-      if (!this.session) return;
-      if (this.args.stopOnEntry === false || this.args.noDebug) this.session.play();
-      else this.session.stop("entry");
-    });
+    this.is_configured = true;
+    return Adapter.after(() => this.go_on());
   }
 
-  on_restart() {
-    this.own.begin();
-    return this.on_configurationDone();
+  on_restart(args) {
+    const { own } = this, wanted = object_in(args, "arguments");
+    own.close();
+    if (Object.keys(wanted).length) return this.on_launch(wanted);
+    own.begin();
+    this.has_begun = false;
+    this.shown.forget(own.pid);
+    return Adapter.after(() => this.go_on());
   }
 
   on_terminate() {
-    this.session?.pause();
+    this.session?.close();
     return Adapter.after(() => this.writer.event("terminated"));
   }
 
   on_disconnect() {
+    this.session?.close();
     return Adapter.after(() => this.leave());
   }
 
   // ---- break points
 
-  /** Takes the break points of a kind, or of a source, in place of those that stood before; each is answered. */
-  points_of(key, wanted) {
-    const found = wanted.map((it) => this.point(it));
-    this.points.set(key, found.flatMap((it) => it.places));
-    this.set_breaks();
-    const told = ({ places, words, line }) => (
-      { verified: places.length > 0, ...(words ? { message: words } : {}), ...(line ? { line } : {}) }
-    );
-    return { breakpoints: found.map(told) };
+  get machine() {
+    return { session: this.session, is_debugged: this.args.noDebug !== true };
   }
 
-  /** One break point: the places at which it stands. A condition that can't be read is told. */
-  point({ places, name, line, condition, hitCondition, words = "nothing begins here" }) {
-    try {
-      const holds = condition_of(condition, hitCondition);
-      const all = places.map((it) => ({ kind: "address", program: null, name, holds, ...it }));
-      const list = this.args?.noDebug ? [] : all;
-      return { places: list, line, words: list.length ? "" : words };
-    } catch (error) {
-      return { places: [], line, words: error.message };
-    }
+  break_told({ line, ...told }) {
+    return line === undefined ? told : { ...told, line: this.line_told(line) };
+  }
+
+  /** Takes the break points of a kind, or of a source, in place of those that stood before; each is answered. */
+  breaks_of(key, wanted, reason, find) {
+    const told = this.breaks.take(key, wanted, reason, find, this.machine);
+    this.set_breaks();
+    return { breakpoints: told.map((it) => this.break_told(it)) };
   }
 
   set_breaks() {
+    const { session } = this;
+    if (!session) return;
+    const { is_debugged } = this.machine;
     const calls = this.filters.calls.map((it) => ({ kind: "call", program: null, ...it }));
-    this.session?.set_breaks([...[...this.points.values()].flat(), ...calls]);
-    if (this.session) this.session.stops_at_faults = this.filters.faults && !this.args?.noDebug;
+    session.set_breaks(is_debugged ? [...this.breaks.places, ...calls] : []);
+    session.stops_at_faults = this.filters.faults && is_debugged;
   }
 
-  on_setBreakpoints({ source = {}, breakpoints = [] }) {
-    const path = resolve(this.base, source.path ?? ""), { programs } = this.own;
-    return this.points_of(`line ${path}`, breakpoints.map((it) => {
-      const places = programs.places_of_line(path, it.line), near = programs.lines_near(path, it.line).join(", ");
+  on_setBreakpoints(args) {
+    const path = this.path_in(args), wanted = objects_in(args, "breakpoints");
+    const lines = wanted.map((it) => ({ ...it, line: this.line_in(it) }));
+    return this.breaks_of(`line ${path}`, lines, "breakpoint", ({ line }) => {
+      const { programs } = this.own, near = programs.lines_near(path, line).map((it) => this.line_told(it)).join(", ");
       const words = near ? `no instruction begins here; nearest: ${near}` : "no program was made of this source";
-      return { ...it, places, name: `${basename(path)}:${it.line}`, words };
-    }));
+      return { places: programs.places_of_line(path, line), name: `${basename(path)}:${line}`, words };
+    });
   }
 
-  on_setFunctionBreakpoints({ breakpoints = [] }) {
-    return this.points_of("function", breakpoints.map((it) => {
-      const places = this.own.programs.places_of_name(it.name);
-      return { ...it, places, words: `no program has a function or label ${it.name}` };
-    }));
+  on_breakpointLocations(args) {
+    const from = this.line_in(args), last = number_in(args, "endLine", 0, MOST_LINES) ?? this.line_told(from);
+    const lines = this.own.programs.lines_in(this.path_in(args), from, last + 1 - this.first_line);
+    return { breakpoints: lines.map((line) => ({ line: this.line_told(line) })) };
   }
 
-  on_setInstructionBreakpoints({ breakpoints = [] }) {
-    return this.points_of("instruction", breakpoints.map(({ instructionReference, offset = 0, ...rest }) => {
-      const address = BigInt(instructionReference) + BigInt(offset);
-      return { ...rest, name: hex(address), places: [{ address, program: this.own.run.program_of(this.own.pid) }] };
-    }));
+  on_setFunctionBreakpoints(args) {
+    const wanted = objects_in(args, "breakpoints");
+    wanted.forEach((it) => text_in(it, "name") ?? refuse("a function break point has a name"));
+    return this.breaks_of("function", wanted, "function breakpoint", ({ name }) => (
+      { places: this.own.programs.places_of_name(name), name, words: `no program has a function or label ${name}` }
+    ));
   }
 
-  on_dataBreakpointInfo({ name = "" }) {
-    const found = evaluated(this.own, this.own.pid, name);
-    if (found?.address === undefined) return { dataId: null, description: `${name} is no address, label or function` };
-    const dataId = hex(found.address), description = `stores to the byte at ${dataId}`;
-    return { dataId, description, accessTypes: ["write"] };
+  on_setInstructionBreakpoints(args) {
+    const wanted = objects_in(args, "breakpoints"), program = this.program_seen();
+    wanted.forEach((it) => address_in(it, "instructionReference"));
+    return this.breaks_of("instruction", wanted, "instruction breakpoint", (it) => {
+      const address = address_in(it, "instructionReference");
+      return { places: [{ address, program }], name: hex(address) };
+    });
   }
 
-  on_setDataBreakpoints({ breakpoints = [] }) {
-    return this.points_of("data", breakpoints.map(({ dataId, ...rest }) => (
-      { ...rest, name: dataId, places: [{ kind: "store", address: BigInt(dataId) }] }
-    )));
+  /** The program of the process that is looked at. */
+  program_seen() {
+    return this.own.run.program_of(this.shown.pid);
   }
 
-  on_setExceptionBreakpoints({ filters = [], filterOptions = [] }) {
-    const all = [...filters.map((filterId) => ({ filterId })), ...filterOptions];
+  on_dataBreakpointInfo(args) {
+    const name = text_in(args, "name") ?? "", { own } = this, found = address_named(own, this.shown.pid, name);
+    if (!found) return { dataId: null, description: `${name} is no address, label or function` };
+    const program = own.programs.files[this.program_seen()]?.name, dataId = hex(found.address);
+    return { dataId, description: `stores of ${program} to the byte at ${dataId}`, accessTypes: ["write"] };
+  }
+
+  on_setDataBreakpoints(args) {
+    const wanted = objects_in(args, "breakpoints"), program = this.program_seen();
+    wanted.forEach((it) => address_in(it, "dataId"));
+    return this.breaks_of("data", wanted, "data breakpoint", (it) => {
+      if (["read", "readWrite"].includes(it.accessType)) refuse("only stores are watched, and no loads");
+      const address = address_in(it, "dataId");
+      return { places: [{ kind: "store", address, program }], name: hex(address) };
+    });
+  }
+
+  on_setExceptionBreakpoints(args) {
+    const all = [...texts_in(args, "filters").map((filterId) => ({ filterId })), ...objects_in(args, "filterOptions")];
+    const unknown = all.find((it) => ![FAULTS, CALLS].includes(it.filterId));
+    if (unknown) refuse(`${unknown.filterId} is no filter: ${FAULTS} and ${CALLS} are`);
     const calls = all.filter((it) => it.filterId === CALLS);
-    const names = calls.flatMap((it) => (it.condition ?? "").split(/[\s,]+/)).filter(Boolean);
-    const unknown = names.find((it) => call_number(it) === undefined);
-    if (unknown) throw new Error(`${unknown} is no kernel call`);
+    const names = calls.flatMap((it) => (text_in(it, "condition") ?? "").split(/[\s,]+/)).filter(Boolean);
+    const other = names.find((it) => call_number(it) === undefined);
+    if (other) refuse(`${other} is no kernel call`);
     const wanted = calls.length && !names.length ? all_calls() : names;
     const faults = all.some((it) => it.filterId === FAULTS);
     this.filters = { faults, calls: wanted.map((name) => ({ number: call_number(name), name })) };
@@ -232,120 +295,63 @@ export class Adapter {
   }
 
   on_exceptionInfo() {
-    const fault = this.own.fault_here();
-    if (!fault) throw new Error("the machine stands before no fault");
-    return { exceptionId: `fault ${fault.cause}`, description: this.own.fault_words(fault), breakMode: "always" };
+    const { own } = this, fault = own.fault_here(), call = fault ? null : own.stops.call_here();
+    if (call) return { exceptionId: call.name, description: call.words, breakMode: "always" };
+    if (!fault) refuse("the machine stands before no fault, and after no call that stops it");
+    return { exceptionId: `fault ${fault.cause}`, description: own.fault_words(fault), breakMode: "always" };
   }
 
   // ---- going on
 
-  going(does) {
-    const { own } = this;
-    return Adapter.after(() => does(own), { allThreadsContinued: true });
+  going(does, body = {}) {
+    const own = this.standing;
+    return Adapter.after(() => does(own), body);
   }
 
-  stepping({ threadId, granularity }, how, is_back = false) {
-    return this.going((own) => own.step(threadId, how, granularity === "instruction", is_back));
+  stepping(args, how, is_back = false) {
+    const pid = pid_in(this.own, args);
+    return this.going((own) => own.step(pid, how, args.granularity === "instruction", is_back));
   }
 
-  on_continue() { return this.going((own) => own.play()); }
+  on_continue() { return this.going((own) => own.play(), { allThreadsContinued: true }); }
   on_reverseContinue() { return this.going((own) => own.play_back()); }
   on_next(args) { return this.stepping(args, "over"); }
   on_stepIn(args) { return this.stepping(args, "into"); }
   on_stepOut(args) { return this.stepping(args, "out"); }
   on_stepBack(args) { return this.stepping(args, "over", true); }
-  on_pause() { return this.going((own) => own.pause()); }
 
-  // ---- what is shown
-
-  on_threads() {
-    const { machine, run, programs } = this.own;
-    const name_of = (pid) => programs.files[run.program_of(pid)]?.name ?? "";
-    const told = (pid) => ({ id: pid, name: `${pid} ${name_of(pid)}: ${state_words(this.own, pid)}` });
-    return { threads: machine.pids().map(told) };
+  on_pause() {
+    const { own } = this;
+    return Adapter.after(() => own.pause());
   }
 
-  on_stackTrace({ threadId, startFrame = 0, levels = 0 }) {
-    const { machine, run, programs } = this.own, program = run.program_of(threadId), pc = this.own.pc(threadId);
-    const addresses = pc === null ? [] : calls_of(machine, threadId, programs.known(program, pc).frames);
-    const frames = addresses.map((address, k) => this.frame(threadId, program, address, k));
-    const end = levels ? startFrame + levels : frames.length;
-    return { totalFrames: frames.length, stackFrames: frames.slice(startFrame, end) };
-  }
-
-  frame(pid, program, address, depth) {
-    this.frames.push({ pid, address, depth });
-    const { line = 0, ...place } = this.own.programs.place(program, address);
-    return { id: this.frames.length, line, column: line ? 1 : 0, instructionPointerReference: hex(address), ...place };
-  }
-
-  frame_of(id) {
-    const found = this.frames[id - 1];
-    if (!found) throw new Error("that frame is of another place of the run");
-    return found;
-  }
-
-  handle(variables) {
-    return this.handles.push(variables);
-  }
-
-  on_scopes({ frameId }) {
-    const { pid } = this.frame_of(frameId);
-    const registers = this.handle(() => this.registers(pid));
-    const kernel = this.handle(() => kernel_variables(this.own, pid, (it) => this.handle(it)));
+  /** A line can be gone to twice: where a process comes to it next, and where one came to it last. */
+  on_gotoTargets(args) {
+    const path = this.path_in(args), line = this.line_in(args), places = this.own.programs.places_of_line(path, line);
+    if (!places.length) return { targets: [] };
+    const name = `${basename(path)}:${line}`, told = { line: this.line_told(line) };
+    this.target = places.map((it) => ({ kind: "address", name, holds: () => true, ...it }));
     return {
-      scopes: [
-        { name: "Registers", presentationHint: "registers", variablesReference: registers, expensive: false },
-        { name: "Kernel", variablesReference: kernel, expensive: false },
+      targets: [
+        { id: FORTH, label: `the next time that a process comes to ${name}`, ...told },
+        { id: BACK, label: `the last time that a process came to ${name}`, ...told },
       ],
     };
   }
 
-  registers(pid) {
-    const values = this.own.machine.registers(pid) ?? [];
-    return [...values].map((value, k) => {
-      const told = { name: REGISTERS[k], value: hex(value), type: number(value) };
-      return { ...told, memoryReference: hex(value), variablesReference: 0 };
-    });
+  on_goto(args) {
+    const id = number_in(args, "targetId", FORTH, BACK), places = this.target ?? refuse("gotoTargets comes first");
+    return this.going((own) => own.play_to(places, id === BACK));
   }
 
-  on_variables({ variablesReference }) {
-    const tell = this.handles[variablesReference - 1];
-    if (!tell) throw new Error("these variables are of another place of the run");
-    return { variables: tell() };
-  }
+  // ---- what is evaluated
 
-  on_evaluate({ expression, frameId, context }) {
-    const pid = frameId === undefined ? this.own.pid : this.frame_of(frameId).pid;
-    const found = evaluated(this.own, pid, expression, context === "repl");
-    if (!found) throw new Error(`${expression}: ${KNOWN}`);
-    if (found.then) setTimeout(found.then, 0);
-    const reference = found.address === undefined ? {} : { memoryReference: hex(found.address) };
-    return { result: found.text, variablesReference: 0, ...reference };
-  }
-
-  on_readMemory({ memoryReference, offset = 0, count }) {
-    const address = BigInt.asUintN(64, BigInt(memoryReference) + BigInt(offset)), most = Math.min(count, MOST_READ);
-    const bytes = this.own.machine.peek(this.own.pid, address, most);
-    const data = Buffer.from(bytes).toString("base64");
-    return { address: hex(address), data, unreadableBytes: count - bytes.length };
-  }
-
-  on_disassemble({ memoryReference, offset = 0, instructionOffset = 0, instructionCount }) {
-    const first = BigInt(memoryReference) + BigInt(offset) + INSTRUCTION * BigInt(instructionOffset);
-    const count = Math.min(instructionCount, MOST_INSTRUCTIONS);
-    const address_of = (_, k) => BigInt.asUintN(64, first + INSTRUCTION * BigInt(k));
-    return { instructions: Array.from({ length: count }, address_of).map((address) => this.instruction(address)) };
-  }
-
-  /** The instruction at an address of the process that is looked at. */
-  instruction(address) {
-    const { machine, run, pid, programs } = this.own, word = word_at(machine, pid, address);
-    const { source, line } = programs.place(run.program_of(pid), address);
-    const where = source ? { location: source, line } : {};
-    const text = word === null ? null : machine.instruction(word, address);
-    if (text) return { address: hex(address), instruction: text, ...where };
-    const instruction = word === null ? "no memory" : `.word ${hex(word)}`;
-    return { address: hex(address), instruction, ...where, presentationHint: "invalid" };
+  on_evaluate(args) {
+    const { own } = this, pid = args.frameId === undefined ? this.shown.pid : this.shown.frame_in(args).pid;
+    const options = { may_do: [undefined, null, "repl"].includes(args.context), base: this.base };
+    const { text, address, then } = evaluated(own, pid, text_in(args, "expression") ?? "", options);
+    const more = address === undefined ? {} : { memoryReference: hex(address) };
+    const body = { result: text, variablesReference: 0, ...more };
+    return then ? Adapter.after(then, body) : body;
   }
 }

@@ -9,7 +9,7 @@ const TESTS = {
 /** A register or a number, of the machine where it stands; numbers are read as signed ones of 64 bits. */
 function value_of(word) {
   const place = REGISTERS.indexOf(word.replace(/^\$/, ""));
-  if (place >= 0) return (session, pid) => BigInt.asIntN(64, session.machine.register(pid, place) ?? 0n);
+  if (place >= 0) return (machine, pid) => BigInt.asIntN(64, machine.register(pid, place) ?? 0n);
   if (!/^-?(0x[0-9a-f]+|\d+)$/i.test(word)) throw new Error(`${word} is no register and no number`);
   const value = word.startsWith("-") ? -BigInt(word.slice(1)) : BigInt(word);
   return () => BigInt.asIntN(64, value);
@@ -19,14 +19,14 @@ function test_of(text) {
   const [, left, sign, right] = /^\s*(\S+)\s*(==|!=|<=|>=|<|>)\s*(\S+)\s*$/.exec(text) ?? [];
   if (!left) throw new Error(`a condition is as a0 == 3, and not ${text}`);
   const [a, b] = [value_of(left), value_of(right)];
-  return (session, pid) => TESTS[sign](a(session, pid), b(session, pid));
+  return (machine, pid) => TESTS[sign](a(machine, pid), b(machine, pid));
 }
 
-/** Whether a break point stops: `holds(session, pid)`. */
-export function condition_of(condition = "", hits = "") {
+/** Whether a break point stops: `holds(machine, pid)`. */
+export function condition_of(condition, hits) {
   const tests = condition.trim() ? condition.split("&&").map(test_of) : [];
   if (hits.trim() && !/^\s*\d+\s*$/.test(hits)) throw new Error(`how often it is passed is a number, and not ${hits}`);
   const least = Number(hits.trim() || 1);
   let count = 0;
-  return (session, pid) => tests.every((it) => it(session, pid)) && ++count >= least;
+  return (machine, pid) => tests.every((it) => it(machine, pid)) && ++count >= least;
 }

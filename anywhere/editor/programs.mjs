@@ -1,29 +1,46 @@
 // The programs of a session: their files, and where each address of them stands in a source.
-import { existsSync, readFileSync, readdirSync, statSync } from "node:fs";
+import { existsSync, readFileSync, readdirSync, realpathSync, statSync } from "node:fs";
 import { basename, dirname, join, resolve } from "node:path";
 import { fileURLToPath } from "node:url";
-import { is_elf } from "../machine/file_kinds.mjs";
 import { MOST_FILES, files_refused } from "../machine/file_refusals.mjs";
-import { last_before } from "../machine/ordered.mjs";
 import { file_of_bytes, file_of_source, name_first } from "../machine/program_files.mjs";
 import { function_at, line_at, name_at } from "../machine/source_places.mjs";
+import { refuse } from "./arguments.mjs";
+import { recorded } from "./records.mjs";
 
 const TOP = fileURLToPath(new URL("../../", import.meta.url));
 // Where sources and tables of the shell's own programs lie.
 const OWN_SOURCES = ["programs/c/src", "programs/c/lib"].map((it) => TOP + it), OWN_TABLES = `${TOP}programs/c/tables`;
 const TABLE = ".lines", NO_PROGRAMS = [TABLE, ".debug", ".o", ".c", ".h", ".md"]; // ends of names
 
+const SOURCE_IN_C = ".c";
+
 const read_if_there = (path) => (existsSync(path) && statSync(path).isFile() ? readFileSync(path, "utf8") : "");
+
+/** A path without links, so that two of the same file are the same; as it is if nothing is there. */
+const real = (path) => (existsSync(path) ? realpathSync(path) : resolve(path));
+
+/** The program that was made of a source in C: it stands beside it, without `.c`. */
+function made_of(path) {
+  const program = path.slice(0, -SOURCE_IN_C.length);
+  if (existsSync(program)) return program;
+  return refuse(`${path} is a source in C: xvcc -g makes a program of it, which goes beside it`);
+}
 
 /** The files that a word names: of a folder those in it that are no tables, sources in C or hidden. */
 function paths_of(word, base) {
   const path = resolve(base, word);
-  if (!existsSync(path)) throw new Error(`${path}: there is no such file`);
-  if (!statSync(path).isDirectory()) return [path];
+  if (!existsSync(path)) refuse(`${path}: there is no such file`);
+  if (!statSync(path).isDirectory()) return [path.endsWith(SOURCE_IN_C) ? made_of(path) : path];
   const is_left_out = (name) => name.startsWith(".") || NO_PROGRAMS.some((end) => name.endsWith(end));
   return readdirSync(path).filter((name) => !is_left_out(name)).sort().map((name) => join(path, name))
     .filter((it) => statSync(it).isFile());
 }
+
+// Where an ELF-64 file has the address at which the program begins (ELF-64 Object File Format, "e_entry").
+const ENTRY = 24;
+
+const entry_of = (bytes) => new DataView(bytes.buffer, bytes.byteOffset, bytes.byteLength).getBigUint64(ENTRY, true);
 
 export class Programs {
   /** Reads the files that words name; `folders` are where sources in C are looked for, too. */
@@ -31,19 +48,26 @@ export class Programs {
     this.folders = [...folders.map((it) => resolve(base, it)), base, ...OWN_SOURCES];
     this.found = new Map(); // the paths of sources in C by the names in tables
     const paths = words.flatMap((word) => paths_of(word, base));
-    if (!paths.length) throw new Error("no program is named");
-    if (paths.length > MOST_FILES) throw new Error(`there are ${paths.length} files, and ${MOST_FILES} fit`);
+    if (!paths.length) refuse("no program is named");
+    if (paths.length > MOST_FILES) refuse(`there are ${paths.length} files, and ${MOST_FILES} fit`);
     this.files = paths.map((path) => this.file(machine, path));
     this.told = name_first(this.files);
     const refused = files_refused(this.files);
-    if (refused) throw new Error(refused);
+    if (refused) refuse(refused);
+  }
+
+  /** A record that is played: from now on the files are those that it names, in its order. */
+  recorded(path) {
+    const found = recorded(path, this.files);
+    this.files = found.files;
+    return found;
   }
 
   file(machine, path) {
     const name = basename(path), from = { name };
     if (name.endsWith(".s")) {
       const text = readFileSync(path, "utf8"), file = file_of_source(name, text, machine.assemble(text));
-      if (file.mistake) throw new Error(`${path}: ${file.mistake}`);
+      if (file.mistake) refuse(`${path}: ${file.mistake}`);
       return { ...file, from, path };
     }
     const table = () => read_if_there(path + TABLE) || read_if_there(join(OWN_TABLES, name + TABLE));
@@ -51,13 +75,15 @@ export class Programs {
     return { ...file_of_bytes(name, readFileSync(path), table, source_of), from, path };
   }
 
-  /** Where a source in C lies, of which a table has the name; undefined if it isn't found. */
+  /** Where a source in C lies that the table of the program at a path names; undefined if it isn't found. */
   source_path(name, path) {
-    if (!this.found.has(name)) {
-      const all = [dirname(path), ...this.folders].map((folder) => join(folder, name));
-      this.found.set(name, all.find(existsSync));
+    const key = `${dirname(path)}\0${name}`;
+    if (!this.found.has(key)) {
+      const all = [dirname(path), ...this.folders].map((folder) => resolve(folder, name));
+      const found = all.find(existsSync);
+      this.found.set(key, found && real(found));
     }
-    return this.found.get(name);
+    return this.found.get(key);
   }
 
   /** What is known of the program at a place of the list. */
@@ -82,46 +108,49 @@ export class Programs {
     return { lines: rows.sort((a, b) => (a.address < b.address ? -1 : 1)), frames: [], within: null };
   }
 
+  /** Whether an address lies in the function at which a program begins: nobody has called that. */
+  is_first(program, address) {
+    const file = this.files[program], own = file && function_at(file.symbols, entry_of(file.bytes));
+    return !!own && address >= own.from && address < own.to;
+  }
+
+  /** Where lines of a source begin, {program, address, line}, in every program that was made of it. */
+  beginnings(path) {
+    const wanted = real(path);
+    return this.files.flatMap(({ symbols, path: own }, program) => {
+      if (symbols.lines.length && real(own) === wanted) {
+        return symbols.lines.map(({ line, start }) => ({ program, address: start, line }));
+      }
+      const rows = symbols.table?.lines ?? [], is_own = (row) => row.line && this.source_path(row.file, own) === wanted;
+      const begins = (row, k) => rows[k - 1]?.line !== row.line && is_own(row);
+      return rows.filter(begins).map(({ address, number }) => ({ program, address, line: number }));
+    });
+  }
+
   /** Every place at which a line of a source begins: {program, address}. */
   places_of_line(path, line) {
-    const wanted = resolve(path), name = basename(path);
-    return this.files.flatMap(({ symbols, path: own }, program) => {
-      if (symbols.lines.length && own === wanted) {
-        return symbols.lines.filter((it) => it.line === line).map((it) => ({ program, address: it.start }));
-      }
-      const rows = symbols.table?.lines ?? [];
-      const is_own = (row) => row.file === name && this.source_path(name, own) === wanted;
-      const begins = (row, k) => row.number === line && is_own(row) && rows[k - 1]?.line !== row.line;
-      return rows.filter(begins).map((row) => ({ program, address: row.address }));
-    });
+    return this.beginnings(path).filter((it) => it.line === line).map(({ program, address }) => ({ program, address }));
+  }
+
+  /** The lines of a source from one to another at which something begins, in their order. */
+  lines_in(path, from, to) {
+    const lines = this.beginnings(path).map((it) => it.line).filter((it) => it >= from && it <= to);
+    return [...new Set(lines)].sort((a, b) => a - b);
   }
 
   /** The nearest lines of a source at which something begins: the last one before a line, and the first after it. */
   lines_near(path, line) {
-    const wanted = resolve(path), name = basename(path), all = this.files.flatMap(({ symbols, path: own }) => {
-      if (symbols.lines.length) return own === wanted ? symbols.lines.map((it) => it.line) : [];
-      return (symbols.table?.lines ?? []).filter((it) => it.file === name && it.line).map((it) => it.number);
-    }).sort((a, b) => a - b);
+    const all = this.lines_in(path, 1, Infinity);
     return [all.filter((it) => it < line).at(-1), all.find((it) => it > line)].filter((it) => it !== undefined);
   }
 
   /** The places of a function or label, in each program that has it; `program:name` names that of one program. */
   places_of_name(text) {
-    const [, only, name] = /^(?:([^:]+):)?(.+)$/.exec(text);
+    const [, only, name] = /^(?:([^:]+):)?(.*)$/s.exec(text);
     return this.files.flatMap(({ symbols, name: own }, program) => {
       if (only !== undefined && only !== own) return [];
       const found = symbols.names.find((it) => it.name === name);
       return found ? [{ program, address: found.address }] : [];
     });
-  }
-
-  /** Whether a place of the list is a program. */
-  is_program(place) {
-    return is_elf(this.files[place].bytes);
-  }
-
-  /** The line of a table at an address, for who looks whether it begins there. */
-  row_at(program, address) {
-    return last_before(this.symbols(program)?.table?.lines ?? [], address);
   }
 }

@@ -2,41 +2,67 @@
 // bytes (the protocol's "Base Protocol").
 
 const END_OF_HEAD = "\r\n\r\n";
-const MOST_BYTES = 64 * 1024 * 1024; // of one message
+const MOST_OF_HEAD = 4096, MOST_BYTES = 64 * 1024 * 1024; // bytes: of a head, and of one message
+
+/** The text of a message is no JSON; the next message can be read. */
+export class NoMessage extends Error {}
 
 /**
- * Takes bytes as they come, and tells each whole message. A head without a length, or a text without JSON, is an error.
+ * Takes bytes as they come, and tells each whole message. `tell_wrong` is told a text that is no JSON. A head without a
+ * length, or one that is too long, is thrown: nothing that comes after it can be read.
  */
 export class Reader {
-  constructor(tell) {
-    this.tell = tell;
-    this.bytes = Buffer.alloc(0);
+  constructor(tell, tell_wrong = () => {}) {
+    Object.assign(this, { tell, tell_wrong, parts: [], held: 0, wanted: 0 });
   }
 
   take(bytes) {
-    this.bytes = Buffer.concat([this.bytes, bytes]);
-    for (let message = this.next(); message !== undefined; message = this.next()) this.tell(message);
+    this.parts.push(bytes);
+    this.held += bytes.length;
+    // The parts of a long message are joined once, when all of them are there.
+    while (this.held > 0 && this.held >= this.wanted) if (!this.take_next(this.joined())) return;
   }
 
-  /** The next message; undefined if it isn't whole yet. */
-  next() {
-    const end = this.bytes.indexOf(END_OF_HEAD);
-    if (end < 0) return undefined;
-    const length = Number(/^Content-Length: *(\d+)\r?$/im.exec(this.bytes.toString("latin1", 0, end))?.[1] ?? NaN);
-    if (!(length <= MOST_BYTES)) throw new Error("a message begins with no Content-Length");
-    const from = end + END_OF_HEAD.length;
-    if (this.bytes.length < from + length) return undefined;
-    const text = this.bytes.toString("utf8", from, from + length);
-    this.bytes = this.bytes.subarray(from + length);
-    return JSON.parse(text);
+  joined() {
+    if (this.parts.length > 1) this.parts = [Buffer.concat(this.parts)];
+    return this.parts[0];
+  }
+
+  /** Takes the first message of all that is held; false if it isn't whole yet. */
+  take_next(held) {
+    const end = held.subarray(0, MOST_OF_HEAD).indexOf(END_OF_HEAD), from = end + END_OF_HEAD.length;
+    if (end < 0 && held.length < MOST_OF_HEAD) return false;
+    const to = from + (end < 0 ? NaN : length_in(held.toString("latin1", 0, end)));
+    if (!(to <= from + MOST_BYTES)) throw new Error("a message begins with no Content-Length that can be taken");
+    this.wanted = to;
+    if (held.length < to) return false;
+    this.parts = [held.subarray(to)];
+    this.held = held.length - to;
+    this.wanted = 0;
+    this.read(held.toString("utf8", from, to));
+    return true;
+  }
+
+  read(text) {
+    let message;
+    try {
+      message = JSON.parse(text);
+    } catch (error) {
+      this.tell_wrong(new NoMessage(`a message is no JSON: ${error.message}`));
+      return;
+    }
+    this.tell(message);
   }
 }
+
+/** The length that a head tells; NaN if it tells none. */
+const length_in = (head) => Number(/^Content-Length: *(\d{1,10})\r?$/im.exec(head)?.[1] ?? NaN);
 
 /** Writes messages, each with its number. */
 export class Writer {
   constructor(write) {
     this.write = write;
-    this.count = 0;
+    this.count = 0; // messages that were sent
   }
 
   send(message) {

@@ -8,6 +8,19 @@ import { store_width } from "./registers.mjs";
 
 const is_call = (kind) => kind === KIND.CALL || kind === KIND.WAIT;
 
+/** Whether the step of a process that is next stores to a byte. */
+function is_stored_next(machine, pid, pc, address) {
+  const to = machine.address(pid), word = to === null ? null : word_at(machine, pid, pc);
+  const width = word === null ? 0 : store_width(word);
+  return width > 0 && address >= to && address < to + BigInt(width);
+}
+
+/** Whether the process that runs stands before a stop. */
+export function stands_before(machine, { addresses, bytes }) {
+  const pid = machine.current(), pc = pid ? machine.register(pid, 0) : null;
+  return pc !== null && (addresses.includes(pc) || bytes.some((it) => is_stored_next(machine, pid, pc, it)));
+}
+
 export class BreakPoints {
   constructor(run) {
     this.run = run;
@@ -45,9 +58,7 @@ export class BreakPoints {
 
   /** Whether the step that is next stores to a byte. */
   is_stored_next(pid, pc, address) {
-    const { machine } = this.run, to = machine.address(pid), word = to === null ? null : word_at(machine, pid, pc);
-    const width = word === null ? 0 : store_width(word);
-    return width > 0 && address >= to && address < to + BigInt(width);
+    return is_stored_next(this.run.machine, pid, pc, address);
   }
 
   /** Whether what came of an event is a call after which a break point stops. */

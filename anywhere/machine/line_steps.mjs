@@ -78,19 +78,31 @@ export function calls_of(machine, pid, frames) {
   return found;
 }
 
-/** Forward: plays on up to the end of the step. Answers words that say why it ended elsewhere, or nothing. */
-function forward(run, plan, { how, pid, ...known }) {
+const NONE = { addresses: [], bytes: [] };
+
+/** The stops of two together; null if there are none. */
+function joined(one, other) {
+  if (!one.bytes.length && !other.bytes.length && !other.addresses.length) return one.addresses.length ? one : null;
+  return { addresses: [...one.addresses, ...other.addresses], bytes: [...one.bytes, ...other.bytes] };
+}
+
+/**
+ * Forward: plays on up to the end of the step. Answers words that say why it ended elsewhere, or nothing. `halts`: what
+ * else ends it, the stops of the process that runs, and words if it stands at one.
+ */
+function forward(run, plan, { how, pid, halts, ...known }) {
   const { machine } = run, from = standing(machine, pid, known), program = run.program_of(pid);
   if (!from) return "";
   const addresses = addresses_of(how, from, known, returns_of(machine, pid, known));
-  const own = { addresses, bytes: [] }, none = { addresses: [], bytes: [] };
+  const own = { addresses, bytes: [] };
   const ended = () => {
-    const now = standing(machine, pid, known);
+    const now = standing(machine, pid, known), met = halts?.met() ?? null;
+    if (met !== null) return met;
     if (!now) return `process ${pid} has ended`;
     if (run.program_of(pid) !== program) return `process ${pid} runs another program now`;
     return run.current === pid && addresses.includes(now.pc) && ends(how, from, now) ? "" : null;
   };
-  const stops = () => (run.current === pid ? own : none);
+  const stops = () => joined(run.current === pid ? own : NONE, halts?.stops() ?? NONE);
   return plan.go_on({ at_once: AT_ONCE, stops, ended }) ?? "the line did not end in 30 million Runs";
 }
 

@@ -83,15 +83,8 @@ export class Reach {
     if (told.kind === KIND.IDLE) this.still_from ??= run.at - 1;
     else if (told.kind === KIND.TICK) this.still += this.still_from === null ? 0 : 1;
     else if (told.kind !== KIND.NONE) { this.still_from = null; this.still = 0; }
-    if (this.still < STILL || this.sleeps_by_the_clock()) return;
+    if (this.still < STILL || this.plan.sleeps_by_the_clock()) return;
     run.go(this.still_from);
     this.is_there = true;
-  }
-
-  /** Whether a process sleeps until a tick. */
-  sleeps_by_the_clock() {
-    const { machine } = this.run;
-    const sleeps = ({ asleep, call }) => asleep && call && call_name(call.number) === "sleep";
-    return machine.pids().some((pid) => sleeps(machine.process(pid)));
   }
 }

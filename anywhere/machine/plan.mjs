@@ -1,4 +1,5 @@
 // The order of events by which a run goes on.
+import { call_name } from "./calls.mjs";
 import { EVENT, KIND } from "./machine.mjs";
 
 export const GONE = "process 1 is gone: nobody runs again";
@@ -120,9 +121,16 @@ export class Plan {
       const words = ended(kind);
       if (words !== null) return words;
       idle = kind === KIND.IDLE ? idle + 1 : kind === KIND.TICK || kind === KIND.NONE ? idle : 0;
-      if (idle > MOST_IDLE) return "nobody may run: all wait, maybe for keys";
+      if (idle > MOST_IDLE && !this.sleeps_by_the_clock()) return "nobody may run: all wait, maybe for keys";
     }
     return null;
+  }
+
+  /** Whether a process sleeps until a tick. */
+  sleeps_by_the_clock() {
+    const { machine } = this.run;
+    const sleeps = ({ asleep, call }) => asleep && call && call_name(call.number) === "sleep";
+    return machine.pids().some((pid) => sleeps(machine.process(pid)));
   }
 
   tick() {

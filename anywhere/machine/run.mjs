@@ -1,6 +1,7 @@
 // A run: a machine, what came of each event since it was booted, and ways forward and back. The machine stands after
 // `at` events; the record may go on beyond, after a step back, and is cut there by the first event that differs.
 import { KIND, EVENT } from "./machine.mjs";
+import { stands_before } from "./break_points.mjs";
 import { Copies } from "./copies.mjs";
 import { Names } from "./program_names.mjs";
 import { Record } from "./record.mjs";
@@ -181,11 +182,17 @@ export class Run {
       for (const stop = Math.min(end, until); this.at < stop; ) {
         const told = event === EVENT.RUN ? this.run_again(stop, stops, hear) : this.send_again(event, byte, hear);
         this.at += told.sent;
-        if (told.met) return true;
+        if (told.met || (told.last && this.stands_at(stops))) return true;
       }
       if (this.at >= until) break;
     }
     return false;
+  }
+
+  /** Whether what is no instruction, as an exec or a turn, has led to a stop. */
+  stands_at(stops) {
+    const told = stops?.() ?? null;
+    return told !== null && stands_before(this.machine, told);
   }
 
   run_again(stop, stops, hear) {

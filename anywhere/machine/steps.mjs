@@ -3,7 +3,7 @@
 import { KIND } from "./machine.mjs";
 import { bits_of } from "./record.mjs";
 
-const AT_ONCE = 100000; // Runs of one call of the module
+export const AT_ONCE = 100000; // Runs of one call of the module
 
 const IS = {
   step: (kind) => kind <= KIND.FAULT,

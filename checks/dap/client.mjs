@@ -1,5 +1,6 @@
 // A client of the debug adapter: it starts `node xv.mjs --dap`, sends requests, and waits for what comes.
 import { spawn } from "node:child_process";
+import { appendFileSync } from "node:fs";
 import { fileURLToPath } from "node:url";
 import { Reader, Writer } from "../../anywhere/editor/protocol.mjs";
 
@@ -7,14 +8,17 @@ const XV = fileURLToPath(new URL("../../xv.mjs", import.meta.url));
 const PATIENCE = 1000 * Number(process.env.PATIENCE ?? 60);
 
 export class Client {
-  constructor(cwd) {
-    this.adapter = spawn(process.execPath, [XV, "--dap"], { cwd, stdio: ["pipe", "pipe", "inherit"] });
+  constructor(cwd, xv = XV) {
+    this.adapter = spawn(process.execPath, [xv, "--dap"], { cwd, stdio: ["pipe", "pipe", "inherit"] });
     this.writer = new Writer((text) => this.adapter.stdin.write(text));
     this.waiting = [];
     this.heard = []; // events that nobody has waited for yet
     this.output = "";
     const reader = new Reader((message) => this.take(message));
-    this.adapter.stdout.on("data", (bytes) => reader.take(bytes));
+    this.adapter.stdout.on("data", (bytes) => {
+      if (process.env.HEARD) appendFileSync(process.env.HEARD, bytes); // for who looks at all that came
+      reader.take(bytes);
+    });
     this.ended = new Promise((tell) => this.adapter.on("exit", tell));
   }
 

@@ -1,12 +1,23 @@
 // Conversations of an editor with the debug adapter, told in lines: checks/dap/run.sh compares them with told.txt.
+import { mkdtempSync, readFileSync, rmSync, writeFileSync } from "node:fs";
+import { tmpdir } from "node:os";
+import { join } from "node:path";
+import { pathToFileURL } from "node:url";
 import { Client } from "./client.mjs";
 
 const WC = { path: "programs/c/src/wc.c" }, HELLO = { path: "programs/examples/hello/init.s" };
-const say = (...words) => console.log(words.join(" "));
+const LOOP = { path: "programs/examples/fork/init.s" };
+const room = mkdtempSync(join(tmpdir(), "dap-")); // for files that the conversations leave
+process.on("exit", () => rmSync(room, { recursive: true }));
 
-async function begun(launch, before = async () => {}) {
+/** Says words, without the paths of this host. */
+function say(...words) {
+  console.log(words.join(" ").replaceAll(process.cwd(), ".").replaceAll(room, "ROOM"));
+}
+
+async function begun(launch, before = async () => {}, words = { adapterID: "xv" }) {
   const client = new Client(process.cwd());
-  await client.ask("initialize", { adapterID: "xv" });
+  await client.ask("initialize", words);
   await client.event("initialized");
   await client.ask("launch", launch);
   await before(client);
@@ -32,6 +43,17 @@ async function variables(client, threadId, scope, names) {
   }
 }
 
+/** Asks in the debug console, and says what is answered. */
+async function evaluated(client, expression, context = "repl") {
+  await client.ask("evaluate", { expression, context })
+    .then(({ result }) => say(`${expression}:`, result), ({ message }) => say(`${expression}: refused:`, message));
+}
+
+/** A request that may be refused, in words. */
+async function tried(client, command, args) {
+  await client.ask(command, args).then(() => say(command, "is taken"), ({ message }) => say(`${command}:`, message));
+}
+
 async function left(client) {
   await client.ask("disconnect");
   say("left with", await client.ended);
@@ -44,11 +66,9 @@ async function refusals() {
     {}, { program: 3 }, { program: "programs/examples/hello/nothing.s" }, { program: HELLO.path, frames: 3 },
     { program: HELLO.path, clock: "noon" }, { program: "README.md" }, { program: HELLO.path, quantum: 1.5 },
   ];
-  const tried = [...wrong.map((it) => ["launch", it]), ["threads", {}], ["attach", {}], ["sing", {}]];
-  for (const [command, words] of tried) {
-    const told = ({ message }) => say(`${command}:`, message.replace(process.cwd(), "."));
-    await client.ask(command, words).then(() => say(command, "is taken"), told);
-  }
+  wrong.push({ program: "programs/c/src/wc.c" }, { program: HELLO.path, replay: "VERSION" });
+  const all = [...wrong.map((it) => ["launch", it]), ["threads", {}], ["attach", {}], ["sing", {}], ["writeMemory", {}]];
+  for (const [command, words] of all) await tried(client, command, words);
   await left(client);
 }
 
@@ -62,12 +82,15 @@ async function pipeline() {
   const pid = await stopped(client, "first", await client.event("stopped"));
   for (const { name } of (await client.ask("threads")).threads) say("   ", name);
   await variables(client, pid, "Kernel", ["state", "program", "parent", "descriptors"]);
-  for (const how of ["next", "next", "stepBack", "stepOut", "stepBack", "stepIn"]) {
+  await stopped(client, "a step to a break point", await client.stop_after("stepOut", { threadId: pid }));
+  await client.ask("setBreakpoints", { source: WC, breakpoints: [] });
+  for (const how of ["stepBack", "next", "stepBack", "stepOut", "stepBack", "stepIn"]) {
     await stopped(client, how, await client.stop_after(how, { threadId: pid }));
   }
   const by_instruction = { threadId: pid, granularity: "instruction" };
   await stopped(client, "one instruction", await client.stop_after("next", by_instruction));
   await variables(client, pid, "Registers", ["pc", "sp", "a0"]);
+  await client.ask("setBreakpoints", { source: WC, breakpoints: [{ line: 24 }] });
   await stopped(client, "to the first again", await client.stop_after("continue", { threadId: pid }));
   await stopped(client, "back to the beginning", await client.stop_after("reverseContinue", { threadId: pid }));
   await client.ask("setBreakpoints", { source: WC, breakpoints: [] });
@@ -95,10 +118,7 @@ async function stops() {
   await client.ask("setExceptionBreakpoints", { filters: ["fault"], filterOptions });
   for (let k = 0; k < 3; k++) await stopped(client, "a call", await client.stop_after("continue", { threadId: 1 }));
   await client.ask("setExceptionBreakpoints", { filters: ["fault"] });
-  for (const name of ["sp", "a0", "_start", "nothing", "x 0 8", "at", "goto 2"]) {
-    await client.ask("evaluate", { expression: name, context: "repl" })
-      .then(({ result }) => say(`${name}:`, result), ({ message }) => say(`${name}:`, message));
-  }
+  for (const name of ["sp", "a0", "_start", "nothing", "x 0 8", "at", "goto 2"]) await evaluated(client, name);
   await stopped(client, "event 2", await client.event("stopped"));
   const { dataId } = await client.ask("dataBreakpointInfo", { name: "0x2fd0" });
   const { breakpoints } = await client.ask("setDataBreakpoints", { breakpoints: [{ dataId, accessType: "write" }] });
@@ -118,7 +138,105 @@ async function typed() {
   await left(client);
 }
 
-for (const [name, plays] of Object.entries({ refusals, pipeline, fault, stops, typed })) {
+/** Memory and instructions, and break points of the other kinds. */
+async function looked() {
+  const client = await begun({ programs: "programs/bin", keys: "echo hi\nexit\n" });
+  await client.event("stopped");
+  const names = { breakpoints: [{ name: "echo:main" }, { name: "nothing" }] };
+  const { breakpoints: told } = await client.ask("setFunctionBreakpoints", names);
+  for (const { verified, message } of told) say(verified, message ?? "");
+  const pid = await stopped(client, "a function of another program", await client.stop_after("continue"));
+  const { stackFrames: [{ instructionPointerReference: at }] } = await client.ask("stackTrace", { threadId: pid });
+  const some = { memoryReference: at, instructionOffset: -1, instructionCount: 3 };
+  const { instructions } = await client.ask("disassemble", some);
+  for (const it of instructions) {
+    say("   ", it.address, it.symbol ?? "", it.instruction, it.location?.name ?? "", it.line ?? "");
+  }
+  const { data, unreadableBytes } = await client.ask("readMemory", { memoryReference: at, count: 8 });
+  say("   ", Buffer.from(data, "base64").toString("hex"), unreadableBytes, "can't be read");
+  await client.ask("setInstructionBreakpoints", { breakpoints: [{ instructionReference: at, offset: 12 }] });
+  await stopped(client, "an instruction", await client.stop_after("continue"));
+  await client.ask("setInstructionBreakpoints", { breakpoints: [] });
+  const { dataId, description } = await client.ask("dataBreakpointInfo", { name: "sp" });
+  say(description);
+  await client.ask("setDataBreakpoints", { breakpoints: [{ dataId, condition: "a0 == 99" }] });
+  await client.ask("setFunctionBreakpoints", { breakpoints: [] });
+  const part = { source: { path: "programs/c/src/echo.c" }, line: 1, endLine: 12 };
+  const { breakpoints } = await client.ask("breakpointLocations", part);
+  say("lines:", breakpoints.map((it) => it.line).join(" "));
+  await evaluated(client, "sp", "hover");
+  await evaluated(client, "type x", "hover");
+  await client.ask("continue");
+  say("ended with", (await client.event("exited")).exitCode);
+  await left(client);
+}
+
+/** A run that is saved is played again by a launch, and stops at the same places; ways forth and back in it. */
+async function recorded() {
+  const kept = join(room, "run.txt");
+  const wanted = { programs: "programs/bin", keys: "echo one | wc\nexit\n", stopAtEnd: true };
+  const first = await begun({ ...wanted, stopOnEntry: false });
+  await stopped(first, "the end", await first.event("stopped"));
+  await evaluated(first, `save ${kept}`);
+  await evaluated(first, `save ${kept}`);
+  await left(first);
+  const client = await begun({ programs: "programs/bin", replay: kept, clock: "rounds", stopAtEnd: true });
+  await stopped(client, "entry", await client.event("stopped"));
+  await client.ask("setFunctionBreakpoints", { breakpoints: [{ name: "wc:_start" }, { name: "sh:_start" }] });
+  for (const how of ["continue", "continue", "continue", "reverseContinue", "reverseContinue", "continue"]) {
+    await stopped(client, how, await client.stop_after(how));
+    await evaluated(client, "at");
+  }
+  for (const way of ["goto nowhere", "goto 99999999", "goto exit.2"]) await evaluated(client, way);
+  await stopped(client, "the second end", await client.event("stopped"));
+  const { targets } = await client.ask("gotoTargets", { source: WC, line: 24 });
+  say(targets.map((it) => it.label).join("; "));
+  await stopped(client, "the last time", await client.stop_after("goto", { targetId: targets[1].id }));
+  say(client.output.trim());
+  await left(client);
+  writeFileSync(kept, readFileSync(kept, "utf8").replace(/program [0-9a-f]{4}/, "program 0000"));
+  const other = new Client(process.cwd());
+  await tried(other, "launch", { programs: "programs/bin", replay: kept });
+  await left(other);
+}
+
+/** An editor that sets break points before it launches, counts lines from 0, and names files by addresses. */
+async function early() {
+  const client = new Client(process.cwd()), source = { path: String(pathToFileURL(LOOP.path)) };
+  await client.ask("initialize", { linesStartAt1: false, columnsStartAt1: false, pathFormat: "uri" });
+  const { breakpoints: [first] } = await client.ask("setBreakpoints", { source, breakpoints: [{ line: 8 }] });
+  say(first.verified, first.message, first.line);
+  await client.ask("configurationDone");
+  await client.ask("launch", { program: LOOP.path, keys: "", stopOnEntry: false });
+  const { reason, breakpoint } = await client.event("breakpoint");
+  say(reason, breakpoint.verified, breakpoint.line, breakpoint.id === first.id);
+  const body = await client.event("stopped"), { stackFrames: [top] } = await client.ask("stackTrace", body);
+  const is_own = [body.hitBreakpointIds[0] === first.id, top.source.path === source.path];
+  say(body.reason, ...is_own, "line", top.line, "column", top.column);
+  await client.ask("restart");
+  await stopped(client, "again", await client.event("stopped"));
+  await left(client);
+}
+
+/** What is asked while the machine plays, and a run of which nobody looks at anything. */
+async function playing() {
+  const client = await begun({ programs: "programs/bin", stopOnEntry: false });
+  await client.until_output("$ ");
+  await tried(client, "next", { threadId: 1 });
+  await tried(client, "stackTrace", { threadId: 77 });
+  await evaluated(client, "goto 3");
+  await evaluated(client, "key echo \\x41é\\n");
+  await client.until_output("Aé\n$ ");
+  say("letters of two bytes are shown");
+  await client.ask("terminate");
+  await client.event("terminated");
+  await tried(client, "launch", { program: HELLO.path, noDebug: true });
+  say("ended with", (await client.event("exited")).exitCode);
+  await left(client);
+}
+
+const CONVERSATIONS = { refusals, pipeline, fault, stops, typed, looked, recorded, early, playing };
+for (const [name, plays] of Object.entries(CONVERSATIONS)) {
   say(`== ${name}`);
   await plays();
 }

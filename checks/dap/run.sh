@@ -1,6 +1,6 @@
 #!/bin/sh
-# Plays conversations of an editor with the debug adapter (`node xv.mjs --dap`), and compares what it answers
-# with checks/dap/told.txt; `run.sh --write` writes that. It needs Node 18.17 alone. PATIENCE is how many seconds an answer may
+# Plays conversations of an editor with the debug adapter (`node xv.mjs --dap`), and compares what it answers with
+# checks/dap/told.txt; `run.sh --write` writes that. It needs Node 18.17 alone. PATIENCE is how many seconds an answer may
 # take, 60 without it. The status is 1 if something differs.
 cd "$(dirname "$0")/../.." || exit 2
 if [ "${1-}" = --write ]; then
