@@ -11,6 +11,9 @@ import prover
 import rooms
 import rows
 import table
+import taken
+import try_class
+import try_packs
 import try_refusals
 from limits import OverLimit
 from player import SAME, UNTRIED, WRONG
@@ -115,7 +118,7 @@ def try_bodies(lab, words, way):
         yield from played(lab, stored, found)
         yield from told(found, words)
     if "--play" not in words:
-        if rooms.missing_below(lab) and not way.libraries:
+        if rooms.missing_below(lab) and not taken.folder_for(lab, way):
             raise LabError(f"{lab.name}: {', '.join(rooms.missing_below(lab))} aren't built: ./lab prepare {lab.name}")
         found = {}
         yield from proved(lab, stored, found, words, way)
@@ -151,6 +154,10 @@ def main(words):
         return try_refusals.main()
     if "--notation" in words:
         return notation.main()
+    if "--packs" in words:
+        return try_packs.main()
+    if "--class" in words:
+        return try_class.main([it for it in words if it != "--class"])
     way = Way()
     if "--from" in words:
         at = words.index("--from")

@@ -2,6 +2,7 @@
 import dataclasses
 import re
 
+import places
 import player
 import prover
 from limits import OverLimit
@@ -80,7 +81,8 @@ def goal_told(lab, proof, goal, first):
 def open_lines(lab, proof, play, first):
     """What is open, clause by clause, and what was played."""
     goals = [it for it in proof.goals if it]
-    lines = [goal_told(lab, proof, it, first) for it in dict.fromkeys(goals)]
+    lines = [f"{places.NAME}:{number}: {why[:300]}" for number, why in proof.mistakes[:5]]
+    lines += [goal_told(lab, proof, it, first) for it in dict.fromkeys(goals)]
     lines = lines or ["the prover has no proof of this form of code: " + last_words(proof.text, lab)]
     return [*lines, told_of_play(play)] if play else lines
 
@@ -122,12 +124,15 @@ def placed(lab, error, first):
     return f"{file}:{line}: {why}"
 
 
-def proved_body(lab, body, way):
-    """What the prover says of one body, and the line before its first in what was checked."""
+def proved_body(lab, body, way, proof=None):
+    """What the prover says of one body, with what the student proves beside it; and the line before its first in what was
+    checked."""
     with room_for(lab, "proof") as room:
         text, start = lab.with_body(body)
         room.write_code(text)
         room.drop_proof()
+        if proof:
+            return prover.prove_own(lab, room, proof, way), start
         return prover.prove(lab, room, [lab.function], way)[lab.function], start
 
 
@@ -158,7 +163,7 @@ def by_play_alone(play, missing):
     return Verdict(OPEN, (f"this is the play's verdict alone. {told_of_play(play)}", f"no proof was tried: {missing}"))
 
 
-def judge(lab, body, line, way=Way(), missing=""):
+def judge(lab, body, line, way=Way(), missing="", proof=None):
     """The verdict on one body. It is played first, which needs no proof of anything; a body with a case against it isn't
     proved then. `missing` says what has to be there before a proof, if it isn't: then the play alone decides."""
     way.say("playing it, in a build without proofs")
@@ -170,13 +175,13 @@ def judge(lab, body, line, way=Way(), missing=""):
         return by_play_alone(play, missing)
     way.say(f"the play's verdict, before any proof: {told_of_play(play)}")
     way.say("proving")
-    return with_proof(lab, body, line, play, way)
+    return with_proof(lab, body, line, play, way, proof)
 
 
-def with_proof(lab, body, line, play, way):
-    """The verdict on a body that was played, after its proof."""
+def with_proof(lab, body, line, play, way, own=None):
+    """The verdict on a body that was played, after its proof, with what the student proves beside it."""
     try:
-        proof, start = proved_body(lab, body, way)
+        proof, start = proved_body(lab, body, way, own)
     except OverLimit as over:
         return Verdict(OPEN, (f"{OVER_THE_LIMIT} in the proof: {over}", told_of_play(play)))
     return verdict_of(lab, proof, play, (start, line))
