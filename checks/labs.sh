@@ -11,7 +11,7 @@
 # libraries that a gate or `rt check` proved in another CLONE. --wrong-too also sees that no wrong body is proved; --unlike-too
 # also tries to prove the right bodies that are unlike the crate's own. What each body comes to has to be what the table
 # checks/labs/verdicts.txt has; --write writes it there. -v shows the cases.
-# --refusals hands in 95 answers of all sorts, most of which are to be refused, some of them as a class, and six outcomes of a
+# --refusals hands in 118 answers of all sorts, most of which are to be refused, some of them as a class, and six outcomes of a
 # play; --notation compares the signs of the labs' files with labs/NOTATION.md. Both prove nothing, and take seconds, without a
 # kit. --class grades a class by `lab grade`, of which one answer names another lab, one is of a lab that may not be prepared, one
 # takes 1 GB of stack and one never ends: each folder has to get its row. It takes some minutes.

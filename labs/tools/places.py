@@ -156,6 +156,7 @@ def put(lab, room, proof):
     files = {}
     if proof.lemmas:
         files[f"proofs/{MODULE}.antt"] = lemma_file(lab, proof)
+        (room.crate / "proofs").mkdir(exist_ok=True)
         with open(room.crate / "proofs" / "Lib.antt", "a", encoding="utf-8") as lib:
             lib.write(f"pub mod {MODULE}\n")
     if proof.loops:
@@ -163,6 +164,11 @@ def put(lab, room, proof):
     for path, told in files.items():
         write(room.crate / path, told)
     return files
+
+
+def stored(lab, kind, name):
+    """What is proved beside a stored body: NAME.proof.txt, a whole proof.antt; nothing if the lab asks for no proof."""
+    return proof_of(lab, (lab.home / kind / f"{name}.proof.txt").read_text(encoding="utf-8")) if is_one(lab) else None
 
 
 def mistakes(text, files):
