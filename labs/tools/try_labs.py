@@ -19,7 +19,7 @@ import try_refusals
 import verdicts
 from limits import OverLimit
 from player import SAME, UNTRIED, WRONG
-from prover import PROVED
+from prover import OPEN, PROVED
 from rooms import room_for
 from source import Lab, LabError, all_labs
 from way import Way
