@@ -21,6 +21,11 @@
 #
 # cuts a version: what stands below [Unreleased] in CHANGELOG.md gets VERSION and today's date as its heading, and VERSION,
 # package.json and the names of archives in the pages follow. Nothing is committed without --commit.
+#
+#   release.sh --labs FOLDER [NAME..]
+#
+# adds a pack for the labs to the release in FOLDER, nektavoly-VERSION-labs.tar.xz, and its sum to the others: what `lab pack`
+# makes in this clone, in which `rt ci` has to have passed. Its bytes aren't the same each time.
 set -euo pipefail
 export LC_ALL=C TZ=UTC
 umask 022
@@ -36,7 +41,8 @@ stop() {
 }
 
 usage() {
-    echo 'usage: release.sh [FOLDER], or release.sh --cut VERSION [--commit]; the head of release.sh says more' >&2
+    echo 'usage: release.sh [FOLDER], release.sh --cut VERSION [--commit], or release.sh --labs FOLDER [NAME..]; the head of' \
+        'release.sh says more' >&2
     exit 2
 }
 
@@ -78,8 +84,25 @@ folder_for() {
     mkdir -p -- "$into" && echo "$into"
 }
 
+# Adds a pack for the labs to a release.
+add_labs() {
+    local into=$1 pack
+    pack=nektavoly-$(cat VERSION)
+    [ -e "$into/$pack.sha256" ] || stop "$into has no release of this version: $pack.sha256"
+    ! grep -q -e "-labs.tar.xz" "$into/$pack.sha256" || stop "$into has a pack for the labs already"
+    ./lab pack "$into/$pack-labs.tar.xz" "${@:2}"
+    (cd "$into" && sha256sum "$pack-labs.tar.xz" >>"$pack.sha256")
+}
+
 into=
 case ${1-} in
+    --labs)
+        [ $# -ge 2 ] || usage
+        into=$(realpath -m -- "$2")
+        cd "$(dirname "$0")"
+        add_labs "$into" "${@:3}"
+        exit
+        ;;
     --cut)
         case $#${3-} in 2 | 3--commit) ;; *) usage ;; esac
         cd "$(dirname "$0")"

@@ -33,6 +33,8 @@ tell_others() {
     tell wrong-bodies/run.sh 'wrong-bodies/run.sh --definitions [CRATE..]' 'a law, worked case or contract refuses turned definitions: 1 to 10 minutes each'
     tell labs.sh 'labs.sh [NAME..]' 'the labs: right bodies are proved, wrong ones told by a case: 2 to 5 minutes each; needs rt'
     tell labs.sh 'labs.sh --play [NAME..]' 'the labs: all bodies are played, and no right one is called wrong: a minute each; needs rt'
+    tell labs.sh 'labs.sh --class' 'a class in which some mean ill: each folder has its row: some minutes; needs rt'
+    tell labs.sh 'labs.sh --packs' 'packs for the labs that are spoilt: none is taken: seconds; needs rt'
     tell hostile/run.sh 'hostile/run.sh' 'each refused growth of memory, read and write is answered: a minute'
     tell beside-qemu/run.sh 'beside-qemu/run.sh' '1,000 random programs do what they do under QEMU: some minutes; needs qemu-user'
     tell beside-qemu/run.sh 'beside-qemu/run.sh --steps 10000000' 'as many of them as it takes for ten million instructions: some minutes; needs the same'

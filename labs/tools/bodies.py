@@ -179,6 +179,8 @@ def handed_out(lab):
         is_asked = name.removesuffix(".antt") in lab.said.get("specs", [name.removesuffix(".antt")])
         if is_asked and name != "Lib.antt" and f"specs/{name}" != lab.said.get("row"):
             yield f"read/specs/{name}", file.read_text(encoding="utf-8")
+    for name in lab.said.get("read_proofs", []):
+        yield f"read/{name}.antt", (lab.file_of("proofs") / f"{name}.antt.txt").read_text(encoding="utf-8")
     for name in lab.said.get("read", []):
         yield f"read/{name.split('/')[-1]}", (TOP / "crates" / name).read_text(encoding="utf-8")
 

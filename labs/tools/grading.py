@@ -8,6 +8,7 @@ import sys
 import bodies
 import laws
 import limits
+import places
 import rows
 import verdicts
 from bodies import Refused
@@ -37,18 +38,18 @@ def name_of(folder):
 
 
 def read_all(folder):
-    """The answer in a folder, and the row beside it if its lab asks for one."""
+    """The answer in a folder, and beside it the row and the proof, if its lab asks for one."""
     if has_laws(folder):
-        return laws.read_answer(bodies.text_of(os.path.join(folder, laws.NAME), laws.NAME)), None
+        return laws.read_answer(bodies.text_of(os.path.join(folder, laws.NAME), laws.NAME)), None, None
     answer = bodies.read_answer(folder)
-    return answer, rows.read_row(answer.lab, folder) if rows.is_one(answer.lab.name) else None
+    return answer, rows.read_row(answer.lab, folder) if rows.is_one(answer.lab.name) else None, places.read(answer.lab, folder)
 
 
 def judged(folder, missing_of, way):
     """The lab's name of a folder, and the verdict on its body, or on the law and the case that it names. missing_of tells what
     has to be prepared before a proof."""
     try:
-        answer, row = read_all(folder)
+        answer, row, proof = read_all(folder)
     except Refused as refused:
         return name_of(folder), Verdict(REFUSED, (str(refused),))
     lab, missing = answer.lab, missing_of(answer.lab, way)
@@ -56,7 +57,7 @@ def judged(folder, missing_of, way):
         return lab.name, laws.judge(answer, way, missing)
     if row is not None:
         return lab.name, rows.judge(lab, answer.body, answer.line, row, way, missing)
-    return lab.name, verdicts.judge(lab, answer.body, answer.line, way, missing)
+    return lab.name, verdicts.judge(lab, answer.body, answer.line, way, missing, proof)
 
 
 def messages_of(name):

@@ -4,13 +4,15 @@ import pathlib
 import shutil
 import subprocess
 import sys
-import tempfile
 
 import bodies
 import grading
 import laws
+import packs
+import places
 import rooms
 import rows
+import taken
 from bodies import Refused
 from limits import Limits
 from prover import PROVED
@@ -23,10 +25,11 @@ HELP = """usage: lab                     the labs, from the first on
        lab run FOLDER FILE..   runs programs on the kernel with your body in it, in a build without proofs
        lab grade FOLDER..      CSV: each folder's lab, verdict and reason
        lab prepare [NAME..]    proves what lies below the labs of these names, once in a clone (no NAME: below all labs)
-       lab pack FILE [NAME..]  what `lab prepare` made for these labs, as an archive FILE (.tar.xz) for a class (no NAME: for all)
-       lab unpack FILE         puts what is in such an archive into a clone of the same version, with the same kit
+       lab fetch FILE [SUM]    takes a pack of what proofs need, if it is of this kit and of this clone's sources, in place of
+                               `lab prepare`; it is refused if its SHA-256 isn't SUM
+       lab pack FILE [NAME..]  makes a pack FILE (.tar.xz) for these labs (no NAME: for all), of what `rt ci` left in this clone
 
-Before the folders of `check` and `grade`:
+Before the folders of `check` and `grade`, and before the FILE of `pack`:
        --from CLONE            stands on the libraries that a gate or `rt check` proved in another clone of the same sources
        --seconds N             each run of the prover, and each play, has so many seconds (1800)
        --memory MB             and so many MB of the host's memory (8192); over a limit the verdict is open
@@ -39,7 +42,7 @@ proved, 1 if one isn't, 2 if the words or the host won't do, or a folder isn't g
 
 # The options of each command that has some.
 WAYS = ["--from", "--seconds", "--memory"]
-OPTIONS = {"check": WAYS, "grade": [*WAYS, "--jobs", "--points"]}
+OPTIONS = {"check": WAYS, "grade": [*WAYS, "--jobs", "--points"], "pack": WAYS}
 
 # How long a crate takes the first time, in seconds, on a host of 4 processors that does nothing else.
 SECONDS = {"xk_base": 50, "phys_ram": 30, "frame_list": 30, "file_table": 60, "pipe_core": 45, "console_core": 50,
@@ -87,6 +90,7 @@ def make_folder(name, folder=None):
     place = laws.NAME if laws.is_one(name) else bodies.ANSWER
     files = laws.files_of(lab) if laws.is_one(name) else [(place, lab.sheet()), *bodies.handed_out(lab)]
     files = [*files, *([(rows.NAME, rows.text_with(lab, ""))] if rows.is_one(name) else [])]
+    files = [*files, *([(places.NAME, places.sheet(lab))] if places.is_one(lab) else [])]
     for file, text in files:
         (home / file).write_text(text, encoding="utf-8")
     print(f"{home}/README.md is the page of the lab, {home}/{place} the place for your answer.")
@@ -97,13 +101,15 @@ def make_folder(name, folder=None):
 
 def missing(lab, way=Way()):
     """What has to be built before a body of the lab can be proved, in words; nothing if all is there."""
-    names = [] if way.libraries else rooms.missing_below(lab)
+    names = [] if taken.folder_for(lab, way) else rooms.missing_below(lab)
     if not names:
         return ""
     minutes = sum(SECONDS.get(it, 60) for it in [*names, lab.crate]) // 60 + 1
+    stale = taken.stale_part(lab)
     return (
-        f"before a body can be proved, {', '.join(names)} have to be: `lab prepare {lab.name}` does it, once, in some "
-        f"{minutes} minutes on a host of 4 processors that does nothing else"
+        f"{f'the pack that was fetched has no {stale} of these sources; ' if stale else ''}"
+        f"before a body can be proved, {', '.join(names)} have to be: `lab fetch FILE` takes a pack of them, if you have one; "
+        f"`lab prepare {lab.name}` proves them, once, in some {minutes} minutes on a host of 4 processors that does nothing else"
     )
 
 
@@ -124,47 +130,6 @@ def prepare(names):
             tail = done.stdout.decode(errors="replace").strip().split("\n")[-3:]
             raise LabError(f"{crate} of this clone isn't proved, so it can't be prepared: {' '.join(tail)}")
     say("all is there")
-
-
-def kept_work(lab):
-    """What a lab needs of what `rt` keeps: the libraries below its crate, and the work of that crate, if it is the clone's."""
-    paths = [f"crates/{name}/out/rlib" for name in lab.below()]
-    return paths if lab.is_own else [*paths, f"crates/{lab.crate}/out/incremental"]
-
-
-def kept_works(names):
-    """What the labs of these names need of what `rt` keeps."""
-    return list(dict.fromkeys(path for it in names for path in kept_work(Lab(it))))
-
-
-def pack(file, names):
-    """Packs what `lab prepare` made for the labs of these names."""
-    paths = kept_works(names)
-    absent = [it for it in paths if not (TOP / it).is_dir()]
-    if absent:
-        raise LabError(f"{absent[0]} isn't there: `lab prepare` makes it")
-    say("packing, some minutes")
-    how = ["--sort=name", "--owner=0", "--group=0", "--hard-dereference"]
-    words = ["tar", "-C", str(TOP), *how, "-cJf", os.path.abspath(file), *paths]
-    if subprocess.run(words, env={**os.environ, "XZ_OPT": "-T0"}, check=False).returncode:
-        raise LabError(f"{file} couldn't be written")
-
-
-def unpack(file):
-    """Takes out of an archive what labs need, and nothing else. What is kept may be linked to what another clone keeps, so
-    a folder takes the place of the old one, whose files stay as they are."""
-    with tempfile.TemporaryDirectory(dir=TOP, prefix=".unpacked-") as home:
-        words = ["tar", "-C", home, "-xJf", os.path.abspath(file)]
-        is_read = subprocess.run(words, check=False).returncode == 0
-        found = [it for it in kept_works(all_labs()) if is_read and os.path.isdir(os.path.join(home, it))]
-        if not found:
-            raise LabError(f"{file} isn't such an archive")
-        for path in found:
-            shutil.rmtree(TOP / path, ignore_errors=True)
-            (TOP / path).parent.mkdir(parents=True, exist_ok=True)
-            os.rename(os.path.join(home, path), TOP / path)
-    ready = [it for it in all_labs() if all((TOP / path).is_dir() for path in kept_work(Lab(it)))]
-    say(f"prepared now: {', '.join(ready)}; if the kit is another, or a crate was changed, rt proves it anew")
 
 
 def check(folder, way):
@@ -219,7 +184,7 @@ def way_of(found, tell):
     """The way to judge by, as the options have it; `tell` gets the words for who waits."""
     limits = Limits(number(found.get("--seconds", "1800"), 10**6), number(found.get("--memory", "8192"), 10**7))
     libraries = pathlib.Path(found["--from"]).resolve() if "--from" in found else None
-    if libraries and not (libraries / "crates").is_dir():
+    if libraries and not (libraries / "crates").is_dir() and not taken.parts_of(libraries):
         raise LabError(f"{libraries} is no clone: it has no crates")
     return Way(limits, libraries, tell)
 
@@ -240,14 +205,17 @@ def do(words, found):
         case ["run", folder, _, *_]:
             run(folder, words[2:])
         case ["pack", file, *names] if not file.startswith("-"):
-            pack(file, names or all_labs())
-        case ["unpack", file]:
-            unpack(file)
+            need_kit()
+            way = way_of(found, say)
+            packs.make(file, names or all_labs(), way.libraries or TOP, way)
+        case ["fetch", file, *wanted] if len(wanted) < 2 and not file.startswith("-"):
+            need_kit()
+            packs.fetch(file, *(wanted or [""]), way_of({}, say))
         case ["prepare", *names]:
             prepare(names)
         case [name, *folder] if name in all_labs() and len(folder) < 2:
             make_folder(name, *folder)
-        case [name] if not name.startswith("-") and name not in ("grade", "run", "pack", "unpack"):
+        case [name] if not name.startswith("-") and name not in ("grade", "run", "pack", "fetch"):
             raise LabError(f"there is no lab {name}; `lab` lists them")
         case _:
             print(HELP, file=sys.stderr)

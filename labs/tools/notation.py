@@ -5,6 +5,7 @@ import sys
 
 import bodies
 import laws
+import places
 from source import LABS, Lab, all_labs
 
 # What antt reads by itself, and no file brings in.
@@ -19,7 +20,10 @@ def explained():
 
 def handed_out(lab):
     """The files of a lab's folder, as pairs of name and text."""
-    return [*laws.files_of(lab)] if laws.is_one(lab.name) else [("answer.rs", lab.sheet()), *bodies.handed_out(lab)]
+    if laws.is_one(lab.name):
+        return [*laws.files_of(lab)]
+    asked = [(places.NAME, places.sheet(lab))] if places.is_one(lab) else []
+    return [("answer.rs", lab.sheet()), *asked, *bodies.handed_out(lab)]
 
 
 def clauses_of(text):

@@ -29,7 +29,7 @@ class Play:
 
 def module_of(lab, name):
     """The module that plays the function of this name, from the lab's play.rs."""
-    files = [LABS / "tools" / "dice.rs", lab.home / "play.rs"]
+    files = [LABS / "tools" / "dice.rs", lab.file_of("play.rs")]
     if "scene" in lab.said:
         files.insert(1, LABS / "tools" / lab.said["scene"])
     text = "".join(it.read_text(encoding="utf-8") for it in files)

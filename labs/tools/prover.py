@@ -4,6 +4,7 @@ import re
 import sys
 
 import limits
+import places
 import taken
 from source import TOP, LabError
 from way import Way
@@ -17,19 +18,23 @@ PROVED, OPEN, REFUSED = "proved", "open", "refused"
 @dataclasses.dataclass(frozen=True)
 class Proof:
     """What the prover says of a body: proved, open with its goals, or refused with the lines that can't be read. `asked` has
-    of goals the line of the file and what is to be shown there."""
+    of goals the line of the file and what is to be shown there; `mistakes` has the lines of the student's own proof that are
+    refused, each with what is said."""
     verdict: str
     goals: tuple = ()
     errors: tuple = ()
     text: str = ""
     asked: dict = dataclasses.field(default_factory=dict)
+    mistakes: tuple = ()
 
 
 def checked(room, way, jobs=1):
-    """What a check of the room's crate prints: by `rt check` over this clone's libraries, or over another's."""
+    """What a check of the room's crate prints: by `rt check` over this clone's libraries, or over those of a pack
+    or of another clone."""
     words = ["rt", "check", "--jobs", jobs]
-    if way.libraries:
-        words = taken.words_of_check(room.lab, room, way.libraries, jobs)
+    folder = taken.folder_for(room.lab, way)
+    if folder:
+        words = taken.words_of_check(room.lab, room, folder, jobs)
     status, text = limits.run(words, room.crate, way.limits)
     (room.home / "said.txt").write_text(text, encoding="utf-8")
     return status, text
@@ -71,19 +76,22 @@ def terms_for(lab, goal):
     return next((row["terms"] for row in lab.said.get("answers", []) if re.search(row["goal"], goal)), [])
 
 
-def write_answers(lab, room, name, tried, unfolded):
-    """Writes a function's answers: for each goal the term whose turn it is, and its `unfolding` line if it has one. A goal
-    without a term is left to the prover."""
-    home = room.proofs_of(name)
+def write_answers(lab, room, name, tried, unfolded, proof=None):
+    """Writes a function's answers: the student's own, and for each other goal the term whose turn it is, and its `unfolding`
+    line if it has one. A goal without a term is left to the prover. Gives the file's lines, as places.py has them."""
     module = ".".join(["Rattle", lab.crate, "proofs", *lab.path[:-1], name, "Goals"])
-    lines = [*lab.said.get("uses", []), f"use {module} as goal", ""]
+    own = places.answers_of(proof) if proof else {}
+    uses = dict.fromkeys([*lab.said.get("uses", []), *(places.uses_of(lab, proof) if proof else [])])
+    told = [(None, it) for it in [*uses, f"use {module} as goal", ""]]
+    for goal, lines in own.items():
+        told += [(None, f"pub {goal} : goal.{goal}"), *lines, (None, "")]
     for goal, turn in tried.items():
         terms = terms_for(lab, goal)
-        if turn < len(terms):
+        if turn < len(terms) and goal not in own:
             opened = [unfolded[goal]] if goal in unfolded else []
-            lines += [f"pub {goal} : goal.{goal}", *opened, f"{goal} c = {terms[turn]}", ""]
-    home.mkdir(parents=True, exist_ok=True)
-    (home / "Answers.antt").write_text("\n".join(lines), encoding="utf-8")
+            told += [(None, it) for it in [f"pub {goal} : goal.{goal}", *opened, f"{goal} c = {terms[turn]}", ""]]
+    places.write(room.proofs_of(name) / "Answers.antt", told)
+    return told
 
 
 def next_turn(lab, tried, goals):
@@ -104,7 +112,7 @@ def has_more(lab, goals, tried, unfolded, admitted):
 
 def ends_at_once(lab, status, text, names):
     """The Proof that a check gives to all, if it refuses the code, or proves the crate; else nothing."""
-    broken = re.search(r"^\./proofs/Lab\S*: error: .*", text, re.M)
+    broken = re.search(rf"^\./proofs/Lab(?!{places.MODULE[3:]})\S*: error: .*", text, re.M)
     if broken:
         raise LabError(f"a lemma of the lab {lab.name} doesn't fit these sources: {broken[0][:300]}")
     errors = errors_in_code(text)
@@ -114,10 +122,24 @@ def ends_at_once(lab, status, text, names):
     return {name: Proof(PROVED, text=text) for name in names} if is_proved else None
 
 
-def prove(lab, room, names, way=Way(), jobs=1, is_over=lambda text: False):
+def prove_own(lab, room, proof, way=Way()):
+    """Proves the lab's function with what the student proves beside its body."""
+    files = places.put(lab, room, proof)
+    path = str((room.proofs_of(lab.function) / "Answers.antt").relative_to(room.crate))
+
+    def answers(tried, unfolded):
+        files[path] = write_answers(lab, room, lab.function, tried, unfolded, proof)
+
+    if proof.answers:
+        answers({}, {})
+    done = prove(lab, room, [lab.function], way, answers=lambda name, *told: answers(*told))[lab.function]
+    return dataclasses.replace(done, mistakes=tuple(places.mistakes(done.text, files)))
+
+
+def prove(lab, room, names, way=Way(), jobs=1, is_over=lambda text: False, answers=None):
     """Proves the functions of these names, which stand in the room's file: a Proof for each. The first check is without an
     answer. Each further one has, for the goals that were open, the next of the lab's terms; there is none if it is over by
-    what a check said."""
+    what a check said. `answers` writes them, by a function's name."""
     tried, unfolded, asked = ({name: {} for name in names} for _ in range(3))
     while True:
         status, text = checked(room, way, jobs)
@@ -132,7 +154,7 @@ def prove(lab, room, names, way=Way(), jobs=1, is_over=lambda text: False):
         if not more:
             break
         for name in more:
-            write_answers(lab, room, name, tried[name], unfolded[name])
+            (answers or (lambda *told: write_answers(lab, room, *told)))(name, tried[name], unfolded[name])
     if not any(goals.values()):
         return {name: Proof(OPEN, goals=("",), text=text) for name in names}
     return {name: Proof(OPEN, goals[name], (), text, asked[name]) if goals[name] else Proof(PROVED, text=text) for name in names}

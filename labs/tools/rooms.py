@@ -88,7 +88,7 @@ class Room:
         if kind == "proof" and not kept.is_dir() and (old / "out" / "incremental").is_dir():
             kept.parent.mkdir(parents=True, exist_ok=True)
             shutil.copytree(old / "out" / "incremental", kept)
-        extra = self.lab.home / "proofs"
+        extra = self.lab.file_of("proofs")
         if extra.is_dir():
             for file in extra.glob("*.antt.txt"):
                 name = file.name.removesuffix(".antt.txt")

@@ -63,6 +63,9 @@ class Lab:
             self.said = json.loads((self.home / "lab.json").read_text(encoding="utf-8"))
         except (OSError, ValueError) as error:
             raise LabError(f"there is no lab {name} ({error}); ./lab lists them") from error
+        # a lab `like` another is on the same function: its play, and its lemmas, are the other's
+        self.like = Lab(self.said["like"]) if "like" in self.said else self
+        self.said = {**self.like.said, **self.said}
         self.crate, self.file, self.function = (self.said.get(it, "") for it in ("crate", "file", "function"))
         self.crate_home = self.home / "crate" if self.is_own else TOP / "crates" / self.crate
 
@@ -152,6 +155,10 @@ class Lab:
                     found.append(dep)
         add(self.crate)
         return found
+
+    def file_of(self, name):
+        """A file or folder of the lab's own, or that of the lab which it is like."""
+        return self.home / name if (self.home / name).exists() else self.like.home / name
 
     def variants(self, kind):
         """Its stored bodies, right or wrong, by their names."""

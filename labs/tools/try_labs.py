@@ -6,21 +6,27 @@ import time
 
 import laws
 import notation
+import places
 import player
 import prover
 import rooms
 import rows
 import table
+import taken
+import try_class
+import try_packs
 import try_refusals
+import verdicts
 from limits import OverLimit
 from player import SAME, UNTRIED, WRONG
-from prover import PROVED
+from prover import OPEN, PROVED
 from rooms import room_for
 from source import Lab, LabError, all_labs
 from way import Way
 
-# How many stored bodies of each kind a lab has to have, and all kinds.
+# How many stored bodies of each kind a lab has to have, and one of the track, whose bodies are judged one by one; and all kinds.
 LEAST = {"right": 5, "wrong": 6, "unlike": 3}
+LEAST_ON_TRACK = {"right": 1, "wrong": 2}
 KINDS = ["right", "open", "unlike", "wrong"]
 
 
@@ -94,6 +100,29 @@ def try_laws(lab, way):
     return not amiss
 
 
+def is_on_track(lab):
+    """Whether the lab is one of the track: it asks for a proof too, or for a body against a contract that says too little."""
+    return places.is_one(lab) or "weak" in lab.said
+
+
+def judged_one_by_one(lab, words, way):
+    """What is amiss when the stored bodies of a lab of the track are judged, each with what is proved beside it. --play leaves
+    their proofs out."""
+    missing = "the proof was left out" if "--play" in words else ""
+    for kind in KINDS:
+        for name, body in lab.variants(kind).items():
+            begun = time.time()
+            verdict = verdicts.judge(lab, body, 0, way, missing, places.stored(lab, kind, name))
+            wanted = {"right": [PROVED], "wrong": [WRONG, OPEN], "open": [OPEN], "unlike": [PROVED, OPEN]}[kind]
+            if verdict.word not in (wanted if not missing else [*wanted, OPEN]):
+                yield f"{kind}/{name} is {verdict.word}: {verdict.reason()}"
+            elif "-v" in sys.argv:
+                print(f"    {kind}/{name}: {verdict.word} {verdict.reason()}")
+            if "--write" in words and not missing:
+                table.write({(lab.name, f"{kind}/{name}"): ["", verdict.word]})
+                table.write_seconds(lab.name, f"{kind}/{name}", 1, time.time() - begun)
+
+
 def tried_rows(lab, way):
     """What is amiss when all stored rows of a lab are judged, each with the body of the lab's own crate."""
     for kind, wanted in (("right", PROVED), ("wrong", WRONG)):
@@ -108,25 +137,30 @@ def tried_rows(lab, way):
 def try_bodies(lab, words, way):
     """What is amiss with the stored bodies of a lab."""
     stored, found = bodies_of(lab), {}
-    for kind, least in LEAST.items():
+    for kind, least in (LEAST_ON_TRACK if is_on_track(lab) else LEAST).items():
         if len(stored[kind]) < least:
             yield f"{least} bodies in {kind} are wanted, and there are {len(stored[kind])}"
+    if is_on_track(lab):
+        yield from judged_one_by_one(lab, words, way)
+        return
     if "--prove" not in words:
+        begun = time.time()
         yield from played(lab, stored, found)
-        yield from told(found, words)
+        yield from told(found, words, (lab.name, "play", len(found), time.time() - begun))
     if "--play" not in words:
-        if rooms.missing_below(lab) and not way.libraries:
+        if rooms.missing_below(lab) and not taken.folder_for(lab, way):
             raise LabError(f"{lab.name}: {', '.join(rooms.missing_below(lab))} aren't built: ./lab prepare {lab.name}")
-        found = {}
+        found, begun = {}, time.time()
         yield from proved(lab, stored, found, words, way)
-        yield from told(found, words)
+        yield from told(found, words, (lab.name, "proof", len(found), time.time() - begun))
         yield from tried_rows(lab, way) if rows.is_one(lab.name) else []
 
 
-def told(found, words):
-    """Writes what was found into the table, or tells what differs from it."""
+def told(found, words, took):
+    """Writes what was found into the table, and how long it took; or tells what differs from it."""
     if "--write" in words:
         table.write(found)
+        table.write_seconds(*took)
         return []
     return table.amiss(found)
 
@@ -151,6 +185,10 @@ def main(words):
         return try_refusals.main()
     if "--notation" in words:
         return notation.main()
+    if "--packs" in words:
+        return try_packs.main()
+    if "--class" in words:
+        return try_class.main([it for it in words if it != "--class"])
     way = Way()
     if "--from" in words:
         at = words.index("--from")

@@ -12,8 +12,10 @@ import tempfile
 import bodies
 import grading
 import laws
+import places
 import player
 import rows
+import verdicts
 from source import BEGIN, END, Lab, LabError
 from way import Way
 
@@ -158,6 +160,37 @@ ROWS = [
 ]
 
 
+# What stands in the places of a proof.antt, lemmas and loops, and a word of the reason why it is refused.
+PROOFS = [
+    (["more : ℕ", "more = 1"], ["invariant-loop-i l = l.i ≤ 3", "  × (l.n ≤ 2)", "decreases-loop-i l = 3 - l.i"], ""),
+    (["more : ℕ", "unfolding used", "more = elim a [ | None ↦ 1 | Some f ↦ 2 ]", "  where", "    other : ℕ"], [], ""),
+    (["use Rattle.std.proofs.Common.{cc}"], [], "none of your lemmas"),
+    (["more : ℕ", "  use Rattle.std.proofs.Common.{cc}"], [], "`use`"),
+    (["more : ⊥", "more = postulate"], [], "`postulate`"),
+    (["pub mod Other"], [], "none of your lemmas"),
+    (["syntax x = y"], [], "`syntax`"),
+    ([], ["returns c = search rules"], "none of your loops"),
+    ([], ["abbrev pub invariant-loop-i : goal.invariant-loop-i"], "none of your loops"),
+    (["more : ℕ"] * 201, [], "more than 200 lines"),
+]
+
+
+def proof_text(lemmas, loops):
+    """A proof.antt of the lab `countlemma` with these lines in its places."""
+    return places.sheet(Lab("countlemma"), places.Proof(tuple(enumerate(lemmas)), tuple(enumerate(loops))))
+
+
+def proofs():
+    """Each such file with what has to be said of it, and what is; and some that were changed around the places."""
+    read = lambda it: places.proof_of(Lab("countlemma"), it)
+    for lemmas, loops, word in PROOFS:
+        yield f"proof {lemmas} {loops}", word, reason_of(read, proof_text(lemmas, loops))
+    good = proof_text(["more : ℕ", "more = 1"], [])
+    yield "a proof without a line of signs", "signs", reason_of(read, good.replace(places.signs("loops")[1], ""))
+    yield "a proof with a line above", "was changed", reason_of(read, good.replace("\nuse ", "\nuse Rattle.std.proofs.Common.{cc}\nuse ", 1))
+    yield "a proof with a line below", "was changed", reason_of(read, good + "\nmore : ℕ\n")
+
+
 # What `rt try --test` says of a body, and what the play comes to by that.
 PLAYS = [
     ("ok", "case: one\nplayed: 7", player.SAME),
@@ -167,6 +200,22 @@ PLAYS = [
     ("FAILED", "case: one\nchecked: no-answer: the program ran out of stack\nrun=no-answer", player.OVER),
     ("FAILED", "case: one\nchecked: no-answer: the program did not end within the time limit\nrun=no-answer", player.OVER),
 ]
+
+
+# What the prover writes of a goal, and how a student is told it.
+TOLD = [
+    ("c.loop-level.table < length c.args.ram.now", "table < length ram.now"),
+    ("◌≡◌ {A = Option ℕ} (Some c.loop-n.n) (position (is_none {T = Rattle.a.B.C}) c.args.files.now)", "(Some n) ≡ (position (is_none) files.now)"),
+    ("f (◌+◌ a (g b)) c.from_bits.result", "f (a + (g b)) (the answer of from_bits)"),
+    ("map (◌+◌ a) xs", "map (◌+◌ a) xs"),
+]
+
+
+def told_in_names():
+    """How goals are told, beside how they have to be."""
+    for text, wanted in TOLD:
+        came = verdicts.in_names(text)
+        yield f"goal {text!r}", "" if came == wanted else wanted, "" if came == wanted else came
 
 
 def plays():
@@ -237,7 +286,7 @@ def main():
     """Hands in all of it."""
     cases = [(f"body {body!r}", lambda home, b=body: (home / "answer.rs").write_text(with_body(b), encoding="utf-8"), word) for body, word in BODIES]
     amiss = 0
-    told = [*((name, word, reason_for(make)) for name, make, word in [*cases, *files()]), *meanings(), *plays(), *a_class()]
+    told = [*((name, word, reason_for(make)) for name, make, word in [*cases, *files()]), *meanings(), *proofs(), *plays(), *told_in_names(), *a_class()]
     for name, word, said in told:
         if bool(said) != bool(word) or word not in said:
             amiss += 1

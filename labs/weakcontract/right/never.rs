@@ -1,0 +1,3 @@
+//! The clauses speak of `Some` alone.
+    let _ = files;
+    None

@@ -1,0 +1,2 @@
+//! The contract refuses it.
+    Some(files.len())
