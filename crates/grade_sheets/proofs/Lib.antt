@@ -1,4 +1,5 @@
 pub mod Marking
+pub mod Taken
 mod Inside
 mod Numerals
 mod Worked

@@ -1,0 +1,7 @@
+use Rattle.std.proofs.Common.{◌≡◌, take, map}
+use Rattle.std.specs.Prelude.{count_by}
+use Rattle.grade_sheets.specs.Answers.{asks_by_number}
+use Rattle.grade_sheets.proofs.texts.count_numbered.Given as goal
+
+abbrev pub invariant-loop-line : goal.invariant-loop-line
+invariant-loop-line l = l.found ≡ count_by asks_by_number (map (λ line. line.now) (take l.line-index l.lines))
