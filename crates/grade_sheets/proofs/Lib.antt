@@ -1,3 +1,4 @@
+mod Prelude
 pub mod Marking
 pub mod Taken
 mod Inside

@@ -1,12 +1,8 @@
 -- Worked cases of the definitions.
-use Rattle.std.specs.Prelude.{◌≡◌, ℕ, zero, suc, ◌+◌, ◌<◌, ◌≤◌, true, false, [], ◌∷◌, length, slice_index, None, Some, String, string_bytes, codes, refl}
+use Rattle.grade_sheets.proofs.Prelude.{[], ℕ, ◌+◌, ◌<◌, ◌∷◌, ◌≡◌, ◌≤◌, AreRising, arith, asks, begins_note, codes, false, first_word, if_said, length, lines_if, None, number_in, numbers_in}
+use Rattle.grade_sheets.proofs.Prelude.{question_of, refl, refusal_or, says, short_answer, slice_index, Some, String, string_bytes, suc, true, whole_answer, zero}
 use Rattle.std.specs.declared.alloc.Global.{Global}
-use Rattle.std.proofs.Common.{arith}
-use Rattle.grade_sheets.specs.Answers.{question_of, whole_answer, short_answer, asks, says}
 use Rattle.grade_sheets.specs.Blanks.{without_end, without_blanks}
-use Rattle.grade_sheets.specs.Numbers.{number_in, numbers_in, AreRising}
-use Rattle.grade_sheets.specs.Predictions.{first_word, lines_if, begins_note, if_said}
-use Rattle.grade_sheets.specs.Standings.{refusal_or}
 use Rattle.grade_sheets.specs.declared.grade.Standing.TheVariants.{Right, Wrong, Refused}
 
 -- ---- numbers

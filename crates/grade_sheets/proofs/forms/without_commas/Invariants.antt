@@ -1,4 +1,4 @@
-use Rattle.std.proofs.Common.{◌≡◌, take}
+use Rattle.grade_sheets.proofs.Prelude.{◌≡◌, take}
 use Rattle.grade_sheets.specs.Forms.{without_commas}
 use Rattle.grade_sheets.proofs.forms.without_commas.Given as goal
 

@@ -1,6 +1,4 @@
-use Rattle.std.proofs.Common.{◌≡◌, take, map}
-use Rattle.std.specs.Prelude.{flat_map}
-use Rattle.grade_sheets.specs.Predictions.{with_end}
+use Rattle.grade_sheets.proofs.Prelude.{◌≡◌, flat_map, map, take, with_end}
 use Rattle.grade_sheets.proofs.predictions.joined.Given as goal
 
 abbrev pub invariant-loop-line : goal.invariant-loop-line

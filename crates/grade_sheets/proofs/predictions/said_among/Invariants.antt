@@ -1,6 +1,4 @@
-use Rattle.std.proofs.Common.{◌≡◌, take, map}
-use Rattle.std.specs.Prelude.{flat_map}
-use Rattle.grade_sheets.specs.Predictions.{if_said}
+use Rattle.grade_sheets.proofs.Prelude.{◌≡◌, flat_map, if_said, map, take}
 use Rattle.grade_sheets.proofs.predictions.said_among.Given as goal
 
 abbrev pub invariant-loop-line : goal.invariant-loop-line

@@ -1,6 +1,4 @@
-use Rattle.std.proofs.Common.{◌≡◌, take, map}
-use Rattle.std.specs.Prelude.{count_by}
-use Rattle.grade_sheets.specs.Answers.{asks_by_number}
+use Rattle.grade_sheets.proofs.Prelude.{◌≡◌, asks_by_number, count_by, map, take}
 use Rattle.grade_sheets.proofs.texts.count_numbered.Given as goal
 
 abbrev pub invariant-loop-line : goal.invariant-loop-line
