@@ -57,19 +57,8 @@ for folder in "$here"/answers/*/; do
     compare "$room/$exercise.csv" "$exercise.csv"
 done
 
-# A name that begins with `right` has all points, and a fake hasn't.
-python3 - "$here"/stored/[0-9]*.csv <<'END' || failed=$((failed + 1))
-import csv, sys
-wrong = 0
-for name in sys.argv[1:]:
-    with open(name, encoding="utf-8", newline="") as file:
-        for row in csv.DictReader(file):
-            right, full = row["submission"].startswith("right"), row["status"] == "right" and row["points"] == row["of"]
-            if right != full:
-                wrong += 1
-                print("grading:", name.rsplit("/", 1)[1], row["submission"], row["points"], "of", row["of"], row["status"], file=sys.stderr)
-sys.exit(1 if wrong else 0)
-END
+# A name that begins with `right` has all points, a fake a fifth at most.
+python3 -B "$here/marks.py" || failed=$((failed + 1))
 
 "$here/folders.sh" "${grader[@]}" || failed=$((failed + 1))
 

@@ -1,10 +1,7 @@
 -- Where bytes stand in others.
-use Rattle.std.proofs.Common.{◌≡◌, ◌≢◌, ◌∙◌, ◌<◌, ℕ, Bool, true, false, List, [], ◌∷◌, ◌++◌, length, length-append, take, drop, refl, sym, ap, arith}
-use Rattle.std.specs.Prelude.{eqb, ◌==◌, ◌↔◌, IsTrue}
-use Rattle.std.specs.List.{starts_with}
+use Rattle.grade_sheets.proofs.Prelude.{[], ℕ, ◌++◌, ◌<◌, ◌==◌, ◌↔◌, ◌∙◌, ◌∷◌, ◌≡◌, ◌≢◌, ap, arith, Bool, drop, eqb, false, IsTrue, length, length-append, List, ne_eqb, refl, starts_with, sym, take}
+use Rattle.grade_sheets.proofs.Prelude.{take-append-drop, true, true≢false}
 use Rattle.std.specs.Str.Iter.{HasSubslice}
-use Rattle.std.proofs.lemmas.Bool.{true≢false, ne_eqb}
-use Rattle.std.proofs.lemmas.List.{take-append-drop}
 use Rattle.std.proofs.lemmas.Bool.Decides.{Decides-eqb}
 use Rattle.std.proofs.lemmas.Slice.Eq.{starts_is}
 use Rattle.std.proofs.Math.Seq.{drop-append_seam}

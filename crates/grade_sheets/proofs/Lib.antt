@@ -1,4 +1,6 @@
+mod Prelude
 pub mod Marking
+pub mod Taken
 mod Inside
 mod Numerals
 mod Worked

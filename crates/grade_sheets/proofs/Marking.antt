@@ -1,16 +1,9 @@
 -- Marks that are given one by one.
-use Rattle.std.proofs.Common.{◌≡◌, ℕ, ◌+◌, ◌<◌, List, [], ◌∷◌, ◌++◌, length, take, get_or, sym, ap, subst, ◌∙◌}
-use Rattle.std.proofs.lemmas.List.{take_more}
-use Rattle.std.specs.Prelude.{Bool, true, false, ◌&&◌, if◌then◌else◌, sum_by, refl}
-use Rattle.std.specs.List.{list_any, list_all}
-use Rattle.std.proofs.lemmas.Bool.{or_parts}
+use Rattle.grade_sheets.proofs.Prelude.{[], ℕ, ◌&&◌, ◌++◌, ◌+◌, ◌<◌, ◌∙◌, ◌∷◌, ◌≡◌, ap, AreAnswered, AreEachAnswered, AreMarked, Bool, false, get_or, given_for, has, if◌then◌else◌, IsAnswered}
+use Rattle.grade_sheets.proofs.Prelude.{IsMarked, length, List, list_all, list_any, Mark, or_parts, refl, subst, sum_by, sym, take, take_more, true}
 use Rattle.grade_sheets.specs.declared.asked.Asked.{Asked}
 use Rattle.grade_sheets.specs.declared.asked.Check.{Check}
-use Rattle.grade_sheets.specs.declared.judging.Mark.{Mark}
 use Rattle.grade_sheets.specs.declared.judging.Seen.{Seen}
-use Rattle.grade_sheets.specs.Grades.{IsAnswered, AreEachAnswered, AreAnswered, IsMarked, AreMarked}
-use Rattle.grade_sheets.specs.Points.{given_for}
-use Rattle.grade_sheets.specs.Standings.{has}
 
 one_more : (asked : List Asked) (seen : Seen) (marks : List Mark) (one : Asked) (mark : Mark) → AreMarked asked seen marks → IsMarked one seen mark
     → AreMarked (asked ++ one ∷ []) seen (marks ++ mark ∷ [])

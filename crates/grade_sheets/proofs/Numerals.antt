@@ -1,15 +1,11 @@
 -- Numbers that are read of digits.
-use Rattle.std.proofs.Common.{◌≡◌, ◌∙◌, ℕ, ◌<◌, ◌^◌, Bool, true, List, [], ◌∷◌, length, drop, Some, None, refl, sym, ap, subst, arith, inl, inr}
-use Rattle.std.specs.Prelude.{nat_lt, ◌&&◌, ◌==◌, cond}
+use Rattle.grade_sheets.proofs.Prelude.{[], ℕ, ◌&&◌, ◌<◌, ◌==◌, ◌^◌, ◌∙◌, ◌∷◌, ◌≡◌, AllDigits, and_from, and_parts, ap, arith, Bool, cases_Bool, cond, cond-false, cond-true, digits_value, drop}
+use Rattle.grade_sheets.proofs.Prelude.{eqb-true, false_from_ne_true, inl, inr, is_numeral, IsAscii-cons, IsNumeral, length, List, list_all, lt-ltb, ltb-true, nat_lt, None, number_of, refl, Some}
+use Rattle.grade_sheets.proofs.Prelude.{subst, sym, true, without_leading_plus}
 use Rattle.std.specs.Char.{is_digit, digit_value}
-use Rattle.std.specs.List.{list_all}
 use Rattle.std.specs.Str.{IsAscii, IsUtf8}
-use Rattle.std.specs.Str.Parse.{AllDigits, IsNumeral, digits_value, without_leading_plus}
-use Rattle.std.proofs.lemmas.Bool.{and_from, and_parts, lt-ltb, ltb-true, cond-true, cond-false, false_from_ne_true, cases_Bool, eqb-true}
 use Rattle.std.proofs.lemmas.Fmt.{IsAscii-from_digits}
 use Rattle.std.proofs.lemmas.Str.{IsUtf8-from_ascii}
-use Rattle.std.proofs.lemmas.Str.Ascii.{IsAscii-cons}
-use Rattle.grade_sheets.specs.Numbers.{is_numeral, number_of}
 
 -- ---- digits
 

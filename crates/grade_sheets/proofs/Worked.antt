@@ -1,11 +1,8 @@
 -- Worked cases of the definitions.
-use Rattle.std.specs.Prelude.{◌≡◌, ℕ, zero, suc, ◌+◌, ◌<◌, ◌≤◌, true, false, [], ◌∷◌, length, slice_index, None, Some, String, string_bytes, codes, refl}
+use Rattle.grade_sheets.proofs.Prelude.{[], ℕ, ◌+◌, ◌<◌, ◌∷◌, ◌≡◌, ◌≤◌, AreRising, arith, asks, begins_note, codes, false, first_word, if_said, length, lines_if, None, number_in, numbers_in}
+use Rattle.grade_sheets.proofs.Prelude.{question_of, refl, refusal_or, says, short_answer, slice_index, Some, String, string_bytes, suc, true, whole_answer, zero}
 use Rattle.std.specs.declared.alloc.Global.{Global}
-use Rattle.std.proofs.Common.{arith}
 use Rattle.grade_sheets.specs.Blanks.{without_end, without_blanks}
-use Rattle.grade_sheets.specs.Numbers.{number_in, numbers_in, AreRising}
-use Rattle.grade_sheets.specs.Predictions.{first_word, lines_if, begins_note}
-use Rattle.grade_sheets.specs.Standings.{refusal_or}
 use Rattle.grade_sheets.specs.declared.grade.Standing.TheVariants.{Right, Wrong, Refused}
 
 -- ---- numbers
@@ -77,6 +74,39 @@ at_the_end = refl
 
 around : without_blanks (codes " a b \n") ≡ codes "a b"
 around = refl
+
+-- ---- answers
+
+-- marks around a question don't count, nor do capitals
+the_question : question_of (codes "- **Pages** : 55") ≡ codes "Pages"
+the_question = refl
+
+in_capitals : asks (codes "pages") (codes "Pages: 5") ≡ true
+in_capitals = refl
+
+no_colon : asks (codes "pages") (codes "pages") ≡ false
+no_colon = refl
+
+-- an answer may end a sentence, have commas, and have an explanation after it
+with_a_dot : whole_answer (codes "516: 511.") ≡ codes "511"
+with_a_dot = refl
+
+explained : short_answer (codes "large: 1,023 (one more)") ≡ codes "1023"
+explained = refl
+
+negative : short_answer (codes "status: -1, since nobody reads") ≡ codes "-1"
+negative = refl
+
+another : says (codes "pages") (codes "55") (codes "pages: 54 or 55") ≡ false
+another = refl
+
+-- ---- lines
+
+said_alone : if_said (codes "- Turn 1 ") ≡ codes "Turn 1" ∷ []
+said_alone = refl
+
+nothing_said : if_said (codes " * ") ≡ []
+nothing_said = refl
 
 -- ---- why there are no points
 

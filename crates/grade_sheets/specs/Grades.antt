@@ -1,5 +1,5 @@
 -- When a run has what is asked of it, and what its marks say.
-use Rattle.std.specs.Prelude.{◌≡◌, ◌↔◌, ℕ, Bool, IsTrue, is_none, List, [], ◌∷◌, string_bytes}
+use Rattle.std.specs.Prelude.{◌≡◌, ◌↔◌, ◌≤◌, ℕ, Bool, IsTrue, is_none, List, [], ◌∷◌, string_bytes}
 use Rattle.std.specs.List.{list_all}
 use Rattle.std.specs.Fmt.{signed_decimal}
 use Rattle.std.specs.Str.Iter.{HasSubslice}
@@ -8,10 +8,10 @@ use Rattle.grade_sheets.specs.declared.asked.Answer.{Answer}
 use Rattle.grade_sheets.specs.declared.asked.Answer.TheVariants as answer
 use Rattle.grade_sheets.specs.declared.asked.Asked.{Asked}
 use Rattle.grade_sheets.specs.declared.asked.Check.{Check}
-use Rattle.grade_sheets.specs.declared.asked.Check.TheVariants.{Status, Shown, Shows, Rise, Line, Predicts, Notes}
+use Rattle.grade_sheets.specs.declared.asked.Check.TheVariants.{Status, Shown, Shows, Rise, Numbers, Line, Numbered, Predicts, Notes}
 use Rattle.grade_rules.specs.declared.ending.End.{End}
 use Rattle.grade_rules.specs.declared.ending.End.TheVariants.{Exited}
-use Rattle.grade_sheets.specs.Answers.{IsOnlyAnswer}
+use Rattle.grade_sheets.specs.Answers.{IsOnlyAnswer, numbered}
 use Rattle.grade_sheets.specs.Numbers.{numbers_in, AreRising}
 use Rattle.grade_sheets.specs.Predictions.{IsPredicted}
 use Rattle.grade_sheets.specs.declared.judging.Seen.{Seen}
@@ -27,14 +27,16 @@ abbrev pub IsSaid : (question : List ℕ) → Answer → Seen → Type 0
 IsSaid question (answer.Text wanted) seen = IsOnlyAnswer question (string_bytes wanted) seen.handed_in.now
 IsSaid question answer.Status seen = IsStatusSaid question seen.handed_in.now seen.end
 
--- The answer to whether a run has one thing: its exit has this status, it shows just this text, it shows this text somewhere, it shows numbers that rise, what was handed in answers a question, or is what was to be predicted, and its notes keep a rule
+-- The answer to whether a run has one thing: its exit has this status, it shows just this text, it shows this text somewhere, it shows numbers that rise, it shows these numbers and no others, what was handed in answers a question, asks by numbers so often at most, or is what was to be predicted, and its notes keep a rule
 abbrev pub IsAnswered : Check → Seen → Bool → Type 0
 IsAnswered (Status wanted) seen has = IsTrue has ↔ (seen.end ≡ Exited wanted)
 IsAnswered (Shown wanted) seen has = IsTrue has ↔ (string_bytes wanted ≡ seen.shown.now)
 IsAnswered (Shows part) seen has = IsTrue has ↔ HasSubslice seen.shown.now (string_bytes part)
 IsAnswered (Rise least) seen has = IsTrue has ↔ AreRising least (numbers_in seen.shown.now)
+IsAnswered (Numbers wanted) seen has = IsTrue has ↔ (wanted.items ≡ numbers_in seen.shown.now)
 IsAnswered (Line question wanted) seen has = IsTrue has ↔ IsSaid (string_bytes question) wanted seen
-IsAnswered (Predicts words) seen has = IsTrue has ↔ IsPredicted words.items seen
+IsAnswered (Numbered most) seen has = IsTrue has ↔ (numbered seen.handed_in.now ≤ most)
+IsAnswered (Predicts words most) seen has = IsTrue has ↔ IsPredicted words.items most seen
 IsAnswered (Notes rule texts) seen has = IsTrue has ↔ HoldsOf rule seen.notes.now
 
 -- an answer for each thing, in their order

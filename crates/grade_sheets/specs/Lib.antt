@@ -1,5 +1,6 @@
 pub mod Answers
 pub mod Blanks
+pub mod Forms
 pub mod Numbers
 pub mod Predictions
 pub mod Grades

@@ -1,11 +1,11 @@
 -- What is to be predicted of a run: its lines that begin with some words.
-use Rattle.std.specs.Prelude.{◌≡◌, ℕ, Bool, if◌then◌else◌, ◌||◌, ◌==◌, List, [], ◌++◌, map, flat_map, codes, String, string_bytes}
+use Rattle.std.specs.Prelude.{◌≡◌, ℕ, Bool, if◌then◌else◌, ◌||◌, ◌==◌, nat_lt, List, [], ◌∷◌, ◌++◌, length, take, map, flat_map, codes, String, string_bytes}
 use Rattle.std.specs.declared.alloc.Global.{Global}
 use Rattle.std.specs.List.{list_all, list_any, before_first}
-use Rattle.std.specs.Str.{bytes_eq}
+use Rattle.std.specs.Str.{bytes_eq, str_to_ascii_lowercase}
 use Rattle.std.specs.Str.Lines.{lines}
 use Rattle.grade_rules.specs.Notes.{note_text}
-use Rattle.grade_sheets.specs.Blanks.{without_end}
+use Rattle.grade_sheets.specs.Forms.{plain}
 use Rattle.grade_sheets.specs.declared.judging.Seen.{Seen}
 
 -- the first word of a line
@@ -33,6 +33,24 @@ begins_note word =
 abbrev pub predicted : (words : List (String Global)) → Seen → List ℕ
 predicted words seen = if list_all begins_note words then lines_if words (map note_text seen.notes.now) else lines_if words (lines seen.trace.now)
 
--- what was handed in are these lines: blanks and empty lines at the end don't count
-abbrev pub IsPredicted : (words : List (String Global)) → Seen → Type 0
-IsPredicted words seen = without_end (predicted words seen) ≡ without_end seen.handed_in.now
+-- ---- what is compared: capitals and the marks around a line don't count, and lines with nothing else are passed over
+
+-- what a line says, if it says something
+abbrev pub if_said : List ℕ → List (List ℕ)
+if_said line = if nat_lt 0 (length (plain line)) then plain line ∷ [] else []
+
+-- what the lines of a text say, in small letters
+abbrev pub said_lines : List ℕ → List (List ℕ)
+said_lines text = flat_map if_said (lines (str_to_ascii_lowercase text))
+
+-- a line and its end
+abbrev pub with_end : List ℕ → List ℕ
+with_end line = line ++ 10 ∷ []
+
+-- the first so many of them, one after another
+abbrev pub said : (most : ℕ) → List ℕ → List ℕ
+said most text = flat_map with_end (take most (said_lines text))
+
+-- what was handed in has the first so many of these lines
+abbrev pub IsPredicted : (words : List (String Global)) → (most : ℕ) → Seen → Type 0
+IsPredicted words most seen = said most (predicted words seen) ≡ said most seen.handed_in.now

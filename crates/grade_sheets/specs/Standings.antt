@@ -11,7 +11,7 @@ use Rattle.grade_sheets.specs.Grades.{AreMarked}
 use Rattle.grade_sheets.specs.Points.{asked_for, points_for}
 use Rattle.grade_sheets.specs.declared.asked.Asked.{Asked}
 use Rattle.grade_sheets.specs.declared.asked.Check.{Check}
-use Rattle.grade_sheets.specs.declared.asked.Check.TheVariants.{Line, Predicts, Notes}
+use Rattle.grade_sheets.specs.declared.asked.Check.TheVariants.{Line, Numbered, Predicts, Notes}
 use Rattle.grade_sheets.specs.declared.grade.RunGrade.{RunGrade}
 use Rattle.grade_sheets.specs.declared.grade.Standing.{Standing}
 use Rattle.grade_sheets.specs.declared.grade.Standing.TheVariants.{Right, Wrong, Fault, Loops, Waits, Floods, TooMuch, Budget, Refused}
@@ -39,7 +39,8 @@ names_faults (Exactly of wanted) = list_any is_on_faults wanted.items
 -- of what is asked: a run that has it may have faults, by its rule, or since the programs aren't the student's
 abbrev pub check_may_fault : Check → Bool
 check_may_fault (Line question wanted) = true
-check_may_fault (Predicts words) = true
+check_may_fault (Numbered most) = true
+check_may_fault (Predicts words most) = true
 check_may_fault (Notes rule texts) = names_faults rule
 check_may_fault _ = false
 

@@ -2,6 +2,7 @@
 use crate::keys::{Keys, natural};
 use crate::notation::pattern;
 use crate::refusal::{SheetError, refused, told};
+use crate::variant::named_by;
 use grade_rules::{Edge, Pattern, Rule, judge};
 use std::alloc::Global;
 use toml::Value;
@@ -13,9 +14,10 @@ const COUNT_MAX: u64 = u32::MAX as u64;
 const RISE_MAX: u64 = i64::MAX as u64;
 
 /// The keys that a rule may have.
-const RULE_KEYS: [&str; 18] = [
-    "name", "points", "status", "shown", "shows", "rise", "line", "predicts", "note", "at_least",
-    "at_most", "none_of", "first", "then", "steps", "order", "of", "notes",
+const RULE_KEYS: [&str; 21] = [
+    "name", "points", "status", "shown", "shows", "rise", "numbers", "line", "numbered",
+    "predicts", "lines", "note", "at_least", "at_most", "none_of", "first", "then", "steps",
+    "order", "of", "notes",
 ];
 
 /// A kind of what a rule asks.
@@ -37,7 +39,9 @@ enum Asks {
     Shown,
     Shows,
     Rise,
+    Numbers,
     Line,
+    Numbered,
     Predicts,
     Count,
     NoneOf,
@@ -47,7 +51,7 @@ enum Asks {
 }
 
 /// The kinds.
-const KINDS: [Kind; 11] = [
+const KINDS: [Kind; 13] = [
     Kind {
         place: "a rule with `status`",
         needed: &["status"],
@@ -73,15 +77,27 @@ const KINDS: [Kind; 11] = [
         read: Asks::Rise,
     },
     Kind {
+        place: "a rule with `numbers`",
+        needed: &["numbers"],
+        others: &[],
+        read: Asks::Numbers,
+    },
+    Kind {
         place: "a rule with `line`",
         needed: &["line"],
         others: &[],
         read: Asks::Line,
     },
     Kind {
+        place: "a rule with `numbered`",
+        needed: &["numbered"],
+        others: &[],
+        read: Asks::Numbered,
+    },
+    Kind {
         place: "a rule with `predicts`",
         needed: &["predicts"],
-        others: &[],
+        others: &["lines"],
         read: Asks::Predicts,
     },
     Kind {
@@ -139,10 +155,15 @@ pub enum Check {
     /// Of the numbers that stand alone in a line of the console there are two at least, and each is so much above the
     /// one before.
     Rise(u64),
+    /// The numbers that stand alone in a line of the console are these.
+    Numbers(Vec<u64>),
     /// Of the lines that were handed in exactly one asks this question, before its colon, and it has this answer.
     Line { question: String, answer: Answer },
-    /// What was handed in has the lines of the trace that begin with one of these words, up to the end of `init`.
-    Predicts(Vec<String>),
+    /// Of the lines that were handed in so many at most have a number as their question: a list for all variants has more.
+    Numbered(usize),
+    /// What was handed in has the lines of the trace that begin with one of these words, up to the end of `init`; of them
+    /// the first so many.
+    Predicts { words: Vec<String>, most: usize },
     /// The notes are as this rule says. The texts are those of its patterns, as the exercise has them: of the one
     /// that is counted, of `first`, of the steps, or of `notes`.
     Notes { rule: Rule, texts: Vec<String> },
@@ -315,6 +336,24 @@ fn line(alloc: Global, rule: &Keys<'_>) -> Result<Check, SheetError> {
     Ok(Check::Line { question, answer })
 }
 
+// The numbers that stand alone in lines.
+fn numbers(alloc: Global, rule: &Keys<'_>) -> Result<Check, SheetError> {
+    let mut numbers = Vec::new(alloc);
+    for value in rule.list(alloc, "numbers")? {
+        let Some(number) = natural(named_by(value, rule.variant)) else {
+            return Err(refused(alloc, "numbers takes a list of numbers"));
+        };
+        numbers.push(number)?;
+    }
+    Ok(Check::Numbers(numbers))
+}
+
+// How many lines may have a number as their question.
+fn numbered(alloc: Global, rule: &Keys<'_>) -> Result<Check, SheetError> {
+    let most = rule.number(alloc, "numbered", 0, 0, COUNT_MAX)? as usize;
+    Ok(Check::Numbered(most))
+}
+
 // Whether a word begins lines of a trace.
 fn is_kind_of_line(word: &str) -> bool {
     matches!(
@@ -334,7 +373,8 @@ fn predicts(alloc: Global, rule: &Keys<'_>) -> Result<Check, SheetError> {
     if words.is_empty() {
         return Err(refused(alloc, "it predicts nothing"));
     }
-    Ok(Check::Predicts(words))
+    let most = rule.number(alloc, "lines", COUNT_MAX, 1, COUNT_MAX)? as usize;
+    Ok(Check::Predicts { words, most })
 }
 
 // What the keys of a kind ask.
@@ -344,7 +384,9 @@ fn check_of(alloc: Global, rule: &Keys<'_>, read: Asks) -> Result<Check, SheetEr
         Asks::Shown => rule.text(alloc, "shown").map(Check::Shown),
         Asks::Shows => rule.text(alloc, "shows").map(Check::Shows),
         Asks::Rise => rule.number(alloc, "rise", 0, 0, RISE_MAX).map(Check::Rise),
+        Asks::Numbers => numbers(alloc, rule),
         Asks::Line => line(alloc, rule),
+        Asks::Numbered => numbered(alloc, rule),
         Asks::Predicts => predicts(alloc, rule),
         Asks::Count => counted(alloc, rule),
         Asks::NoneOf => none_of(alloc, rule),
@@ -397,6 +439,8 @@ fn holds_of_nothing(alloc: Global, check: &Check) -> Result<bool, SheetError> {
     match check {
         Check::Shown(text) => Ok(text.as_str().is_empty()),
         Check::Shows(text) => Ok(text.as_str().is_empty()),
+        Check::Numbers(wanted) => Ok(wanted.is_empty()),
+        Check::Numbered(_) => Ok(true),
         Check::Notes { rule, .. } => Ok(judge(alloc, rule, &[])?.holds()),
         _ => Ok(false),
     }
@@ -427,8 +471,8 @@ fn named(alloc: Global, place: &str, name: &str, why: &str) -> SheetError {
     told(format!(in alloc; "{place}, \"{name}\": {why}"))
 }
 
-// What a rule of a run asks for, whose rules are counted from 1: one at least of `status`, `shown`, `shows`, `rise`, `line`,
-// `predicts`, `note` (with `at_least` and `at_most`), `none_of`, `first` and `then`, `steps` (with `order`), `of` and
+// What a rule of a run asks for, whose rules are counted from 1: one at least of `status`, `shown`, `shows`, `rise`, `numbers`,
+// `line`, `numbered`, `predicts` (with `lines`), `note` (with `at_least` and `at_most`), `none_of`, `first` and `then`, `steps` (with `order`), `of` and
 // `notes`; and all of them that it has.
 pub(crate) fn read_rule(
     alloc: Global,

@@ -122,7 +122,8 @@ fn check_may_fault(check: &Check) -> bool
     match check {
         Check::Notes { rule, .. } => names_faults(rule),
         Check::Line { .. } => true,
-        Check::Predicts(_) => true,
+        Check::Numbered(_) => true,
+        Check::Predicts { .. } => true,
         _ => false,
     }
 }

@@ -6,9 +6,9 @@ ghost use Rattle.grade_sheets.specs.Points.{given_for};
 
 use crate::asked::{Asked, Check};
 use crate::notation::Named;
-use crate::numbers::no_rise;
+use crate::numbers::{no_rise, other_numbers};
 use crate::predictions::not_predicted;
-use crate::texts::{not_said, not_shown, other_text};
+use crate::texts::{not_said, not_shown, other_text, too_numbered};
 use grade_rules::{Edge, End, Judgement, Note, Pattern, Rule, count, fits_any, judge};
 use std::alloc::{AllocError, Global};
 use std::fmt;
@@ -292,8 +292,10 @@ fn complaint(alloc: Global, check: &Check, seen: &Seen<'_>) -> Result<Option<Str
         Check::Shown(wanted) => other_text(alloc, wanted.as_str().as_bytes(), seen.shown),
         Check::Shows(part) => not_shown(alloc, part.as_str().as_bytes(), seen.shown),
         Check::Rise(least) => no_rise(alloc, seen.shown, *least),
+        Check::Numbers(wanted) => other_numbers(alloc, seen.shown, wanted.as_slice()),
         Check::Line { question, answer } => not_said(alloc, question.as_str(), answer, seen),
-        Check::Predicts(words) => not_predicted(alloc, words.as_slice(), seen),
+        Check::Numbered(most) => too_numbered(alloc, *most, seen.handed_in),
+        Check::Predicts { words, most } => not_predicted(alloc, words.as_slice(), *most, seen),
         Check::Notes { rule, texts } => broken(alloc, texts.as_slice(), rule, seen.notes),
     }
 }

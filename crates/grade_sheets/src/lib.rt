@@ -8,6 +8,7 @@
 
 mod asked;
 mod exercise;
+mod forms;
 mod grade;
 mod judging;
 mod keys;

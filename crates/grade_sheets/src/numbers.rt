@@ -119,3 +119,40 @@ pub(crate) fn no_rise(alloc: Global, shown: &[u8], least: u64) -> Result<Option<
         None => Ok(None),
     }
 }
+
+// That the numbers that stand alone in lines are others: so many are shown, and so many are asked for.
+fn other_count(alloc: Global, found: usize, wanted: usize) -> Result<String, AllocError> {
+    format!(in alloc; "{found} lines with a number alone are shown, and {wanted} are asked for")
+}
+
+// That the number at a place, counted from 1, is another one.
+fn other_number(alloc: Global, place: usize, wanted: u64, got: u64) -> Result<String, AllocError> {
+    format!(in alloc; "number {place} is {got}, and should be {wanted}")
+}
+
+// What is wrong with numbers that should be others.
+fn other_text(alloc: Global, wanted: &[u64], numbers: &[u64]) -> Result<String, AllocError> {
+    let mut place: usize = 0;
+    for (wanted, got) in wanted.iter().zip(numbers) {
+        place = place.saturating_add(1);
+        if wanted != got {
+            return other_number(alloc, place, *wanted, *got);
+        }
+    }
+    other_count(alloc, numbers.len(), wanted.len())
+}
+
+/// Why the numbers that stand alone in lines aren't these.
+pub(crate) fn other_numbers(
+    alloc: Global,
+    shown: &[u8],
+    wanted: &[u64],
+) -> Result<Option<String>, AllocError>
+    ensures { IfOk result (λ why. IsTrue (is_none why) ↔ (wanted.now ≡ numbers_in shown.now)) }
+{
+    let numbers = numbers_in(alloc, shown)?;
+    if wanted == numbers.as_slice() {
+        return Ok(None);
+    }
+    other_text(alloc, wanted, numbers.as_slice()).map(Some)
+}

@@ -1,14 +1,18 @@
 //! What is asked of texts: of what the console showed, and of what was handed in. Each function here tells why it isn't
 //! there, in a student's words; `None` if it is.
 ghost use Rattle.std.specs.Prelude.{◌≡◌, ◌↔◌, ◌==◌, ◌≤◌, IsTrue, is_none, IfOk, map, count_by, length, drop, eqb};
-ghost use Rattle.std.specs.List.{list_any, after_first, starts_with};
+ghost use Rattle.std.specs.Char.{is_ascii_digit};
+ghost use Rattle.std.specs.List.{list_any, list_all, before_first, after_first, starts_with};
+ghost use Rattle.std.specs.Str.{str_eq_ignore_ascii_case};
 ghost use Rattle.std.specs.Str.Iter.{HasSubslice};
 ghost use Rattle.std.specs.Str.Lines.{lines};
-ghost use Rattle.grade_sheets.specs.Answers.{question_of, answer_of, asks, says, IsOnlyAnswer};
+ghost use Rattle.grade_sheets.specs.Answers.{is_colon, question_of, whole_answer, short_answer, asks, says, IsOnlyAnswer, are_digits, asks_by_number, numbered};
+ghost use Rattle.grade_sheets.specs.Forms.{without_marks};
 ghost use Rattle.grade_sheets.specs.Grades.{IsSaid};
 ghost use Rattle.grade_sheets.specs.Numbers.{ends_line};
 
 use crate::asked::Answer;
+use crate::forms::{plain, without_commas, without_end_marks, without_marks, word_of};
 use crate::judging::Seen;
 use crate::quoted::Quoted;
 use grade_rules::End;
@@ -123,19 +127,33 @@ pub fn lines_in(alloc: Global, text: &str) -> Result<Vec<&str>, AllocError>
     text.lines().collect(alloc)
 }
 
-// What a line asks: what stands before its first colon, without the blanks around it.
-fn question_of(line: &str) -> &str
-    ensures { result.now ≡ question_of line.now }
+// Whether a byte is a colon.
+fn is_colon(byte: u8) -> bool
+    ensures { result ≡ is_colon byte }
+{
+    byte == b':'
+}
+
+// Whether a line has a colon.
+fn has_colon(line: &str) -> bool
+    ensures { result ≡ list_any is_colon line.now }
+{
+    line.as_bytes().iter().any(|byte| is_colon(*byte))
+}
+
+// What stands before a line's first colon; all of it if it has none.
+fn before_colon(line: &str) -> &str
+    ensures { result.now ≡ before_first is_colon line.now }
 {
     match line.split_once(':') {
-        Some((question, _)) => question.trim(),
-        None => line.trim(),
+        Some((before, _)) => before,
+        None => line,
     }
 }
 
 // What stands behind a line's first colon; nothing if it has none.
 fn behind_colon(line: &str) -> &str
-    ensures { result.now ≡ after_first (λ b. b == 58) line.now }
+    ensures { result.now ≡ after_first is_colon line.now }
 {
     match line.split_once(':') {
         Some((_, behind)) => behind,
@@ -143,25 +161,49 @@ fn behind_colon(line: &str) -> &str
     }
 }
 
-// What a line answers: what stands behind its first colon, without the blanks around it.
-fn answer_of(line: &str) -> &str
-    ensures { result.now ≡ answer_of line.now }
+// What a line asks.
+fn question_of(line: &str) -> &[u8]
+    ensures { result.now ≡ question_of line.now }
 {
-    behind_colon(line).trim()
+    plain(before_colon(line).as_bytes())
+}
+
+// What a line answers, with what may stand before its end.
+fn answer_from(line: &str) -> &[u8]
+    ensures { result.now ≡ without_marks (after_first is_colon line.now) }
+{
+    without_marks(behind_colon(line).as_bytes())
 }
 
 // Whether a line asks this question.
 fn asks(question: &str, line: &str) -> bool
     ensures { result ≡ asks question.now line.now }
 {
-    question_of(line) == question
+    has_colon(line) && question_of(line).eq_ignore_ascii_case(question.as_bytes())
+}
+
+// Whether all that a line answers is this.
+fn is_whole_answer(answer: &str, line: &str) -> bool
+    ensures { result ≡ str_eq_ignore_ascii_case (whole_answer line.now) answer.now }
+{
+    without_end_marks(answer_from(line)).eq_ignore_ascii_case(answer.as_bytes())
+}
+
+// Whether the first word that a line answers is this.
+fn is_short_answer(alloc: Global, answer: &str, line: &str) -> Result<bool, AllocError>
+    ensures { IfOk result (λ is. is ≡ str_eq_ignore_ascii_case (short_answer line.now) answer.now) }
+{
+    let word = without_end_marks(word_of(answer_from(line)));
+    let word = without_commas(alloc, word)?;
+    Ok(word.as_slice().eq_ignore_ascii_case(answer.as_bytes()))
 }
 
 // Whether a line asks this question, and has this answer.
-fn says(question: &str, answer: &str, line: &str) -> bool
-    ensures { result ≡ says question.now answer.now line.now }
+fn says(alloc: Global, question: &str, answer: &str, line: &str) -> Result<bool, AllocError>
+    ensures { IfOk result (λ is. is ≡ says question.now answer.now line.now) }
 {
-    asks(question, line) && answer_of(line) == answer
+    let is_short = is_short_answer(alloc, answer, line)?;
+    Ok(asks(question, line) && (is_whole_answer(answer, line) || is_short))
 }
 
 // How many of the lines ask this question.
@@ -178,16 +220,81 @@ fn count_asking(question: &str, lines: &[&str]) -> usize
 }
 
 // Whether a line asks this question, and has this answer.
-fn has_answer(question: &str, answer: &str, lines: &[&str]) -> bool
-    ensures { result ≡ list_any (says question.now answer.now) (map (λ line. line.now) lines.now) }
+fn has_answer(
+    alloc: Global,
+    question: &str,
+    answer: &str,
+    lines: &[&str],
+) -> Result<bool, AllocError>
+    ensures { IfOk result (λ has. has ≡ list_any (says question.now answer.now) (map (λ line. line.now) lines.now)) }
 {
     let mut found = false;
     for line in lines {
-        if says(question, answer, line) {
+        if says(alloc, question, answer, line)? {
             found = true;
         }
     }
+    Ok(found)
+}
+
+// Whether a byte is a digit.
+fn is_digit(byte: u8) -> bool
+    ensures { result ≡ is_ascii_digit byte }
+{
+    byte.is_ascii_digit()
+}
+
+// Whether each byte is a digit.
+fn has_digits_alone(bytes: &[u8]) -> bool
+    ensures { result ≡ list_all is_ascii_digit bytes.now }
+{
+    bytes.iter().all(|byte| is_digit(*byte))
+}
+
+// Whether these bytes are digits, one or more.
+fn are_digits(bytes: &[u8]) -> bool
+    ensures { result ≡ are_digits bytes.now }
+{
+    bytes.len() > 0 && has_digits_alone(bytes)
+}
+
+// Whether a number stands in the place of a line's question.
+fn asks_by_number(line: &str) -> bool
+    ensures { result ≡ asks_by_number line.now }
+{
+    has_colon(line) && are_digits(question_of(line))
+}
+
+// How many of the lines have a number in the place of their question.
+fn count_numbered(lines: &[&str]) -> usize
+    ensures { result ≡ count_by asks_by_number (map (λ line. line.now) lines.now) }
+{
+    let mut found: usize = 0;
+    for line in lines {
+        if asks_by_number(line) {
+            found += 1;
+        }
+    }
     found
+}
+
+/// Why a text has more than so many lines with a number in the place of their question.
+pub(crate) fn too_numbered(
+    alloc: Global,
+    most: usize,
+    text: &str,
+) -> Result<Option<String>, AllocError>
+    ensures { IfOk result (λ why. IsTrue (is_none why) ↔ (numbered text.now ≤ most)) }
+{
+    let lines = lines_in(alloc, text)?;
+    let found = count_numbered(lines.as_slice());
+    if found <= most {
+        return Ok(None);
+    }
+    let why = format!(in alloc;
+        "{found} lines have a number as their question, and {most} at most may be there"
+    )?;
+    Ok(Some(why))
 }
 
 // What is wrong with the lines that ask a question, of which there are so many.
@@ -210,7 +317,8 @@ fn not_answered(
 {
     let lines = lines_in(alloc, text)?;
     let found = count_asking(question, lines.as_slice());
-    if found == 1 && has_answer(question, answer, lines.as_slice()) {
+    let is_right = has_answer(alloc, question, answer, lines.as_slice())?;
+    if found == 1 && is_right {
         return Ok(None);
     }
     other_answer(alloc, question, found).map(Some)

@@ -7,17 +7,20 @@
      4  the blocks lie too far apart: what is given back isn't used again
      5  the allocator has ended
 
-   The plan has four numbers: a kind (0: blocks of all sizes in any order; 1: all blocks, then all given back, again and again, and each
-   time larger), the seed of the sizes, how many requests or how many times, and over how many bytes the blocks may lie. */
+   The plan has four numbers: a kind (0: blocks of all sizes in any order; 1: blocks that fill a room, then all given back, again and again,
+   and each time fewer and larger, from 24 down to one), the seed of the sizes, how many requests or how many times, and over how many
+   bytes the blocks may lie.
+
+   Into each block it stores bytes at sixteen places, of which two are its ends, and looks for all of them before it gives the block back. */
 #include "user.h"
 #include "heap.h"
 
-enum { BLOCKS = 24, LARGEST = 2000 };
+enum { BLOCKS = 24, USUAL = 1500, LARGEST = 6000, ROOM = 44000, PLACES = 16 };
 
 struct block {
     long at;    /* 0: there is none */
     long bytes;
-    long mark;
+    unsigned long mark; /* what gives the places in it, and the bytes there */
 };
 
 static struct block blocks[BLOCKS];
@@ -25,10 +28,15 @@ static int to_heap[2], from_heap[2];
 static unsigned long state;
 static long lowest, highest, span;
 
+static long next_below(unsigned long *from, long most)
+{
+    *from = *from * 6364136223846793005UL + 1442695040888963407UL;
+    return (long)((*from >> 33) % (unsigned long)most);
+}
+
 static long number_below(long most)
 {
-    state = state * 6364136223846793005UL + 1442695040888963407UL;
-    return (long)((state >> 33) % (unsigned long)most);
+    return next_below(&state, most);
 }
 
 static _Noreturn void refuse(int status, const char *why, long at)
@@ -52,9 +60,41 @@ static int overlap(const struct block *one, const struct block *other)
     return one->at < other->at + other->bytes && other->at < one->at + one->bytes;
 }
 
+/* The place of a number in a block: its first byte, its last one, or any. */
+static long place_in(const struct block *block, int number, unsigned long *from)
+{
+    long any = next_below(from, block->bytes);
+    return number == 0 ? 0 : number == 1 ? block->bytes - 1 : any;
+}
+
+/* The byte that belongs to a place of a block. */
+static long byte_at(const struct block *block, long place)
+{
+    return (long)((block->mark + (unsigned long)place * 7) % 251);
+}
+
+static void fill_block(const struct block *block)
+{
+    unsigned long from = block->mark;
+    for (int number = 0; number < PLACES; number++) {
+        long place = place_in(block, number, &from);
+        asked(STORE, block->at + place, byte_at(block, place));
+    }
+}
+
+static void look_into_block(const struct block *block)
+{
+    unsigned long from = block->mark;
+    for (int number = 0; number < PLACES; number++) {
+        long place = place_in(block, number, &from);
+        if (asked(LOAD, block->at + place, 0) != byte_at(block, place))
+            refuse(3, "a byte of a block has changed", block->at + place);
+    }
+}
+
 static void take_block(struct block *block, long bytes)
 {
-    struct block made = {asked(TAKE, bytes, 0), bytes, number_below(256)};
+    struct block made = {asked(TAKE, bytes, 0), bytes, (unsigned long)number_below(1000000)};
     if (made.at == 0 || made.at % 16 != 0)
         refuse(1, "no address of a block", made.at);
     for (int k = 0; k < BLOCKS; k++)
@@ -66,17 +106,21 @@ static void take_block(struct block *block, long bytes)
         highest = made.at + bytes;
     if (highest - lowest > span)
         refuse(4, "the blocks lie too far apart", made.at);
-    asked(STORE, made.at, made.mark);
-    asked(STORE, made.at + bytes - 1, made.mark);
+    fill_block(&made);
     *block = made;
 }
 
 static void give_block(struct block *block)
 {
-    if (asked(LOAD, block->at, 0) != block->mark || asked(LOAD, block->at + block->bytes - 1, 0) != block->mark)
-        refuse(3, "a byte of a block has changed", block->at);
+    look_into_block(block);
     asked(GIVE, block->at, 0);
     block->at = 0;
+}
+
+/* One block in six may be large. */
+static long any_size(void)
+{
+    return 1 + number_below(number_below(6) == 0 ? LARGEST : USUAL);
 }
 
 static void any_order(long requests)
@@ -84,20 +128,23 @@ static void any_order(long requests)
     for (long k = 0; k < requests; k++) {
         struct block *block = &blocks[number_below(BLOCKS)];
         if (block->at == 0)
-            take_block(block, 1 + number_below(LARGEST));
+            take_block(block, any_size());
         else
             give_block(block);
     }
 }
 
-/* Each time all blocks are a little larger, so what was given back fits only if neighbours are joined. */
+/* Each time there are half as many blocks, each twice as large, so what was given back fits only if neighbours are joined. After one
+   block that fills the room there are 24 again. */
 static void ever_larger(long times)
 {
-    for (long k = 1; k <= times; k++) {
-        for (int place = 0; place < BLOCKS; place++)
-            take_block(&blocks[place], LARGEST / times * k - number_below(16));
-        for (int place = 0; place < BLOCKS; place++)
-            give_block(&blocks[(place * 5 + 7) % BLOCKS]);
+    int count = BLOCKS;
+    for (long k = 0; k < times; k++) {
+        for (int place = 0; place < count; place++)
+            take_block(&blocks[place], ROOM / count - number_below(16));
+        for (int place = 0; place < count; place++)
+            give_block(&blocks[(place * 5 + 7) % count]);
+        count = count == 1 ? BLOCKS : count / 2;
     }
 }
 

@@ -1,5 +1,4 @@
-use Rattle.std.proofs.Common.{◌≡◌, drop}
-use Rattle.grade_sheets.specs.Standings.{first_refusal}
+use Rattle.grade_sheets.proofs.Prelude.{◌≡◌, drop, first_refusal}
 use Rattle.grade_sheets.proofs.grade.first_refusal.Given as goal
 
 abbrev pub invariant-loop-run : goal.invariant-loop-run

@@ -1,5 +1,4 @@
-use Rattle.std.proofs.Common.{◌≡◌, drop}
-use Rattle.grade_sheets.specs.Standings.{first_standing}
+use Rattle.grade_sheets.proofs.Prelude.{◌≡◌, drop, first_standing}
 use Rattle.grade_sheets.proofs.grade.first_standing.Given as goal
 
 abbrev pub invariant-loop-run : goal.invariant-loop-run

@@ -1,7 +1,5 @@
-use Rattle.std.proofs.Common.{◌≡◌, take}
-use Rattle.std.specs.Prelude.{min}
+use Rattle.grade_sheets.proofs.Prelude.{◌≡◌, min, points_of_exercise, take}
 use Rattle.grade_sheets.proofs.Marking.{most}
-use Rattle.grade_sheets.specs.Points.{points_of_exercise}
 use Rattle.grade_sheets.proofs.grade.points_of_exercise.Given as goal
 
 abbrev pub invariant-loop-run : goal.invariant-loop-run

@@ -1,7 +1,4 @@
-use Rattle.std.proofs.Common.{◌≡◌, false, map, take}
-use Rattle.std.specs.List.{list_any}
-use Rattle.grade_sheets.specs.Points.{asked_for, points_for}
-use Rattle.grade_sheets.specs.Standings.{has}
+use Rattle.grade_sheets.proofs.Prelude.{◌≡◌, asked_for, false, has, list_any, map, points_for, take}
 use Rattle.grade_sheets.proofs.grade.ungraded.Given as goal
 
 abbrev pub invariant-loop-one : goal.invariant-loop-one

@@ -1,5 +1,4 @@
-use Rattle.std.proofs.Common.{◌∙◌, sym, refl}
-use Rattle.std.proofs.lemmas.Bool.{false≢true}
+use Rattle.grade_sheets.proofs.Prelude.{◌∙◌, false≢true, refl, sym}
 use Rattle.grade_rules.proofs.Judgements.{told_by}
 use Rattle.grade_sheets.proofs.judging.broken.Goals as goal
 

@@ -1,6 +1,4 @@
-use Rattle.std.proofs.Common.{◌+◌, ◌<◌, length, take, sym, subst, arith}
-use Rattle.std.specs.Prelude.{Bool, is_none}
-use Rattle.grade_sheets.specs.Grades.{AreAnswered}
+use Rattle.grade_sheets.proofs.Prelude.{◌+◌, ◌<◌, AreAnswered, arith, Bool, is_none, length, subst, sym, take}
 use Rattle.grade_sheets.proofs.Marking.{answered_more}
 use Rattle.grade_sheets.proofs.judging.first_complaint.Goals as goal
 

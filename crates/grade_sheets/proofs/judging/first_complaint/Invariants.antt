@@ -1,6 +1,4 @@
-use Rattle.std.proofs.Common.{take}
-use Rattle.std.specs.Prelude.{is_none}
-use Rattle.grade_sheets.specs.Grades.{AreAnswered}
+use Rattle.grade_sheets.proofs.Prelude.{AreAnswered, is_none, take}
 use Rattle.grade_sheets.proofs.judging.first_complaint.Given as goal
 
 abbrev pub invariant-loop-check : goal.invariant-loop-check

@@ -1,6 +1,4 @@
-use Rattle.std.proofs.Common.{◌+◌, ◌<◌, List, length, take, sym, subst, arith}
-use Rattle.grade_sheets.specs.declared.judging.Mark.{Mark}
-use Rattle.grade_sheets.specs.Grades.{AreMarked}
+use Rattle.grade_sheets.proofs.Prelude.{◌+◌, ◌<◌, AreMarked, arith, length, List, Mark, subst, sym, take}
 use Rattle.grade_sheets.proofs.Marking.{marked_more}
 use Rattle.grade_sheets.proofs.judging.marks.Goals as goal
 

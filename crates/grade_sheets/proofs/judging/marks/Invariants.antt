@@ -1,5 +1,4 @@
-use Rattle.std.proofs.Common.{take}
-use Rattle.grade_sheets.specs.Grades.{AreMarked}
+use Rattle.grade_sheets.proofs.Prelude.{AreMarked, take}
 use Rattle.grade_sheets.proofs.judging.marks.Given as goal
 
 abbrev pub invariant-loop-one : goal.invariant-loop-one

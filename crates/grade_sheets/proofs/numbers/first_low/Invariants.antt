@@ -1,4 +1,4 @@
-use Rattle.std.proofs.Common.{ℕ, ◌+◌, ◌<◌, ◌≤◌, get_or}
+use Rattle.grade_sheets.proofs.Prelude.{ℕ, ◌+◌, ◌<◌, ◌≤◌, get_or}
 use Rattle.grade_sheets.proofs.numbers.first_low.Given as goal
 
 abbrev pub invariant-loop-place : goal.invariant-loop-place

@@ -1,7 +1,4 @@
-use Rattle.std.proofs.Common.{rules}
-use Rattle.std.proofs.lemmas.Iterator.Consumers.{map_from_collect}
-use Rattle.std.proofs.lemmas.Iterator.Splits.{YieldsList-from_slice_split}
-use Rattle.grade_sheets.specs.Numbers.{ends_line}
+use Rattle.grade_sheets.proofs.Prelude.{ends_line, map_from_collect, rules, YieldsList-from_slice_split}
 use Rattle.grade_sheets.proofs.numbers.lines_of.Goals as goal
 
 pub returns : goal.returns

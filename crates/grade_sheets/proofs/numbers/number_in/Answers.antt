@@ -1,6 +1,4 @@
-use Rattle.std.proofs.Common.{◌∙◌, ℕ, List, ap}
-use Rattle.std.specs.Str.Parse.{without_leading_plus}
-use Rattle.grade_sheets.specs.Numbers.{number_of}
+use Rattle.grade_sheets.proofs.Prelude.{ℕ, ◌∙◌, ap, List, number_of, without_leading_plus}
 use Rattle.grade_sheets.proofs.Numerals.{no-text}
 use Rattle.grade_sheets.proofs.numbers.number_in.Goals as goal
 

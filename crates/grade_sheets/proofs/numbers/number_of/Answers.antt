@@ -1,4 +1,4 @@
-use Rattle.std.specs.Str.Parse.{without_leading_plus}
+use Rattle.grade_sheets.proofs.Prelude.{without_leading_plus}
 use Rattle.grade_sheets.proofs.Numerals.{number-is, no-number}
 use Rattle.grade_sheets.proofs.numbers.number_of.Goals as goal
 

@@ -1,6 +1,4 @@
-use Rattle.std.proofs.Common.{◌≡◌, take, map}
-use Rattle.std.specs.Prelude.{flat_map}
-use Rattle.grade_sheets.specs.Numbers.{if_number}
+use Rattle.grade_sheets.proofs.Prelude.{◌≡◌, flat_map, if_number, map, take}
 use Rattle.grade_sheets.proofs.numbers.numbers_of.Given as goal
 
 abbrev pub invariant-loop-line : goal.invariant-loop-line

@@ -1,5 +1,4 @@
-use Rattle.std.proofs.Common.{refl}
-use Rattle.std.proofs.lemmas.Str.Ascii.{trim_ascii_is}
+use Rattle.grade_sheets.proofs.Prelude.{refl, trim_ascii_is}
 use Rattle.grade_sheets.proofs.numbers.without_blanks.Goals as goal
 
 pub returns : goal.returns

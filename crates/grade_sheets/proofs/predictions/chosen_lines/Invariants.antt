@@ -1,6 +1,4 @@
-use Rattle.std.proofs.Common.{◌≡◌, take, map}
-use Rattle.std.specs.Prelude.{string_bytes}
-use Rattle.grade_sheets.specs.Predictions.{lines_if}
+use Rattle.grade_sheets.proofs.Prelude.{◌≡◌, lines_if, map, string_bytes, take}
 use Rattle.grade_sheets.proofs.predictions.chosen_lines.Given as goal
 
 abbrev pub invariant-loop-line : goal.invariant-loop-line

@@ -1,4 +1,4 @@
-use Rattle.std.proofs.Common.{◌≢◌, ◌∙◌}
+use Rattle.grade_sheets.proofs.Prelude.{◌∙◌, ◌≢◌}
 use Rattle.csv.specs.declared.writer.QuoteStyle.TheVariants as style
 use Rattle.grade_sheets.proofs.records.row_line.Goals as goal
 

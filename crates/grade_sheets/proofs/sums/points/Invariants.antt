@@ -1,7 +1,5 @@
-use Rattle.std.proofs.Common.{◌≡◌, take}
-use Rattle.std.specs.Prelude.{min, sum_by}
+use Rattle.grade_sheets.proofs.Prelude.{◌≡◌, given_for, min, sum_by, take}
 use Rattle.grade_sheets.proofs.Marking.{most}
-use Rattle.grade_sheets.specs.Points.{given_for}
 use Rattle.grade_sheets.proofs.sums.points.Given as goal
 
 abbrev pub invariant-loop-mark : goal.invariant-loop-mark

@@ -1,8 +1,5 @@
-use Rattle.std.proofs.Common.{◌≡◌, ◌+◌, length, sym, arith, lit<, rules}
-use Rattle.std.proofs.lemmas.List.{drop_all}
+use Rattle.grade_sheets.proofs.Prelude.{◌+◌, ◌==◌, ◌≡◌, arith, drop_all, length, lit<, position_or_len, rules, sym}
 use Rattle.std.proofs.lemmas.Str.Pattern.{split_once_first}
-use Rattle.std.specs.Prelude.{◌==◌}
-use Rattle.std.specs.List.{position_or_len}
 use Rattle.grade_sheets.proofs.texts.behind_colon.Goals as goal
 
 -- a line without a colon has nothing behind it

@@ -1,6 +1,4 @@
-use Rattle.std.proofs.Common.{◌≡◌, take, map}
-use Rattle.std.specs.Prelude.{count_by}
-use Rattle.grade_sheets.specs.Answers.{asks}
+use Rattle.grade_sheets.proofs.Prelude.{◌≡◌, asks, count_by, map, take}
 use Rattle.grade_sheets.proofs.texts.count_asking.Given as goal
 
 abbrev pub invariant-loop-line : goal.invariant-loop-line

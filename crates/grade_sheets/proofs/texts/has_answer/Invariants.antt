@@ -1,6 +1,4 @@
-use Rattle.std.proofs.Common.{◌≡◌, take, map}
-use Rattle.std.specs.List.{list_any}
-use Rattle.grade_sheets.specs.Answers.{says}
+use Rattle.grade_sheets.proofs.Prelude.{◌≡◌, list_any, map, says, take}
 use Rattle.grade_sheets.proofs.texts.has_answer.Given as goal
 
 abbrev pub invariant-loop-line : goal.invariant-loop-line

@@ -1,5 +1,4 @@
-use Rattle.std.proofs.lemmas.Iterator.Consumers.{map_from_collect}
-use Rattle.std.proofs.lemmas.Iterator.Splits.{YieldsList-from_lines}
+use Rattle.grade_sheets.proofs.Prelude.{map_from_collect, YieldsList-from_lines}
 use Rattle.grade_sheets.proofs.texts.lines_in.Goals as goal
 
 pub returns : goal.returns

@@ -1,6 +1,4 @@
-use Rattle.std.proofs.Common.{◌≡◌, ◌∙◌, ℕ, ◌<◌, false, length, drop, refl, sym, arith}
-use Rattle.std.specs.Prelude.{eqb}
-use Rattle.std.specs.List.{starts_with}
+use Rattle.grade_sheets.proofs.Prelude.{ℕ, ◌<◌, ◌∙◌, ◌≡◌, arith, drop, eqb, false, length, refl, starts_with, sym}
 use Rattle.grade_sheets.proofs.Inside.{stands_here, stands_or_empty}
 use Rattle.grade_sheets.proofs.texts.stands_in.Goals as goal
 

@@ -1,6 +1,4 @@
-use Rattle.std.proofs.Common.{◌≡◌, ◌<◌, ℕ, false, drop}
-use Rattle.std.specs.Prelude.{eqb}
-use Rattle.std.specs.List.{starts_with}
+use Rattle.grade_sheets.proofs.Prelude.{ℕ, ◌<◌, ◌≡◌, drop, eqb, false, starts_with}
 use Rattle.grade_sheets.proofs.texts.stands_in.Given as goal
 
 abbrev pub invariant-loop-place : goal.invariant-loop-place

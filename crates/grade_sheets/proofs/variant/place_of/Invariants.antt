@@ -1,5 +1,4 @@
-use Rattle.std.proofs.Common.{◌≡◌, take}
-use Rattle.std.specs.Prelude.{min, sum}
+use Rattle.grade_sheets.proofs.Prelude.{◌≡◌, min, sum, take}
 use Rattle.grade_sheets.proofs.Marking.{most}
 use Rattle.grade_sheets.proofs.variant.place_of.Given as goal
 
