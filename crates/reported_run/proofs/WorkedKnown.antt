@@ -36,7 +36,7 @@ fault-is-forgotten after cause = refl
 -- a growth that is refused is that of the process, its program, and the address of its ECALL, in place of one before
 pub growth-is-noted : (after : Recorded) (regs : Registers)
     → with_call after 3 (Some 5) (pos 12) (negsuc 0) (Some (record regs { pc = 40 })) of-two
-        ≡ record { kills = kill 3 ∷ kill 4 ∷ []; refused = refusal 4 ∷ record { pid = 3; program = Some 5; number = pos 12; at = 36 } ∷ [] }
+    ≡ record { kills = kill 3 ∷ kill 4 ∷ []; refused = refusal 4 ∷ record { pid = 3; program = Some 5; number = pos 12; at = 36 } ∷ [] }
 growth-is-noted after regs = refl
 
 -- one that is granted isn't, nor is any other call that fails

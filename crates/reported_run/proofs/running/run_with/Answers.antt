@@ -21,8 +21,7 @@ returns-in-Ok g c = λ other.
       failed_reads = g.R.KeySource.failures c.watch_to_end.new.keys;
       sink = g.W.ByteSink.sink c.watch_to_end.new.sink;
       failed_writes = g.W.ByteSink.failures c.watch_to_end.new.sink;
-    } in
-    (
+    } in (
       c.in-Ok.session.machine,
       booted-first _ (machine_of c.boot.result) _ c.in-Ok.session.machine c.boot.ensures.boots (ap machine_of c.in-Ok.is),
       subst (λ (s : Recorded). EndsSo c.watch_to_end.result c.args.plan s.machine before after) c.new-watched.ensures (c.watch_to_end.ensures other),
