@@ -1,7 +1,9 @@
 mod Prelude
+pub mod Items
 pub mod Leb
 pub mod Loops
 pub mod Times
+pub mod WorkedFiles
 pub mod WorkedLookup
 pub mod WorkedNumbers
 pub mod WorkedRows
