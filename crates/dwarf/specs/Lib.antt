@@ -1,4 +1,7 @@
 pub mod Files
+pub mod FrameChanges
+pub mod FrameUnits
+pub mod Frames
 pub mod Headers
 pub mod Items
 pub mod Lookup

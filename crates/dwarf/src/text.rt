@@ -32,7 +32,7 @@ pub(crate) fn past_text(bytes: &[u8], at: usize) -> Result<usize, Fault>
 }
 
 /// At most so many bytes, from the first on.
-fn front(bytes: &[u8], most: usize) -> &[u8]
+pub(crate) fn front(bytes: &[u8], most: usize) -> &[u8]
     ensures value { result.now ≡ take most bytes.now }
     ensures within { length result.now ≤ length bytes.now }
 {
