@@ -4,6 +4,8 @@ pub use Rattle.std.proofs.Common.{ltb, None, Ok, Option, refl, Result, Some, suc
 pub use Rattle.std.proofs.lemmas.Bool.{le-leb, le-ltb, lt-leb}
 pub use Rattle.std.proofs.lemmas.Result.{err_from_is_err_and}
 pub use Rattle.std.specs.Prelude.{negsuc, option_to_list, pos, replicate}
+pub use Rattle.dwarf.specs.Items.{in_front, through}
+unfoldable pub use Rattle.dwarf.specs.Items.{items}
 pub use Rattle.dwarf.specs.Lookup.{addresses, addresses_from, row_at, row_from}
 pub use Rattle.dwarf.specs.Made.{with_front}
 pub use Rattle.dwarf.specs.Numbers.{◌>>=◌, below_64, fixed, group, groups, past_number, skipped}

@@ -1,8 +1,14 @@
+pub mod Files
+pub mod FrameChanges
+pub mod FrameUnits
+pub mod Frames
 pub mod Headers
+pub mod Items
 pub mod Lookup
 pub mod Made
 pub mod Numbers
 pub mod Operations
 pub mod Registers
 pub mod Rows
+pub mod Texts
 pub mod Units

@@ -6,7 +6,7 @@ use crate::fault::Fault;
 use xk_base::file_number;
 
 /// Whether `count` bytes from `at` on are there.
-fn is_within(bytes: &[u8], at: usize, count: usize) -> bool
+pub(crate) fn is_within(bytes: &[u8], at: usize, count: usize) -> bool
     ensures { result ≡ nat_le (at + count) (length bytes.now) }
 {
     at <= bytes.len() && count <= bytes.len() - at
@@ -166,7 +166,7 @@ pub(crate) fn signed_at(bytes: &[u8], at: usize) -> Result<(i64, usize), Fault>
 }
 
 /// The place after a number in LEB128, whatever its size is.
-fn past_number(bytes: &[u8], at: usize) -> Result<usize, Fault>
+pub(crate) fn past_number(bytes: &[u8], at: usize) -> Result<usize, Fault>
     ensures value { result ≡ meant.past_number bytes.now at }
 {
     let written = leb_bytes(bytes, at)?;

@@ -36,12 +36,31 @@ pub enum Fault {
     /// The address here has neither 4 nor 8 bytes.
     #[error("at {0}: an address of neither 4 nor 8 bytes")]
     Address(usize),
-    /// The value here is of a form that isn't known. No function gives this yet: it is for the tables of files.
+    /// The value here is of a form that isn't known.
     #[error("at {0}: a form that isn't known")]
     Form(usize),
-    /// The table that begins or ends here has no entry of this number. No function gives this yet, as above.
+    /// The entries of the list that begins here have no fields.
+    #[error("at {0}: entries without fields")]
+    Format(usize),
+    /// The name that begins here doesn't end in its section, or has more than 4095 bytes.
+    #[error("at {0}: a name that doesn't end, or is too long")]
+    Name(usize),
+    /// The table here has no entry of this number. No function gives this: it is for callers that look up a row's file.
     #[error("at {0}: no such directory or file")]
     Missing(usize),
+    /// The entry that begins here, of what several functions' frames have in common, isn't one, or is of a form that
+    /// isn't read: with an augmentation, addresses of other than 8 bytes, or another return address than ra.
+    #[error("at {0}: a common entry of frames that isn't known")]
+    Common(usize),
+    /// The entry that begins here, of what several functions' frames have in common, has more than 4096 bytes.
+    #[error("at {0}: a common entry of frames that is too long")]
+    Large(usize),
+    /// The instruction of a frame's program that begins here isn't known.
+    #[error("at {0}: an instruction of frames that isn't known")]
+    Instruction(usize),
+    /// The instruction here takes rules back, and none are kept.
+    #[error("at {0}: rules that were never kept")]
+    Stack(usize),
     /// The instruction here leads to a line below 0, or to one of more than 64 bits.
     #[error("at {0}: a line below 0, or of more than 64 bits")]
     Line(usize),

@@ -17,14 +17,14 @@ const RESERVED: u32 = 0xFFFF_FFF0;
 /// A unit's length, and where what it counts begins.
 #[derive(Clone, Copy)]
 pub(crate) struct UnitLength {
-    is_wide: bool,
-    length: u64,
-    from: usize,
+    pub is_wide: bool,
+    pub length: u64,
+    pub from: usize,
 }
 
 /// The length of the unit that begins at a place.
 #[tactic(auto, unfolding(crate::specs::Units::unit_length))]
-fn unit_length(section: &[u8], at: usize) -> Result<UnitLength, Fault>
+pub(crate) fn unit_length(section: &[u8], at: usize) -> Result<UnitLength, Fault>
     ensures value { result ≡ meant.unit_length section.now at }
     ensures within { IfOk result (λ u. (at < u.from) × (u.from ≤ length section.now)) }
 {
