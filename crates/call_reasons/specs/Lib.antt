@@ -1,0 +1,5 @@
+pub mod Facts
+pub mod Laws
+pub mod Reasons
+pub mod Shown
+pub mod Words

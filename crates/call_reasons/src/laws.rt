@@ -1,0 +1,23 @@
+//! What holds of reasons.
+ghost use Rattle.call_reasons.specs.Laws.{OthersHaveNone, ReasonsRefuse, RefusalsHaveReasons, ToldAfterwards, ToldIsReason};
+
+/// Calls have reasons exactly if they are refused. No reason is told of exec and of open.
+pub fn refusals_have_reasons()
+    // If there is a reason, the call answers -1, and changes nothing else. (The process has no memory from 2^38 on.)
+    ensures reasons_refuse { ReasonsRefuse }
+
+    // If a call answers -1, there is a reason.
+    ensures refusals_have_reasons { RefusalsHaveReasons }
+{}
+
+/// What is told of an answer is its reason.
+pub fn answers_tell_reasons()
+    // What a machine shows, and the answer, tell it.
+    ensures told_is_reason { ToldIsReason }
+
+    // Of any other answer none is told.
+    ensures others_have_none { OthersHaveNone }
+
+    // The view after a refused call tells the same as the one before it.
+    ensures told_afterwards { ToldAfterwards }
+{}
