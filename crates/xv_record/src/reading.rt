@@ -111,10 +111,10 @@ fn head_in(alloc: Global, text: &str) -> Result<Head, RecordError>
 
 // The parts of a record: its head, and the whole lines behind it.
 fn parts_of(text: &str, returns: bool) -> Result<(&str, &str), RecordError> {
-    let events = if returns {
-        "\nevents\r\n"
+    let (events, line_end) = if returns {
+        ("\r\nevents\r\n", "\r\n")
     } else {
-        "\nevents\n"
+        ("\nevents\n", "\n")
     };
     let Some((head, rest)) = text.split_once(events) else {
         return Err(if text.starts_with(FIRST_LINE) {
@@ -123,7 +123,7 @@ fn parts_of(text: &str, returns: bool) -> Result<(&str, &str), RecordError> {
             RecordError::NotARecord
         });
     };
-    match rest.rsplit_once('\n') {
+    match rest.rsplit_once(line_end) {
         Some((lines, _part)) => Ok((head, lines)),
         None => Ok((head, "")),
     }
