@@ -1,8 +1,9 @@
 #!/bin/bash
-# check.sh [PAGE.html]: looks whether what runs a machine stands alone (anywhere/machine), and plays the stored runs and the sessions
-# of the repository by the module of the page, in Node, and compares; then goes to and fro in a run and compares with the proved
-# `back_to`, makes a long record again, gives the module bad input, looks back in a run for stores and stops, and compares the reports
-# of faults and sleepers with those of xv_why. It needs node (Debian's nodejs) and python3. The status is 1 if something differs.
+# check.sh [PAGE.html]: looks whether what runs a machine stands alone (anywhere/machine), and how records that are cut off are
+# read; plays the stored runs and the sessions of the repository by the module of the page, in Node, and compares; then goes to and
+# fro in a run and compares with the proved `back_to`, makes a long record again, gives the module bad input, looks back in a run
+# for stores and stops, and compares the reports of faults and sleepers with those of xv_why. It needs node (Debian's nodejs) and
+# python3. The status is 1 if something differs.
 set -euo pipefail
 cd "$(dirname "$(readlink -f "$0")")"
 command -v node >/dev/null || { echo "check.sh: there is no node: apt-get install nodejs" >&2; exit 1; }
@@ -16,6 +17,7 @@ END
 chmod +x "$work/xv_run"
 failed=
 node ../anywhere/try/machine_room.mjs || failed=1
+node try/records.mjs || failed=1
 # By Node, on a host with other work, a session or a run may take long: it gets ten minutes.
 export PATIENCE=600
 XV_RUN=$work/xv_run ../checks/sessions/run.sh | grep -v '^ok ' || failed=1

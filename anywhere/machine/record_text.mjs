@@ -9,7 +9,7 @@ const MOST_BYTE = 255;
 const MOST_OF_LINE = 1e12; // events of one line: hours of play
 
 /** With these letters a record begins. */
-export const RECORD_BEGINNING = `${HEAD}\n`;
+export const RECORD_BEGINNING = HEAD;
 
 /** The text of a record: of the frames, of programs, {name, size, sum}, and of the spans of its events. */
 export function record_text({ frames, programs, spans }) {
@@ -30,9 +30,15 @@ function number_in(word, most, line) {
   return Number(word);
 }
 
-/** What a record says: {frames, programs: [{sum, name}], spans}. It throws what is wrong with which line. */
+/**
+ * What a record says: {frames, programs: [{sum, name}], spans, is_cut}. One that is cut off is read up to its last whole
+ * line, if it comes to its events. It throws what is wrong with which line.
+ */
 export function read_record(text) {
-  const lines = text.split("\n"), said = { frames: 0, programs: [], spans: [] };
+  const lines = text.split(/\r?\n/), said = { frames: 0, programs: [], spans: [], is_cut: false };
+  const part = lines.pop();
+  if (part === END) lines.push(part);
+  let has_events = false;
   for (let k = 1; k < lines.length; k++) {
     const [word, ...rest] = lines[k].split(" "), event = WORDS.indexOf(word);
     if (word === END) return said;
@@ -40,7 +46,9 @@ export function read_record(text) {
     else if (word === "program") said.programs.push({ sum: rest[0], name: rest.slice(2).join(" ") });
     else if (event === EVENT.KEY) said.spans.push([event, number_in(rest[0], MOST_BYTE, k + 1), 1]);
     else if (event >= 0) said.spans.push([event, 0, number_in(rest[0], MOST_OF_LINE, k + 1)]);
-    else if (word !== "events") throw new Error(`the record's line ${k + 1} begins with no word of a record`);
+    else if (word === "events") has_events = true;
+    else throw new Error(`the record's line ${k + 1} begins with no word of a record`);
   }
-  throw new Error("the record is cut off: its last line, end, is missing");
+  if (!has_events) throw new Error("the record is cut off before its events");
+  return { ...said, is_cut: true };
 }

@@ -306,6 +306,7 @@ async function play_record(text, name) {
     if (missing) throw new Error(`the record wants another file ${missing.name}: add it first`);
     const files = said.programs.map((it) => ({ ...known.get(it.sum), name: it.name }));
     programs.begin("replay", { files, config: { frames: said.frames, trace: 0 }, how: {}, spans: said.spans });
+    if (said.is_cut) problem(`The record ${name} is cut off: it is played up to its last whole line.`);
   } catch (error) {
     programs.refuse(error.message);
     problem(`The record ${name} isn't played: ${error.message}.`);

@@ -9,6 +9,7 @@ use Rattle.std.specs.Str.Parse.{AllDigits, digits_value}
 use Rattle.xv_record.specs.declared.line.Line.{Line}
 use Rattle.xv_record.specs.declared.line.Line.TheVariants.{Run, Tick, Send, Key}
 use Rattle.xv_record.specs.Text.{worded, line_text, events_text_of, IsLine, AreLines}
+use Rattle.xv_record.specs.Told.{IsOneLine, end_text}
 
 -- none of these is c
 abbrev pub Lacks : ℕ → List ℕ → Type 0
@@ -74,17 +75,49 @@ same-first (Key m) (Run n) xs ys p q e = let bad : ◌≡◌ {A = ℕ} 107 114 =
 same-first (Key m) (Tick n) xs ys p q e = let bad : ◌≡◌ {A = ℕ} 107 116 = cc in absurd (omega (arith, bad))
 same-first (Key m) (Send n) xs ys p q e = let bad : ◌≡◌ {A = ℕ} 107 115 = cc in absurd (omega (arith, bad))
 
--- a line has a byte
-not-empty : (a : Line) (xs : List ℕ) → line_text a ++ xs ≡ [] → ⊥
-not-empty (Run n) xs e = cc
-not-empty (Tick n) xs e = cc
-not-empty (Send n) xs e = cc
-not-empty (Key n) xs e = cc
+-- No line of events stands at the head of these bytes
+abbrev pub EndsLines : List ℕ → Type 0
+EndsLines rest = (a : Line) (xs : List ℕ) → IsLine a → rest ≡ line_text a ++ xs → ⊥
 
-pub same-lines : (us vs : List Line) → AreLines us → AreLines vs → events_text_of us ≡ events_text_of vs → us ≡ vs
-same-lines [] [] p q e = refl
-same-lines [] (b ∷ vs) p q e = absurd (not-empty b (events_text_of vs) (sym e))
-same-lines (a ∷ us) [] p q e = absurd (not-empty a (events_text_of us) e)
-same-lines (a ∷ us) (b ∷ vs) p q e =
-    let both : (a ≡ b) × (events_text_of us ≡ events_text_of vs) = same-first a b (events_text_of us) (events_text_of vs) (All-head IsLine a us p) (All-head IsLine b vs q) e in
-    ap₂ (λ u v. u ∷ v) both.0 (same-lines us vs (All-tail IsLine a us p) (All-tail IsLine b vs q) both.1)
+-- events, and what no line begins
+pub same-lines : (us vs : List Line) (xs ys : List ℕ) → AreLines us → AreLines vs → EndsLines xs → EndsLines ys → events_text_of us ++ xs ≡ events_text_of vs ++ ys → (us ≡ vs) × (xs ≡ ys)
+same-lines [] [] xs ys p q end_x end_y e = (refl, e)
+same-lines [] (b ∷ vs) xs ys p q end_x end_y e =
+    absurd (end_x b (events_text_of vs ++ ys) (All-head IsLine b vs q) (e ∙ append_assoc (line_text b) (events_text_of vs) ys))
+same-lines (a ∷ us) [] xs ys p q end_x end_y e =
+    absurd (end_y a (events_text_of us ++ xs) (All-head IsLine a us p) (sym e ∙ append_assoc (line_text a) (events_text_of us) xs))
+same-lines (a ∷ us) (b ∷ vs) xs ys p q end_x end_y e =
+    let rest : line_text a ++ (events_text_of us ++ xs) ≡ line_text b ++ (events_text_of vs ++ ys) =
+    sym (append_assoc (line_text a) (events_text_of us) xs) ∙ (e ∙ append_assoc (line_text b) (events_text_of vs) ys) in
+    let both : (a ≡ b) × (events_text_of us ++ xs ≡ events_text_of vs ++ ys) =
+    same-first a b (events_text_of us ++ xs) (events_text_of vs ++ ys) (All-head IsLine a us p) (All-head IsLine b vs q) rest in
+    let more : (us ≡ vs) × (xs ≡ ys) = same-lines us vs xs ys (All-tail IsLine a us p) (All-tail IsLine b vs q) end_x end_y both.1 in
+    (ap₂ (λ u v. u ∷ v) both.0 more.0, more.1)
+
+-- the last line of a record is no line of events
+pub end-ends : (more : List ℕ) → EndsLines (end_text ++ more)
+end-ends more (Run n) xs is e = let bad : ◌≡◌ {A = ℕ} 101 114 = cc in absurd (omega (arith, bad))
+end-ends more (Tick n) xs is e = let bad : ◌≡◌ {A = ℕ} 101 116 = cc in absurd (omega (arith, bad))
+end-ends more (Send n) xs is e = let bad : ◌≡◌ {A = ℕ} 101 115 = cc in absurd (omega (arith, bad))
+end-ends more (Key n) xs is e = let bad : ◌≡◌ {A = ℕ} 101 107 = cc in absurd (omega (arith, bad))
+
+-- bytes without a line break aren't `front`, a line break, and more
+no-break-in : (rest front xs : List ℕ) → IsOneLine rest → rest ≡ front ++ 10 ∷ xs → ⊥
+no-break-in [] [] xs one e = cc
+no-break-in [] (f ∷ front) xs one e = cc
+no-break-in (b ∷ rest) [] xs one e = let is : b ≡ 10 = cc in All-head (λ c. c ≢ 10) b rest one is
+no-break-in (b ∷ rest) (f ∷ front) xs one e = no-break-in rest front xs (All-tail (λ c. c ≢ 10) b rest one) cc
+
+worded-has : (word : List ℕ) (n : ℕ) (xs : List ℕ) → worded word n ++ xs ≡ (word ++ decimal n) ++ 10 ∷ xs
+worded-has word n xs = worded-rest word n xs ∙ sym (append_assoc word (decimal n) (10 ∷ xs))
+
+-- nor is a part of a line
+pub part-ends : (rest : List ℕ) → IsOneLine rest → EndsLines rest
+part-ends rest one (Run n) xs is e = no-break-in rest (codes "run " ++ decimal n) xs one (e ∙ worded-has (codes "run ") n xs)
+part-ends rest one (Tick n) xs is e = no-break-in rest (codes "tick " ++ decimal n) xs one (e ∙ worded-has (codes "tick ") n xs)
+part-ends rest one (Send n) xs is e = no-break-in rest (codes "send " ++ decimal n) xs one (e ∙ worded-has (codes "send ") n xs)
+part-ends rest one (Key n) xs is e = no-break-in rest (codes "key " ++ decimal n) xs one (e ∙ worded-has (codes "key ") n xs)
+
+-- the last line is no part of a line
+pub end-breaks : (rest more : List ℕ) → IsOneLine rest → rest ≡ end_text ++ more → ⊥
+end-breaks rest more one e = no-break-in rest (codes "end") more one e

@@ -1,6 +1,6 @@
 -- A record's text is that of one record only.
 use Rattle.std.proofs.Common.{◌≡◌, ◌≢◌, ℕ, zero, suc, List, [], ◌∷◌, ◌++◌, length, map, codes, flat_map, Result, Ok, refl, sym, subst, ◌∙◌, ap, ap₂, arith, append_assoc}
-use Rattle.std.proofs.lemmas.List.{append_cancel_left, append_cancel_right}
+use Rattle.std.proofs.lemmas.List.{append_cancel_left}
 use Rattle.std.proofs.lemmas.List.Elements.{All-head, All-tail, All-push}
 use Rattle.std.proofs.lemmas.List.{map-append}
 use Rattle.std.proofs.lemmas.List.Folds.{flat_map-map}
@@ -11,8 +11,8 @@ use Rattle.hex.specs.declared.error.FromHexError.{FromHexError}
 use Rattle.hex.proofs.HexLemmas.{length-encode_with, decode_of-encode_lower}
 use Rattle.xv_record.specs.declared.sums.ProgramSum.{ProgramSum}
 use Rattle.xv_record.specs.Text.{worded, events_text_of}
-use Rattle.xv_record.specs.Told.{ProgramTold, RecordTold, IsProgramTold, AreProgramsTold, IsTold, told_program, program_text, record_text_of}
-use Rattle.xv_record.proofs.Lines.{Lacks, same-part, decimal-no_space, same-decimal, same-lines, same-worded}
+use Rattle.xv_record.specs.Told.{ProgramTold, RecordTold, IsProgramTold, AreProgramsTold, IsTold, told_program, program_text, begun_text_of, head_text_of}
+use Rattle.xv_record.proofs.Lines.{EndsLines, Lacks, same-part, decimal-no_space, same-decimal, same-lines, same-worded}
 
 -- what stands in as many places, and behind it
 same-front : (us vs xs ys : List ℕ) → length us ≡ length vs → us ++ xs ≡ vs ++ ys → (us ≡ vs) × (xs ≡ ys)
@@ -75,17 +75,31 @@ same-programs (p ∷ ps) (q ∷ qs) xs ys h k e =
     let more : (ps ≡ qs) × (xs ≡ ys) = same-programs ps qs xs ys (All-tail IsProgramTold p ps h) (All-tail IsProgramTold q qs k) one.1 in
     (ap₂ (λ u v. u ∷ v) one.0 more.0, more.1)
 
-pub same-record : (r s : RecordTold) → IsTold r → IsTold s → record_text_of r ≡ record_text_of s → r ≡ s
-same-record r s h k e =
-    let us : List ℕ = events_text_of r.events ++ codes "end\n" in
-    let vs : List ℕ = events_text_of s.events ++ codes "end\n" in
+spread-head : (r : RecordTold) (xs : List ℕ) → begun_text_of r ++ xs
+    ≡ codes "xv record 1\n" ++ (worded (codes "frames ") r.frames ++ (flat_map program_text r.programs ++ (codes "events\n" ++ (events_text_of r.events ++ xs))))
+spread-head r xs =
+    let frames : List ℕ = worded (codes "frames ") r.frames in
+    let programs : List ℕ = flat_map program_text r.programs in
+    let events : List ℕ = events_text_of r.events in
+    append_assoc (head_text_of r.frames r.programs) events xs
+    ∙ (append_assoc (codes "xv record 1\n") (frames ++ (programs ++ codes "events\n")) (events ++ xs)
+    ∙ ap (λ t. codes "xv record 1\n" ++ t) (append_assoc frames (programs ++ codes "events\n") (events ++ xs)
+    ∙ ap (λ t. frames ++ t) (append_assoc programs (codes "events\n") (events ++ xs))))
+
+-- a record's head and events, and behind them what no line of events begins
+pub same-record : (r s : RecordTold) (xs ys : List ℕ) → IsTold r → IsTold s → EndsLines xs → EndsLines ys → begun_text_of r ++ xs ≡ begun_text_of s ++ ys → (r ≡ s) × (xs ≡ ys)
+same-record r s xs ys h k end_x end_y e =
+    let us : List ℕ = events_text_of r.events ++ xs in
+    let vs : List ℕ = events_text_of s.events ++ ys in
     let ps : List ℕ = flat_map program_text r.programs ++ (codes "events\n" ++ us) in
     let qs : List ℕ = flat_map program_text s.programs ++ (codes "events\n" ++ vs) in
-    let behind = append_cancel_left (codes "xv record 1\n") (worded (codes "frames ") r.frames ++ ps) (worded (codes "frames ") s.frames ++ qs) e in
+    let spread : codes "xv record 1\n" ++ (worded (codes "frames ") r.frames ++ ps) ≡ codes "xv record 1\n" ++ (worded (codes "frames ") s.frames ++ qs) =
+    sym (spread-head r xs) ∙ (e ∙ spread-head s ys) in
+    let behind = append_cancel_left (codes "xv record 1\n") (worded (codes "frames ") r.frames ++ ps) (worded (codes "frames ") s.frames ++ qs) spread in
     let frames : (r.frames ≡ s.frames) × (ps ≡ qs) = same-worded (codes "frames ") r.frames s.frames ps qs (omega (arith, h.frames)) (omega (arith, k.frames)) behind in
     let programs : (r.programs ≡ s.programs) × (us ≡ vs) = same-programs r.programs s.programs us vs h.programs k.programs frames.1 in
-    let events = same-lines r.events s.events h.events k.events (append_cancel_right (events_text_of r.events) (events_text_of s.events) (codes "end\n") programs.1) in
-    λ i. record { frames = frames.0 i; programs = programs.0 i; events = events i }
+    let events : (r.events ≡ s.events) × (xs ≡ ys) = same-lines r.events s.events xs ys h.events k.events end_x end_y programs.1 in
+    ((λ i. record { frames = frames.0 i; programs = programs.0 i; events = events.0 i }), events.1)
 
 -- one program more
 pub told-push : (xs ys : List ProgramSum) (x : ProgramSum) → ys ≡ xs ++ x ∷ [] → AreProgramsTold (map told_program xs) → IsProgramTold (told_program x) → AreProgramsTold (map told_program ys)

@@ -40,10 +40,21 @@ program_told p = program_told_of (sha256 p.bytes.items) (length p.bytes.items) p
 abbrev pub program_text : ProgramTold → List ℕ
 program_text p = codes "program " ++ (encode_lower p.sum ++ (codes " " ++ (decimal p.size ++ (codes " " ++ (p.name ++ 10 ∷ [])))))
 
+-- what stands in a record's text before its events: its first line, the frames, a line for each program, and the line `events`
+abbrev pub head_text_of : (frames : ℕ) → List ProgramTold → List ℕ
+head_text_of frames programs = codes "xv record 1\n" ++ (worded (codes "frames ") frames ++ (flat_map program_text programs ++ codes "events\n"))
+
+-- the text of a record without its last line: its head and its events
+abbrev pub begun_text_of : RecordTold → List ℕ
+begun_text_of r = head_text_of r.frames r.programs ++ events_text_of r.events
+
+-- the line that ends a record
+abbrev pub end_text : List ℕ
+end_text = codes "end\n"
+
 -- the text of a record
 abbrev pub record_text_of : RecordTold → List ℕ
-record_text_of r =
-    codes "xv record 1\n" ++ (worded (codes "frames ") r.frames ++ (flat_map program_text r.programs ++ (codes "events\n" ++ (events_text_of r.events ++ codes "end\n"))))
+record_text_of r = begun_text_of r ++ end_text
 
 -- no byte of it is a line break
 abbrev pub IsOneLine : List ℕ → Type 0

@@ -8,7 +8,7 @@ pub enum RecordError {
     /// It doesn't begin as a record does.
     #[error("not a record")]
     NotARecord,
-    /// The line of this number, counted from 1, is none of a record; the numbers of events begin anew at 1.
+    /// The line of this number, counted from 1, is none of a record; those of events begin anew at 1.
     #[error("line {0} of its events is no event")]
     Line(u64),
     /// The line of this number, counted from 1, isn't what a record's head has there.
@@ -17,7 +17,7 @@ pub enum RecordError {
     /// A number or a line break is written otherwise than a record has it.
     #[error("it was written otherwise than a record is")]
     Form,
-    /// The line `end` is missing.
+    /// It ends before its events, or, if all of it is asked for, before its line `end` or behind it.
     #[error("cut short: it has no end")]
     CutShort,
     /// The host has too little memory.
