@@ -28,6 +28,7 @@ import * as slides from "./slides.mjs";
 import * as first_minute from "./first_minute.mjs";
 import * as your_runs from "./your_runs.mjs";
 import * as frame from "./frame.mjs";
+import * as pictures from "./pictures.mjs";
 import { problem } from "./messages.mjs";
 import { is_booted, is_embedded, short_place } from "./place_links.mjs";
 import { calls_in_words } from "../../anywhere/machine/event_words.mjs";
@@ -213,7 +214,7 @@ async function first_machine() {
 const PARTS = {
   messages, terminal, editor, works, time, breaks, processes, instruction, c_source, pages, descriptors, why, programs,
   sharing, lessons, session, happened, missing_stretches, translate, manual, slides, first_minute,
-  your_runs, frame,
+  your_runs, frame, pictures,
 };
 
 function begin() {
@@ -244,7 +245,7 @@ function begin() {
   });
   globalThis.page = {
     app, ask, problems: messages.problems, on, time, programs, sharing, works, drawn: () => drawn, short_place,
-    calls_in_words, manual: manual.pages,
+    calls_in_words, manual: manual.pages, pictures,
   };
 }
 begin();
