@@ -5,7 +5,7 @@ import { calls_of } from "../machine/line_steps.mjs";
 import { word_at } from "../machine/memory.mjs";
 import { hex, number } from "../machine/number_words.mjs";
 import { REGISTERS } from "../machine/registers.mjs";
-import { condition_of } from "./conditions.mjs";
+import { condition_of } from "../machine/conditions.mjs";
 import { evaluated } from "./expressions.mjs";
 import { Session } from "./session.mjs";
 import { kernel_variables, state_words } from "./kernel_scope.mjs";

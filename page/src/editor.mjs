@@ -91,7 +91,7 @@ const row_class = (line) => `row${line === state.pc ? " pc" : ""}${is_bad(line) 
 function number_of(line, stops) {
   const name = [
     line === state.pc ? "pc" : "", is_bad(line) ? "bad" : "", may_stop(line) ? "" : "no",
-    stops.has(line) ? "stop" : "",
+    stops.has(line) ? `stop${stops.get(line) ? " off" : ""}` : "",
   ].join(" ");
   return `<div class="${name}" data-line="${line}">${line}</div>`;
 }
@@ -105,7 +105,7 @@ function lines_seen() {
 /** Draws the lines that are seen, and some above and below. */
 function draw() {
   const box = $("editor"), { lines, file } = state, is_plain = box.classList.contains("is-plain");
-  const stops = new Set(stops_of(file).map((it) => it.line));
+  const stops = new Map(stops_of(file).map((it) => [it.line, it.off === true]));
   const { first, last } = lines_seen(), from = Math.max(0, first - UNSEEN), to = Math.min(lines.length, last + UNSEEN);
   const ink = box.querySelector(".ink"), gutter = box.querySelector(".gutter"), numbers = [];
   const shown = is_source(file) ? coloured : escape;

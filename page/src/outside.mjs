@@ -2,6 +2,7 @@
 // reader answers a value of its own making, of the types and sizes that are said here, with its own properties only;
 // or it throws a Refusal, whose message says what is wrong.
 import { MOST_FUTURES, spans_of } from "../../anywhere/machine/events.mjs";
+import { condition_of } from "../../anywhere/machine/conditions.mjs";
 import { MOST_BYTES, MOST_FRAMES } from "../../anywhere/machine/file_refusals.mjs";
 
 export class Refusal extends Error {}
@@ -51,8 +52,16 @@ export function bytes_of_base64(it, what) {
 
 // ---- files, break points, settings
 
+/** What each break point may have: that it is switched off, and a condition. */
+function switched(it, what) {
+  const condition = if_there(own(it, "condition"), "", (words) => text(words, `${what} its condition`, MOST_NAME)).trim();
+  try { condition_of(condition); } catch (error) { refuse(what, `has a condition that can't be read: ${error.message}`); }
+  return { ...(own(it, "off") === true ? { off: true } : {}), ...(condition ? { condition } : {}) };
+}
+
 const stop = (it, what) => ({
   line: whole(own(it, "line"), `${what} its line`, 1, MOST_TEXT), text: text(own(it, "text"), `${what} its text`),
+  ...switched(it, what),
 });
 const stops = (it, what) => if_there(it, [], (all) => list(all, `the break points of ${what}`, MOST_BREAKS, stop));
 
@@ -60,6 +69,7 @@ const break_point = (it, what) => ({
   kind: KINDS_OF_BREAKS.includes(own(it, "kind")) ? own(it, "kind") : refuse(what, "has no kind of a break point"),
   name: text(own(it, "name"), `${what} its name`, MOST_NAME),
   program: if_there(own(it, "program"), null, (name) => text(name, `${what} its program`, MOST_NAME)),
+  ...switched(it, what),
 });
 const breaks = (it) => if_there(it, [], (all) => list(all, "the list of break points", MOST_BREAKS, break_point));
 

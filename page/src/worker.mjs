@@ -1,6 +1,7 @@
 // The worker: it has the machine, plays it, and tells the page how it stands. So the page stays alive at full speed.
 // What runs a machine is in anywhere/machine; here are the messages, the time that they may take, and what is told.
 import { all_mistakes } from "../../anywhere/machine/assembler_mistakes.mjs";
+import { condition_of } from "../../anywhere/machine/conditions.mjs";
 import { calls_of, line_step } from "../../anywhere/machine/line_steps.mjs";
 import { end_before, last_of, round } from "../../anywhere/machine/event_search.mjs";
 import { fault_in_words, faults_told, kill_in_words, kills_told } from "../../anywhere/machine/end_reports.mjs";
@@ -301,9 +302,15 @@ function first_mistake(text) {
   return file ? null : { line, kind };
 }
 
+/** Break points as the page sends them, each with whether its condition is so. */
+const with_conditions = (list) => (
+  list.map((it) => (it.condition ? { ...it, is_met: condition_of(it.condition) } : it))
+);
+
 /** Boots a machine, and tells the page; false if it is refused. */
-function boot({ id, how = {}, ...asked }) {
-  const before = performance.now(), order = { ...settings, ...how }, refusal = player.boot({ ...asked, how: order });
+function boot({ id, how = {}, breaks = [], ...asked }) {
+  const before = performance.now(), order = { ...settings, ...how };
+  const refusal = player.boot({ ...asked, how: order, breaks: with_conditions(breaks) });
   if (refusal !== null) {
     postMessage({ refused: { id, refusal } });
     view();
@@ -357,7 +364,7 @@ const obey = {
     slice_from = performance.now();
     owed = 0;
   },
-  breaks({ list }) { player.breaks.list = list; },
+  breaks({ list }) { player.breaks.list = with_conditions(list); },
   tell_events,
   /** Tells the events round a place that are wanted. */
   round({ key, place, wants }) {
