@@ -28,6 +28,7 @@ import * as slides from "./slides.mjs";
 import * as first_minute from "./first_minute.mjs";
 import * as your_runs from "./your_runs.mjs";
 import * as frame from "./frame.mjs";
+import * as beside from "./beside.mjs";
 import * as pictures from "./pictures.mjs";
 import { problem } from "./messages.mjs";
 import { is_booted, is_embedded, short_place } from "./place_links.mjs";
@@ -214,7 +215,7 @@ async function first_machine() {
 const PARTS = {
   messages, terminal, editor, works, time, breaks, processes, instruction, c_source, pages, descriptors, why, programs,
   sharing, lessons, session, happened, missing_stretches, translate, manual, slides, first_minute,
-  your_runs, frame, pictures,
+  your_runs, frame, pictures, beside,
 };
 
 function begin() {

@@ -206,7 +206,15 @@ export function work_of_kept(it) {
   };
 }
 
+const TWO = /^[1-9]\d{0,8},[1-9]\d{0,8}$/; // the numbers of two processes
 const name_or = (it) => (typeof it === "string" && it.length <= MOST_NAME ? it : undefined);
+
+/** The two processes that were shown side by side, and the address of their memory; null if none were. */
+function two_of(it) {
+  const pids = own(it, "beside"), memory = own(it, "memory");
+  if (typeof pids !== "string" || !TWO.test(pids)) return null;
+  return { pids: pids.split(",").map(Number), memory: name_or(memory) };
+}
 
 /** What was shown last time: the work, the file, the tabs, the speed, the lesson with its answers, and the run. */
 export function shown_of(it) {
@@ -224,6 +232,7 @@ export function shown_of(it) {
       answers: given.filter(([, answer]) => typeof answer === "string" && answer.length <= MOST_NAME),
     },
     length: Number.isFinite(told) && told > 0 ? told : 0,
+    beside: two_of(own(it, "beside")),
     run: if_there(own(it, "run"), null, run_of),
   };
 }
@@ -251,6 +260,8 @@ const LINK = {
   ],
   at: ["an event's number, or as fork, fork.2, fault, end, turn.3, asleep, last", (it, known) => known.is_place(it)],
   pid: ["the number of a process", (it) => is_number(it, 1, 4294967295)],
+  beside: ["the numbers of two processes, as 2,3", (it) => TWO.test(it)],
+  memory: ["an address, a register or a label", (it) => it.length > 0 && it.length <= MOST_NAME],
   tab: [(known) => `one of ${known.tabs.join(", ")}`, (it, known) => known.tabs.includes(it)],
   frames: ["a number of frames from 16 to 32768", (it) => is_number(it, 16, MOST_FRAMES)],
   rounds: ["a number of Runs from 1 on", (it) => is_number(it, 1, MOST_QUANTUM)],

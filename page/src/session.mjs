@@ -10,6 +10,7 @@ import {
 import { flush, title_of, unpacked_file } from "./works.mjs";
 import { keys_in } from "../../anywhere/machine/events.mjs";
 import { play_again, run_now } from "./sharing.mjs";
+import { beside_now, show_beside } from "./beside.mjs";
 import * as editor from "./editor.mjs";
 import * as lessons from "./lessons.mjs";
 import * as programs from "./programs.mjs";
@@ -34,7 +35,7 @@ function shown_now() {
   return {
     work, title: title_of(work), file, run: run_now(true), length: app.line.end,
     tabs: TABS.filter((it) => $(it).getAttribute("aria-selected") === "true"), speed: $("speed").value,
-    lesson: lessons.kept_lesson(),
+    lesson: lessons.kept_lesson(), beside: beside_now(),
   };
 }
 
@@ -141,6 +142,7 @@ async function open_record(record, is_first) {
   try {
     if (run && (await play_again(run))) {
       go_on_with(record);
+      if (told.beside) show_beside(told.beside.pids, told.beside.memory);
       say(`Here is ${not_kept_since ? "what was kept" : "what you had"}: ${words_of_place(run)}.`);
       tell_lost();
       return true;

@@ -25,7 +25,9 @@ const ASKED = 60; // ms that the page's questions about events may take, before 
 const EVENTS_AT_ONCE = 4; // events that are looked at from one copy of the machine
 // Stretches round a place of which the page is told, and of a part that it shows.
 const ROUND = 2000, MOST_OF_PART = 16384;
-const MEMORY_SHOWN = 256; // bytes
+const MEMORY_SHOWN = 256, MEMORY_BESIDE = 128; // bytes
+const MOST_ENDED = 4; // processes as they ended, of which is known what was told
+const PANELS_BESIDE = { instruction: true };
 
 let machine = null, run = null, player = null;
 let settings = { rounds: false, quantum: 1000, speed: 0 };
@@ -36,7 +38,7 @@ let wanted = {
 let next_whole = 0;
 let stopped = "";
 let counts = new InstructionCounts();
-let ended = null; // the last process as it ended, if none lives: what was told of it last
+const ended = new Map(); // processes as they ended: what was told of them last, by what was asked
 let trap = { key: "", told: null }; // the last trap of the process that is looked at
 let search = null; // a search back in the run, which goes on part by part
 
@@ -77,20 +79,20 @@ function looked_at(current, list) {
 }
 
 /** The memory that is shown: from the address that is wanted, or from sp on, or from 0 if none is there. */
-function memory_of(pid, registers) {
+function memory_of(pid, registers, memory) {
   const from = (at) => ({ at, bytes: machine.peek(pid, at, MEMORY_SHOWN) });
-  const told = from(wanted.memory ?? registers[2] & ~15n);
-  return told.bytes.length || wanted.memory !== null ? told : from(0n);
+  const told = from(memory ?? registers[2] & ~15n);
+  return told.bytes.length || memory !== null ? told : from(0n);
 }
 
-/** What the panels show of a process. */
-function process_panels(pid, { instruction, pages, translate }) {
+/** What the panels show of a process, with its memory from an address on. */
+function process_panels(pid, { instruction, pages, translate }, memory = wanted.memory) {
   const registers = pid === 0 ? null : machine.registers(pid), { frames } = run.config;
   if (registers === null) return {};
   const told = { registers, next: machine.address(pid) };
   if (instruction) {
     told.code = code_round(machine, pid, registers[0]);
-    told.memory = memory_of(pid, registers);
+    told.memory = memory_of(pid, registers, memory);
   }
   if (pages) told.pages = pages_of(machine, pid, frames);
   if (translate) {
@@ -109,17 +111,22 @@ function trap_of(pid) {
 
 const frames = () => frames_of(machine, run.config.frames);
 
+/** The address that is wanted of a process: one, or what a register has, of its number. */
+const address_of = (pid, memory) => (typeof memory === "number" ? (machine.register(pid, memory) ?? 0n) & ~15n : memory);
+
 /** A process as it ended, with what the panels show of it, and the frames as they were then; of pid 0 the last one. */
 function as_it_ended(of_pid, { panels, memory, translate }) {
   const end = end_before(run.line, run.at, of_pid);
   if (!end) return null;
   const { at, pid } = end, key = JSON.stringify([run.edits, at, pid, panels, String(memory), String(translate)]);
-  if (ended?.key === key) return ended.told;
+  if (ended.has(key)) return ended.get(key);
   const told = run.look(at, () => ({
-    pid, ended: { ...end, program: run.program_of(pid) }, ...process_panels(pid, panels),
+    pid, ended: { ...end, program: run.program_of(pid) }, program: run.program_of(pid),
+    ...process_panels(pid, panels, address_of(pid, memory)),
     ...(panels.translate ? { trap: last_trap(run, pid, at + 1) } : {}), ...(panels.pages ? { frames: frames() } : {}),
   }));
-  ended = { key, told };
+  if (ended.size >= MOST_ENDED) ended.delete(ended.keys().next().value);
+  ended.set(key, told);
   return told;
 }
 
@@ -133,6 +140,17 @@ function of_process(current, list) {
   return { pid, ended: null, ...process_panels(pid, panels), ...(panels.pages ? { frames: frames() } : {}) };
 }
 
+/** One of two processes that are looked at side by side; `memory`: an address, or the number of a register. */
+function beside_of(pid, memory, list) {
+  const own = list.find((it) => it.pid === pid && it.lives), registers = own ? machine.registers(pid) : null;
+  if (!registers) return { pid, ...as_it_ended(pid, { panels: PANELS_BESIDE, memory, translate: 0n }) };
+  const at = typeof memory === "bigint" ? memory : registers[memory ?? 2] & ~15n;
+  return {
+    pid, program: own.program, registers, ended: null, code: code_round(machine, pid, registers[0]),
+    memory: { at, bytes: machine.peek(pid, at, MEMORY_BESIDE) },
+  };
+}
+
 /** What a whole view has beside: the processes, and what the panels show. */
 function whole(current) {
   const { panels } = wanted, list = processes(), { plan, futures } = player;
@@ -141,6 +159,7 @@ function whole(current) {
     futures: futures.map(({ at, end }) => ({ at, count: end - at })), ...of_process(current, list),
   };
   if (panels.files) told.files = files_of(machine, list);
+  if (wanted.beside) told.beside = wanted.beside.pids.map((pid, k) => beside_of(pid, wanted.beside.memory[k], list));
   const { along, bytes } = run.copies;
   return { ...told, copies: along.length, copies_bytes: bytes, memory_bytes: machine.memory().length };
 }
@@ -316,7 +335,7 @@ function boot({ id, how = {}, breaks = [], ...asked }) {
     view();
     return false;
   }
-  ended = null;
+  ended.clear();
   counts = new InstructionCounts();
   Object.assign(wanted, { edits: -1, pid: 1 });
   settings = order;
