@@ -119,6 +119,12 @@ function future(it, what) {
   return { at, end: at + count, text: letters };
 }
 
+/** The marks of a run, by which it is told where it differs. */
+function marks(it) {
+  const letters = text(it, "the text of the run's marks");
+  return /^[\w-]*$/.test(letters) ? letters : refuse("the text of the run's marks", "has other letters than marks have");
+}
+
 /** A run that was kept or shared: its files, settings, events, place, keys that wait, and futures that were cut off. */
 export function run_of(it) {
   const played = events(own(it, "events"), "the run"), byte = (key, what) => whole(key, what, 0, 255);
@@ -134,6 +140,7 @@ export function run_of(it) {
     keys: if_there(own(it, "keys"), [], (keys) => list(keys, "the list of keys", MOST_KEYS, byte)),
     futures: if_there(own(it, "futures"), [], (all) => list(all, "the list of futures", MOST_FUTURES, future)),
     plays: own(it, "plays") === true,
+    marks: if_there(own(it, "marks"), "", marks),
   };
 }
 
@@ -214,6 +221,19 @@ function two_of(it) {
   const pids = own(it, "beside"), memory = own(it, "memory");
   if (typeof pids !== "string" || !TWO.test(pids)) return null;
   return { pids: pids.split(",").map(Number), memory: name_or(memory) };
+}
+
+const MOST_COLUMNS = 256; // of a small picture
+
+/** The small picture of a run that was kept: who ran in each part, and in which somebody faulted; null if it has none. */
+export function picture_of_run(it) {
+  const picture = own(it, "picture"), number = (one, what) => whole(one, what, 0, 4294967295);
+  try {
+    const [ran, faults] = ["ran", "faults"].map((name) => list(own(picture, name), name, MOST_COLUMNS, number));
+    return { ran, faults };
+  } catch {
+    return null;
+  }
 }
 
 /** What was shown last time: the work, the file, the tabs, the speed, the lesson with its answers, and the run. */
