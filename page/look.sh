@@ -9,5 +9,5 @@ command -v node >/dev/null || { echo "look.sh: there is no node: apt-get install
 command -v $browser >/dev/null || { echo "look.sh: there is no $browser: apt-get install $browser" >&2; exit 2; }
 page=${2-nektavoly.html} folder=${1:?a folder for the pictures}
 status=0
-for try in look lossless outside reach breaks runs asked c; do node try/$try.mjs "$page" "$folder" || status=1; done
+for try in look lossless outside reach breaks runs lecture asked c; do node try/$try.mjs "$page" "$folder" || status=1; done
 exit $status

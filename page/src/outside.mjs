@@ -272,6 +272,7 @@ const is_number = (word, least, most) => /^\d{1,15}$/.test(word) && Number(word)
 /** What is to stand in place of each word that a link may have: words for that, and whether what it says is such. */
 const LINK = {
   run: ["what Share has packed", (it) => /^[\w-]+$/.test(it)],
+  slides: ["what Share has packed", (it) => /^[\w-]+$/.test(it)],
   example: ["the name of an example", (it, known) => known.examples.includes(it)],
   lesson: ["the number of a lesson", (it, known) => is_number(it, 1, known.questions.length)],
   question: [

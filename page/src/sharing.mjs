@@ -5,11 +5,11 @@ import { RECORD_BEGINNING, read_record, record_text } from "../../anywhere/machi
 import { spans_of } from "../../anywhere/machine/events.mjs";
 import { bytes_of_file, packed_file, touch, unpacked_file, work_of } from "./works.mjs";
 import { problem } from "./messages.mjs";
-import { MOST_EVENTS, Refusal, shared_of, unpacked_value } from "./outside.mjs";
+import { MOST_EVENTS, Refusal, SLIDES_BEGINNING, shared_of, unpacked_value } from "./outside.mjs";
 import { arrive, follow_place, is_booted, is_slide, read_link, seen_now, short_place } from "./place_links.mjs";
 import { event_words } from "./time.mjs";
 import { open_manual } from "./manual.mjs";
-import { listed_slides, note_slide, words_of_slides } from "./slides.mjs";
+import { first_slide, listed_slides, note_slide, own_slides, take_slides, words_of_slides } from "./slides.mjs";
 import * as programs from "./programs.mjs";
 
 const DATA = globalThis.PAGE_DATA;
@@ -186,14 +186,25 @@ export async function first_is_there() {
   for_first = null;
 }
 
+/** Takes the slides that a link has, and follows the first of them. */
+async function follow_slides(packed_text, in_its_place) {
+  let text = null;
+  try { text = await unpacked_value(packed_text); } catch { /* it is told below */ }
+  const is_whole = typeof text === "string" && text.startsWith(SLIDES_BEGINNING);
+  if (!is_whole) problem("The slides of the link aren't shown: it isn't whole.");
+  if (!is_whole || !take_slides(text, "The slides of the link")) return false;
+  return follow(first_slide(), in_its_place);
+}
+
 /** Follows a link: whether it has led to a machine. What is wrong with it is said, and what comes in its place. */
 export async function follow(hash, in_its_place) {
-  const words = read_link(hash), { run, manual, to, example, lesson } = words;
+  const words = read_link(hash), { run, manual, to, example, lesson, slides } = words;
   if (manual !== undefined) {
     forget_address();
     open_manual(manual, to);
     return false;
   }
+  if (slides !== undefined) return follow_slides(slides, in_its_place);
   if (run === undefined && example === undefined && lesson === undefined) {
     if (Object.keys(words).length) await show_here(words);
     return false;
@@ -250,6 +261,14 @@ function links_of(packed_run) {
     ]];
 }
 
+/** The link to all slides of a teacher's own; nothing if they are those of the course. */
+async function link_of_slides() {
+  const words = own_slides();
+  if (!words) return "";
+  const value = `${page_address()}#slides=${await packed(words)}`, label = "Link to all of these slides";
+  return element("p", {}, element("label", {}, `${label} `, element("input", { id: "slides-link", readonly: true, value })));
+}
+
 async function share() {
   const dialog = $("dialog"), body = dialog.querySelector("div");
   const text = element("textarea", { readonly: true, "aria-label": "Link" }), it = shared(), of_it = await packed(it);
@@ -276,7 +295,7 @@ async function share() {
       "p", {},
       "The record has each event of the run, and the sums of its programs, and no program: the terminal plays it too. Drop it on the page, or choose it by Open file.., to have the run again."
     ),
-    element("details", {}, element("summary", {}, words_of_slides()), listed_slides()));
+    element("details", {}, element("summary", {}, words_of_slides()), listed_slides(), await link_of_slides()));
   if (!dialog.open) dialog.showModal();
   text.select();
 }
