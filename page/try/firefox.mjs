@@ -60,8 +60,14 @@ user_pref("app.update.enabled", false);
   const script = (text, args = []) => send("WebDriver:ExecuteAsyncScript", { script: text, args, sandbox: null });
   const { value: inner } = await script("arguments[0]([innerWidth, innerHeight])");
   await send("WebDriver:SetWindowRect", { width: 2 * width - inner[0], height: 2 * height - inner[1] });
+  const tabs = [(await send("WebDriver:GetWindowHandle")).value];
   const page = {
     logs, send, sleep,
+    /** Goes to a tab, from 0 on; the next one that isn't there is opened. */
+    async tab(number) {
+      if (number === tabs.length) tabs.push((await send("WebDriver:NewWindow", { type: "tab" })).handle);
+      await send("WebDriver:SwitchToWindow", { handle: tabs[number], focus: true });
+    },
     async go(to) { await send("WebDriver:Navigate", { url: to }); await page.until("window.ready === true", 120000).catch((error) => logs.push(error.message)); await page.eval("(() => { window.errors_seen = []; addEventListener('error', (it) => window.errors_seen.push(it.message)); const old = console.error; console.error = (...words) => { window.errors_seen.push(words.join(' ')); old(...words); }; })()"); },
     async eval(expression) {
       const { value } = await script("const [words, done] = arguments; (async () => { try { done({ value: (await (0, window.eval)(words)) ?? null }); } catch (error) { done({ error: String((error && error.stack) || error) }); } })();", [expression]);

@@ -22,7 +22,7 @@ function audit() {
 
   // ---- roles
   const INSIDE = { tab: "tablist", option: "listbox", listitem: "list", radio: "radiogroup" };
-  const ROLES = ["alert", "application", "dialog", "group", "img", "list", "listbox", "listitem", "log", "option", "radio", "radiogroup", "region", "slider", "status", "tab", "tablist", "tabpanel", "textbox"];
+  const ROLES = ["alert", "application", "dialog", "group", "img", "list", "listbox", "listitem", "log", "option", "radio", "radiogroup", "region", "separator", "slider", "status", "tab", "tablist", "tabpanel", "textbox"];
   for (const it of all("[role]")) {
     const role = it.getAttribute("role"), outer = INSIDE[role];
     if (!ROLES.includes(role)) wrong(`role ${role} isn't known`, it);
@@ -54,6 +54,7 @@ function audit() {
   if (document.title.trim().length < 3) found.push("the page has no title");
 
   // ---- order
+  const is_scrolled = (it) => { for (let at = it.parentElement; at && at !== document.body; at = at.parentElement) if (at.scrollTop > 0) return true; return false; };
   const heads = all("h1, h2, h3, h4").filter(is_seen).map((it) => ({ it, level: Number(it.tagName[1]) }));
   heads.forEach(({ it, level }, k) => { if (k && level > heads[k - 1].level + 1) wrong(`a heading skips from ${heads[k - 1].level} to ${level}`, it); });
   for (const it of all("[tabindex]")) if (it.tabIndex > 0) wrong("a tabindex above 0", it);
@@ -62,7 +63,8 @@ function audit() {
     const last = stops[k - 1], region = it.closest("main > .column > section, #time, header, #beside, dialog");
     if (!last || last.closest("main > .column > section, #time, header, #beside, dialog") !== region || !region || it.closest("dialog form") || last.closest("dialog form")) return;
     const [a, b] = [last.getBoundingClientRect(), it.getBoundingClientRect()];
-    if (b.bottom < a.top - 4 && a.height < 200) wrong(`the keys go up from ${told(last)} to`, it);
+    // (What is scrolled within a box of its own stands where it stands.)
+    if (b.bottom < a.top - 4 && a.height < 200 && !is_scrolled(it) && !is_scrolled(last)) wrong(`the keys go up from ${told(last)} to`, it);
   });
 
   // ---- contrast
