@@ -4,7 +4,7 @@ import { $, app, ask, color_of, element, on, program_name, write } from "./app.m
 import { grouped, hex, number } from "../../anywhere/machine/number_words.mjs";
 import { REGISTERS } from "../../anywhere/machine/registers.mjs";
 import { line_at } from "../../anywhere/machine/source_places.mjs";
-import { target_words } from "./descriptors.mjs";
+import { rights_of, target_words } from "./descriptors.mjs";
 import { state_of } from "./processes.mjs";
 
 const AROUND = 3; // lines of a source that are shown before and after the line that is next
@@ -90,14 +90,18 @@ function source_of({ registers, program }) {
   const file = line.file ?? `${app.booted.files[program].from.name}`;
   const all = line.file ? symbols.text_of(line.file) : (app.booted.files[program].text ?? "").split("\n");
   const from = Math.max(0, line.line - 1 - AROUND), some = all.slice(from, line.line + AROUND);
-  const rows = some.map((it, k) => row(`${String(from + k + 1).padStart(4)}  ${it}`, from + k + 1 === line.line, false));
+  const rows = some.map((it, k) => {
+    const place = from + k + 1;
+    return row(`${String(place).padStart(4)}  ${it}`, place === line.line, false);
+  });
   return [element("h3", {}, `${file}:${line.line}`), list(`Source ${file}`, rows)];
 }
 
 function code_of({ code, registers }) {
   const at = Math.max(0, code.findIndex((it) => it.address === registers[0]) - CODE_BEFORE);
   const words = ({ address, text }) => `${hex(address).padEnd(8)} ${text || "no instruction"}`;
-  return list("Instructions", code.slice(at, at + CODE).map((it) => row(words(it), it.address === registers[0], false)));
+  const rows = code.slice(at, at + CODE).map((it) => row(words(it), it.address === registers[0], false));
+  return list("Instructions", rows);
 }
 
 function registers_of({ registers }, other) {
@@ -112,7 +116,7 @@ function registers_of({ registers }, other) {
 
 function descriptors_of(pid) {
   const own = (app.view.files?.descriptors ?? []).filter((it) => it.pid === pid);
-  const words = (it) => `${String(it.fd).padStart(2)}  ${it.read ? "r" : "-"}${it.write ? "w" : "-"}  ${target_words(it)}`;
+  const words = (it) => `${String(it.fd).padStart(2)}  ${rights_of(it)}  ${target_words(it)}`;
   if (!own.length) return element("p", { class: "dim" }, "No descriptor is open.");
   return list("Descriptors", own.map((it) => row(words(it), false, false)));
 }
@@ -176,7 +180,11 @@ function fill() {
   for (const it of SIDES) $(`beside-${it}`).value = shown.pids[it];
 }
 
-const as_text = (_, it) => (typeof it === "bigint" ? String(it) : it instanceof Object && it.buffer ? [...it].join() : it);
+/** Numbers of 64 bits and arrays of them, as a text has them. */
+const as_text = (_, it) => {
+  if (typeof it === "bigint") return String(it);
+  return it?.buffer instanceof ArrayBuffer ? [...it].join() : it;
+};
 
 function draw() {
   const { view } = app, told = view.beside;

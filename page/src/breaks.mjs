@@ -82,7 +82,9 @@ function take_condition({ it, changed }, field) {
 function row(told) {
   const { it, words, sent, changed, gone } = told;
   const turn = ({ target }) => { if (target.checked) delete it.off; else it.off = true; changed(); };
-  const on_off = element("input", { type: "checkbox", autocomplete: "off", "aria-label": `Stops: ${words}`, onchange: turn });
+  const on_off = element("input", {
+    type: "checkbox", autocomplete: "off", "aria-label": `Stops: ${words}`, onchange: turn,
+  });
   on_off.checked = !it.off;
   const field = element("input", {
     class: "mono", autocomplete: "off", placeholder: "a0 == 3", "aria-label": `Condition: ${words}`,
@@ -106,7 +108,8 @@ function show() {
   $("break-count").textContent = found.filter(({ it }) => !it.off).length || "";
   list.replaceChildren(...found.map(row));
   // What had the keys has them again.
-  if (focused) [...list.querySelectorAll("[aria-label]")].find((it) => it.getAttribute("aria-label") === focused)?.focus();
+  const named = (it) => it.getAttribute("aria-label") === focused;
+  if (focused) [...list.querySelectorAll("[aria-label]")].find(named)?.focus();
 }
 
 const number_of_call = (name) => Number(call_number(name) ?? name);

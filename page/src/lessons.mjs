@@ -403,7 +403,9 @@ function join_solved(name) {
 }
 
 /** The questions of a lesson that were solved, by their numbers. */
-const solved_of = (place) => LESSONS[place].questions.flatMap((_, k) => (solved.has(`${place + 1}.${k + 1}`) ? k + 1 : []));
+const solved_of = (place) => (
+  LESSONS[place].questions.flatMap((_, k) => (solved.has(`${place + 1}.${k + 1}`) ? k + 1 : []))
+);
 
 /** What was solved, as a line to hand in. */
 export function solved_line(name = "") {
@@ -420,7 +422,9 @@ export function solved_line(name = "") {
 
 /** The line that is handed in, with a name, below the list of lessons. */
 function hand_in() {
-  const line = element("input", { id: "solved-line", class: "mono", readonly: true, "aria-label": "The line to hand in" });
+  const line = element("input", {
+    id: "solved-line", class: "mono", readonly: true, "aria-label": "The line to hand in",
+  });
   const name = element("input", {
     id: "solved-name", autocomplete: "name", maxlength: 80, oninput: () => { line.value = solved_line(name.value); },
   });
@@ -435,7 +439,9 @@ function hand_in() {
   line.value = solved_line();
   return element(
     "div", { class: "ask" }, element("p", {}, "What you have solved, as a line to hand in:"),
-    element("p", {}, element("label", {}, "your name ", name), " ", element("button", { onclick: copy }, "Copy the line"), told),
+    element(
+      "p", {}, element("label", {}, "your name ", name), " ", element("button", { onclick: copy }, "Copy the line"), told
+    ),
     line
   );
 }

@@ -54,8 +54,13 @@ export function bytes_of_base64(it, what) {
 
 /** What each break point may have: that it is switched off, and a condition. */
 function switched(it, what) {
-  const condition = if_there(own(it, "condition"), "", (words) => text(words, `${what} its condition`, MOST_NAME)).trim();
-  try { condition_of(condition); } catch (error) { refuse(what, `has a condition that can't be read: ${error.message}`); }
+  const read = (words) => text(words, `${what} its condition`, MOST_NAME).trim();
+  const condition = if_there(own(it, "condition"), "", read);
+  try {
+    condition_of(condition);
+  } catch (error) {
+    refuse(what, `has a condition that can't be read: ${error.message}`);
+  }
   return { ...(own(it, "off") === true ? { off: true } : {}), ...(condition ? { condition } : {}) };
 }
 
@@ -225,7 +230,9 @@ function two_of(it) {
 
 const MOST_COLUMNS = 256; // of a small picture
 
-/** The small picture of a run that was kept: who ran in each part, and in which somebody faulted; null if it has none. */
+/**
+ * The small picture of a run that was kept: who ran in each part, and in which somebody faulted; null if it has none.
+ */
 export function picture_of_run(it) {
   const picture = own(it, "picture"), number = (one, what) => whole(one, what, 0, 4294967295);
   try {

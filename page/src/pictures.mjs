@@ -4,6 +4,7 @@
 import { $, app, color_of, element, program_name, say, style_of } from "./app.mjs";
 import { bytes_words, grouped, hex } from "../../anywhere/machine/number_words.mjs";
 import { SvgDrawing } from "./svg_drawing.mjs";
+import { rights_of } from "./descriptors.mjs";
 import { paint_turns, state_of, tree_of } from "./processes.mjs";
 import { BITS, address_of, notes_of, pages_words, root_of, tables_of } from "./pages.mjs";
 import { range } from "./time.mjs";
@@ -75,7 +76,7 @@ function tree() {
 // ---- the page table
 
 const in_frame = (frame) => (frame === null ? "" : `frame ${frame}, ${address_of(frame)}`);
-const [ROOT, MIDDLE, LAST, PAGES, WIDE] = [0, 250, 500, 750, 210]; // pixels: where each column begins, and how wide it is
+const [ROOT, MIDDLE, LAST, PAGES] = [0, 250, 500, 750], WIDE = 210; // pixels: the columns, and how wide a box is
 
 /** The boxes of the tables with the rows that they take: {x, from, rows, lines}, and the pages' rows. */
 function laid_out() {
@@ -118,7 +119,8 @@ function page_table() {
       const y = from * ROW, at = parent < 0 ? 0 : tables[parent].from * ROW + 12;
       if (parent >= 0) line(draw, [[x - 40, at], [x - 20, at], [x - 20, y + 12], [x, y + 12]], style_of("--dim"));
       box(draw, x, y, WIDE, 18 * lines.length + 4, color);
-      lines.forEach((words, k) => write_at(draw, words, x + 8, y + 15 + 18 * k, k ? "--dim" : "--ink", k ? "" : "bold "));
+      write_at(draw, lines[0], x + 8, y + 15, "--ink", "bold ");
+      lines.slice(1).forEach((words, k) => write_at(draw, words, x + 8, y + 33 + 18 * k, "--dim"));
     }
     for (const it of leaves) paint_page(draw, it, tables[it.table].from);
   };
@@ -138,7 +140,7 @@ function target_of({ kind, program, frame }, { pipes }) {
 
 const ENDS = { 3: "read end", 4: "write end" };
 const words_of = (it) => [
-  String(it.fd).padStart(2), `${it.read ? "r" : "-"}${it.write ? "w" : "-"}`,
+  String(it.fd).padStart(2), rights_of(it),
   it.kind === 2 ? `next byte ${it.offset}` : ENDS[it.kind] ?? "",
 ].join("  ");
 
@@ -195,8 +197,8 @@ export function picture_of(name) {
   if (!inner) return null;
   const { view, booted } = app, title = `${booted.work}: ${inner.words}`;
   const place = `after event ${grouped(view.at)} of ${grouped(view.end)}, tick ${grouped(view.facts.clock)}`;
-  const least = Math.ceil(LETTER * Math.max(title.length, place.length)), width = Math.max(least, inner.width) + 2 * MARGIN;
-  const height = inner.height + HEAD + 2 * MARGIN;
+  const least = Math.ceil(LETTER * Math.max(title.length, place.length));
+  const width = Math.max(least, inner.width) + 2 * MARGIN, height = inner.height + HEAD + 2 * MARGIN;
   const paint = (draw, move) => {
     draw.fillStyle = style_of("--card");
     draw.fillRect(0, 0, width, height);

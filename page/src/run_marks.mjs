@@ -54,7 +54,8 @@ export class RunMarks {
   take(part) {
     if (this.is_cut_short) return;
     this.cut(part.start);
-    for (let k = 0; k < part.at.length; k++) this.add(content_of(part, k), k + 1 < part.at.length ? part.at[k + 1] : part.end);
+    const { at, end } = part;
+    for (let k = 0; k < at.length; k++) this.add(content_of(part, k), k + 1 < at.length ? at[k + 1] : end);
   }
 
   /** Adds a stretch, or goes on with the last one. */
@@ -79,10 +80,13 @@ export class RunMarks {
 
   /** Makes all sums. */
   sum() {
-    for (; this.summed < this.length; this.summed++) this.sums[this.summed] = this.sum_to(this.summed, this.ends[this.summed]);
+    for (let k = this.summed; k < this.length; k++) this.sums[k] = this.sum_to(k, this.ends[k]);
+    this.summed = this.length;
   }
 
-  /** So many marks at most, as a text: how many stretches lie between two; then of each how far it lies, and its sum. */
+  /**
+   * So many marks at most, as a text: how many stretches lie between two; then of each how far it lies, and its sum.
+   */
   text(most) {
     if (this.is_cut_short) return "";
     this.sum();

@@ -58,7 +58,8 @@ function tells_difference({ built, marks }) {
   if (found) {
     const { from, to } = found, here = event_words(from);
     const where = from === to ? `at event ${grouped(from)}` : `between event ${grouped(from)} and event ${grouped(to)}`;
-    problem(`${is_other ? of_other : "This run is played again"}, and here it differs first ${where}${here && `: ${here}`}.`);
+    const who = is_other ? of_other : "This run is played again";
+    problem(`${who}, and here it differs first ${where}${here && `: ${here}`}.`);
   } else if (is_other && !marks) {
     problem(`${of_other}, and what came of it wasn't kept: whether it differs here can't be told.`);
   }
@@ -265,8 +266,9 @@ function links_of(packed_run) {
 async function link_of_slides() {
   const words = own_slides();
   if (!words) return "";
-  const value = `${page_address()}#slides=${await packed(words)}`, label = "Link to all of these slides";
-  return element("p", {}, element("label", {}, `${label} `, element("input", { id: "slides-link", readonly: true, value })));
+  const value = `${page_address()}#slides=${await packed(words)}`;
+  const field = element("input", { id: "slides-link", readonly: true, value });
+  return element("p", {}, element("label", {}, "Link to all of these slides ", field));
 }
 
 async function share() {

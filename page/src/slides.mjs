@@ -114,7 +114,8 @@ const KEYS = {
 /** The whole screen, or no more. */
 function full_screen() {
   if (!$("letters").checked) return;
-  const root = document.documentElement, asked = document.fullscreenElement ? document.exitFullscreen() : root.requestFullscreen();
+  const root = document.documentElement, is_whole = document.fullscreenElement !== null;
+  const asked = is_whole ? document.exitFullscreen() : root.requestFullscreen();
   asked.catch(() => problem("The browser doesn't let the page have the whole screen: F11 does the same."));
 }
 
@@ -164,7 +165,9 @@ export const listed_slides = () => element(
   )
 );
 /** What the list of slides has: those of the course, or of a file. */
-export const words_of_slides = () => (own.deck === COURSE ? "Twelve slides for a course" : `${own.deck.length} slides of your own`);
+export const words_of_slides = () => (
+  own.deck === COURSE ? "Twelve slides for a course" : `${own.deck.length} slides of your own`
+);
 
 export function start() {
   addEventListener("keydown", key, true);

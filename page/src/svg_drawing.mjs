@@ -9,7 +9,9 @@ export class SvgDrawing {
   /** Of so many pixels; `words` says what it shows, for readers of the screen. */
   constructor(width, height, words) {
     Object.assign(this, { width, height, words, parts: [], path: [], dashes: [] });
-    Object.assign(this, { fillStyle: "#000", strokeStyle: "#000", lineWidth: 1, globalAlpha: 1, font: "10px sans-serif" });
+    Object.assign(this, { fillStyle: "#000", strokeStyle: "#000", lineWidth: 1, globalAlpha: 1 });
+    this.font = "10px sans-serif";
+    this.groups = 0;
   }
 
   add(name, attributes, text) {
@@ -23,7 +25,7 @@ export class SvgDrawing {
   /** What is drawn from now on stands so far to the right, and so far down. */
   move(x, y) {
     this.parts.push(`<g transform="translate(${rounded(x)} ${rounded(y)})">`);
-    this.groups = (this.groups ?? 0) + 1;
+    this.groups++;
   }
 
   /** How a line is drawn. */
@@ -45,14 +47,15 @@ export class SvgDrawing {
   fillText(text, x, y) {
     const [, weight, size, family] = /^(bold )?([\d.]+px) (.*)$/.exec(this.font);
     const bold = weight ? { "font-weight": "bold" } : {};
-    const how = { x, y, fill: this.fillStyle, "font-size": size, "font-family": family, ...bold, "xml:space": "preserve" };
-    this.add("text", how, text);
+    const how = { "font-size": size, "font-family": family, ...bold, "xml:space": "preserve" };
+    this.add("text", { x, y, fill: this.fillStyle, ...how }, text);
   }
 
   /** The drawing as a text of its own. */
   text() {
-    const { width, height, words } = this, size = `width="${width}" height="${height}" viewBox="0 0 ${width} ${height}"`;
+    const { width, height, words } = this;
+    const size = `width="${width}" height="${height}" viewBox="0 0 ${width} ${height}"`;
     const head = `<svg xmlns="http://www.w3.org/2000/svg" ${size} role="img"><title>${escape(words)}</title>`;
-    return `${head}\n${this.parts.join("\n")}${"</g>".repeat(this.groups ?? 0)}\n</svg>\n`;
+    return `${head}\n${this.parts.join("\n")}${"</g>".repeat(this.groups)}\n</svg>\n`;
   }
 }

@@ -21,8 +21,8 @@ function edit_between(before, after) {
 /** Whether an edit goes on with the last one: a letter after it, or one more that is taken away before it. */
 function goes_on(last, { at, removed, added }, now) {
   if (!last || now - last.when > PAUSE) return false;
-  const is_typed = !removed && !last.removed && added.length === 1 && added !== "\n" && at === last.at + last.added.length;
-  return is_typed || (!added && !last.added && removed.length === 1 && at === last.at - 1);
+  const is_letter = !removed && !last.removed && added.length === 1 && added !== "\n";
+  return (is_letter && at === last.at + last.added.length) || (!added && !last.added && removed.length === 1 && at === last.at - 1);
 }
 
 /** Notes that a file's text was changed. */
@@ -31,7 +31,8 @@ export function note(file, before, after, now) {
   if (!edit.removed && !edit.added) return;
   own.future = [];
   if (goes_on(last, edit, now)) {
-    Object.assign(last, edit.added ? { added: last.added + edit.added } : { at: edit.at, removed: edit.removed + last.removed });
+    const { at, removed, added } = edit;
+    Object.assign(last, added ? { added: last.added + added } : { at, removed: removed + last.removed });
     last.when = now;
   } else {
     past.push({ ...edit, when: now });

@@ -112,7 +112,9 @@ function trap_of(pid) {
 const frames = () => frames_of(machine, run.config.frames);
 
 /** The address that is wanted of a process: one, or what a register has, of its number. */
-const address_of = (pid, memory) => (typeof memory === "number" ? (machine.register(pid, memory) ?? 0n) & ~15n : memory);
+const address_of = (pid, memory) => (
+  typeof memory === "number" ? (machine.register(pid, memory) ?? 0n) & ~15n : memory
+);
 
 /** A process as it ended, with what the panels show of it, and the frames as they were then; of pid 0 the last one. */
 function as_it_ended(of_pid, { panels, memory, translate }) {

@@ -96,7 +96,8 @@ async function draw() {
   const [head, rows] = [element("thead", {}, element("tr", {}, ...heads)), element("tbody", {}, ...runs.map(row))];
   const state = element("p", { class: kept_state().is_kept ? "dim" : "bad", role: "status" }, state_words());
   const list = runs.length ? element("table", { id: "runs" }, head, rows) : element("p", {}, "No run is kept.");
-  const other = element("button", { onclick: () => { $("dialog").close(); $("open-file").click(); } }, "Open a record..");
+  const open_record = () => { $("dialog").close(); $("open-file").click(); };
+  const other = element("button", { onclick: open_record }, "Open a record..");
   body().replaceChildren(element("h2", {}, "Your runs"), state, list, element("p", {}, other));
 }
 

@@ -58,7 +58,7 @@ function audit() {
   const heads = all("h1, h2, h3, h4").filter(is_seen).map((it) => ({ it, level: Number(it.tagName[1]) }));
   heads.forEach(({ it, level }, k) => { if (k && level > heads[k - 1].level + 1) wrong(`a heading skips from ${heads[k - 1].level} to ${level}`, it); });
   for (const it of all("[tabindex]")) if (it.tabIndex > 0) wrong("a tabindex above 0", it);
-  const stops = controls.filter((it) => it.tabIndex >= 0 && !it.closest("#heard, #messages, .files"));
+  const stops = controls.filter((it) => it.tabIndex >= 0 && !it.closest("#heard, #messages, .files, .menu > div"));
   stops.forEach((it, k) => {
     const last = stops[k - 1], region = it.closest("main > .column > section, #time, header, #beside, dialog");
     if (!last || last.closest("main > .column > section, #time, header, #beside, dialog") !== region || !region || it.closest("dialog form") || last.closest("dialog form")) return;

@@ -1,7 +1,8 @@
 // hour.mjs PAGE.html FOLDER [SECONDS [SEED]]: a session of 200 actions in two tabs, with reloads, three links and a full
 // disk: commands, steps, keys in the past, edits, other examples, boots. After each reload, and at the end for each run
 // in which something was typed, the events and the console's bytes are those that there were, and so are the sources. It
-// takes so many seconds at least: 3600 make an hour. The status is 1 if something is lost.
+// takes so many seconds at least: 3600 make an hour. ACTIONS is how many actions there are, if not 200. The status is 1 if
+// something is lost.
 import { mkdirSync } from "node:fs";
 import { pathToFileURL } from "node:url";
 import { spans_of } from "../../anywhere/machine/events.mjs";
@@ -9,7 +10,7 @@ import { comes, edit, pause, type } from "./hand.mjs";
 const { open } = await import(process.env.BROWSER === "firefox" ? "./firefox.mjs" : "./browser.mjs");
 
 const [page_file, folder, seconds = "0", first_seed = "7"] = process.argv.slice(2), url = pathToFileURL(page_file).href;
-const ACTIONS = 200, PATIENCE = 60000, SETTLED = 1500; // ms: for a machine, and until what was done is kept
+const ACTIONS = Number(process.env.ACTIONS ?? 200), PATIENCE = 120000, SETTLED = 1500; // ms: for a machine, and until what was done is kept
 mkdirSync(folder, { recursive: true });
 let bad = 0, seed = Number(first_seed), done = 0;
 const lost = (what) => { console.log(`NOT action ${done}: ${what}`); bad++; };
@@ -153,10 +154,11 @@ function begins(first, all) {
 function plan() {
   const list = [];
   for (let k = 0; k < ACTIONS; k++) list.push(one_of(["command", "command", "command", "command", "steps", "steps", "goes", "cuts", "edits", "command", "reload"]));
-  for (const at of [40, 90, 150]) list[at] = "link";
-  for (const at of [30, 65, 100, 130, 160, 185]) list[at] = "other_tab";
-  for (const at of [55, 140]) list[at] = "full";
-  for (const at of [20, 75, 110, 170]) list[at] = "example";
+  const put = (name, ...places) => { for (const at of places) list[Math.floor((at * ACTIONS) / 200)] = name; };
+  put("link", 40, 90, 150);
+  put("other_tab", 30, 65, 100, 130, 160, 185);
+  put("full", 55, 140);
+  put("example", 20, 75, 110, 170);
   list[ACTIONS - 1] = "reload";
   return list;
 }
@@ -191,7 +193,7 @@ try {
     done++;
     try { await ACTS[name](); await stands(); } catch (error) { lost(`${name}: ${error.message}`); await stands().catch(() => {}); }
     named.set(name, (named.get(name) ?? 0) + 1);
-    if (done % 25 === 0) console.log(`   ${done} actions: ${words_of(own().now)}`);
+    if (done % 10 === 0) console.log(`   ${done} actions: ${words_of(own().now)}`);
     await page.sleep(Math.max(0, (done * Number(seconds) * 1000) / ACTIONS - (Date.now() - began)));
   }
   await at_the_end();

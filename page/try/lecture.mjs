@@ -23,14 +23,14 @@ async function pictures(page) {
   for (const theme of ["light", "dark"]) {
     for (const [name, tab, words] of [["opened", "opened", "echo"], ["pages", "pages", "root table"], ["turns", "opened", "wc"], ["tree", "opened", "sleeps in wait"]]) {
       await page.eval(`show_tab('${tab}')`);
-      await page.sleep(300);
+      await page.until(`page.pictures.picture_of('${name}')`);
       await page.eval(`document.querySelector('[data-picture=${name}]').click()`);
       const svg = await page.eval(`page.pictures.as_svg(page.pictures.picture_of('${name}'))`), told = await parsed(page, svg);
       holds(!told.bad && told.texts > 3 && told.shapes > 3 && told.foreign === 0 && svg.includes(words), `${theme}, ${name}: SVG of ${svg.length} letters, ${told.texts} texts: ${told.title}`);
       writeFileSync(`${folder}/picture-${name}-${theme}.svg`, svg);
       const png = await page.eval(`(async () => { const it = await page.pictures.as_png(page.pictures.picture_of('${name}')), image = await createImageBitmap(it), own = page.pictures.picture_of('${name}'); return [it.type, it.size, image.width === Math.round(2 * own.width) && image.height === Math.round(2 * own.height)]; })()`);
       holds(png[0] === "image/png" && png[1] > 3000 && png[2], `${theme}, ${name}: PNG of ${png[1]} bytes`);
-      holds(await page.eval("document.activeElement.id === 'copy-png' && document.getElementById('picture').complete && document.getElementById('picture').naturalWidth > 0"), `${theme}, ${name}: it is seen before it is copied`);
+      holds(await comes(page, "document.activeElement.id === 'copy-png' && document.getElementById('picture').complete && document.getElementById('picture').naturalWidth > 0"), `${theme}, ${name}: it is seen before it is copied`);
       await page.picture(`${folder}/picture-${name}-${theme}.png`);
       await page.key("Enter");
       holds(await comes(page, "/is in the clipboard|save the picture/.test(document.getElementById('picture-told').textContent)"), `${theme}, ${name}: ${await page.eval("document.getElementById('picture-told').textContent")}`);
