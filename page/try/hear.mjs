@@ -54,7 +54,7 @@ function audit() {
   if (document.title.trim().length < 3) found.push("the page has no title");
 
   // ---- order
-  const is_scrolled = (it) => { for (let at = it.parentElement; at && at !== document.body; at = at.parentElement) if (at.scrollTop > 0) return true; return false; };
+  const is_scrolled = (it) => { for (let at = it.parentElement; at && at !== document.body; at = at.parentElement) if (at.scrollHeight > at.clientHeight + 2 && /auto|scroll/.test(getComputedStyle(at).overflowY)) return true; return false; };
   const heads = all("h1, h2, h3, h4").filter(is_seen).map((it) => ({ it, level: Number(it.tagName[1]) }));
   heads.forEach(({ it, level }, k) => { if (k && level > heads[k - 1].level + 1) wrong(`a heading skips from ${heads[k - 1].level} to ${level}`, it); });
   for (const it of all("[tabindex]")) if (it.tabIndex > 0) wrong("a tabindex above 0", it);

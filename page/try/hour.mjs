@@ -12,8 +12,8 @@ const { open } = await import(process.env.BROWSER === "firefox" ? "./firefox.mjs
 const [page_file, folder, seconds = "0", first_seed = "7"] = process.argv.slice(2), url = pathToFileURL(page_file).href;
 const ACTIONS = Number(process.env.ACTIONS ?? 200), PATIENCE = 120000, SETTLED = 1500; // ms: for a machine, and until what was done is kept
 mkdirSync(folder, { recursive: true });
-let bad = 0, seed = Number(first_seed), done = 0;
-const lost = (what) => { console.log(`NOT action ${done}: ${what}`); bad++; };
+let bad = 0, seed = Number(first_seed), done = 0, here = 0;
+const lost = (what) => { console.log(`NOT action ${done}, in tab ${here}: ${what}`); bad++; };
 const random = (most) => { seed = (Math.imul(seed, 1664525) + 1013904223) >>> 0; return Math.floor((seed / 4294967296) * most); };
 const one_of = (list) => list[random(list.length)];
 
@@ -23,7 +23,6 @@ const NOW = `(() => { const { app } = page; let text = ''; for (const it of app.
 const page = await open(url, { width: 1300, height: 850 });
 // Of each tab: what it has now, and whether something was typed in its run. Of all: the runs that were left.
 const tabs = [{ now: null, is_typed: false }, { now: null, is_typed: false }], left = [], named = new Map();
-let here = 0;
 const own = () => tabs[here];
 
 async function stands() {
@@ -75,7 +74,7 @@ const ACTS = {
     if (random(2)) return;
     await stands();
     await page.eval("document.getElementById('take-back').click()");
-    await page.sleep(600);
+    await comes(page, `page.app.view.end >= ${before.end}`, PATIENCE);
     await pause(page);
     await page.eval("page.ask('go', { place: page.app.view.end })");
     await page.sleep(300);
@@ -93,8 +92,10 @@ const ACTS = {
     await stands();
     await page.sleep(SETTLED);
     const before = own().now;
-    await page.go(`${url}?${done}`);
-    await page.until("page.app.view", PATIENCE);
+    await page.eval("window.is_old = true; location.reload(); 0").catch(() => {});
+    for (const end = Date.now() + PATIENCE; Date.now() < end; await page.sleep(100)) {
+      if (await page.eval("!window.is_old && window.ready === true && !!page.app.view").catch(() => false)) break;
+    }
     await page.sleep(400);
     await stands();
     if (!is_same(before, own().now)) lost(`a reload: ${words_of(before)}; then ${words_of(own().now)}`);
