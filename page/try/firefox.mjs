@@ -11,7 +11,7 @@ const SPECIAL = { Enter: "\uE007", Backspace: "\uE003", Escape: "\uE00C", Tab: "
 /** The connection to a browser's Marionette: packets are LENGTH:JSON. */
 async function marionette(folder) {
   let port = "";
-  for (let k = 0; k < 300 && !port; k++) { await sleep(100); try { port = readFileSync(`${folder}/MarionetteActivePort`, "utf8").trim(); } catch { /* it isn't up yet */ } }
+  for (let k = 0; k < 1200 && !port; k++) { await sleep(100); try { port = readFileSync(`${folder}/MarionetteActivePort`, "utf8").trim(); } catch { /* it isn't up yet */ } }
   if (!port) throw new Error("Firefox doesn't tell its port");
   const socket = connect(Number(port), "127.0.0.1"), waiting = new Map();
   let held = Buffer.alloc(0), last = 0, greeted;
