@@ -1,7 +1,7 @@
 // The break points that an editor has set, of each source and of each other kind. Those that are asked for before a
 // machine is booted are looked up when one is; what is found then is told.
 import { text_in } from "./arguments.mjs";
-import { condition_of } from "./conditions.mjs";
+import { condition_of } from "../machine/conditions.mjs";
 
 const NOT_YET = "no machine is booted yet", NO_DEBUG = "this run is one without debugging";
 

@@ -25,7 +25,7 @@ export class Stops {
     );
     const here = breaks.of_process(pid).filter(is_here);
     if (!here.length || this.has_stood(pid)) return [];
-    return here.filter((it) => it.holds(machine, pid));
+    return here.filter((it) => it.holds(run, pid));
   }
 
   /** Whether a process stands where it was left: it has made no step since. */

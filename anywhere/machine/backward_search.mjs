@@ -2,6 +2,7 @@
 // point stops. The record is gone through from its end, part by part, and within a part the module searches. It is done
 // in the worker.
 import { KIND, UNTIL } from "./machine.mjs";
+import { is_so } from "./break_points.mjs";
 import { call_name } from "./calls.mjs";
 import { call_of, stored_by } from "./event_words.mjs";
 
@@ -74,6 +75,11 @@ function store_in(run, from, to, pid, address) {
 
 // ---- break points
 
+/** A run as it was before the store that its process has just made: the pc alone was another one. */
+const before_store_of = ({ machine }) => ({
+  machine: { register: (pid, place) => machine.register(pid, place) - (place === 0 ? 4n : 0n) },
+});
+
 /** The last place within a part at which one of the break points stops; null if there is none. */
 function stop_in(run, from, to, before, breaks) {
   const { line, machine } = run, fits = (it, pid) => it.program === null || it.program === run.program_of(pid);
@@ -84,16 +90,21 @@ function stop_in(run, from, to, before, breaks) {
       const kind = line.kind(k), pid = line.pid(k);
       if (it.kind === "call") {
         run.replay(end);
-        if ((kind === KIND.CALL || kind === KIND.WAIT) && line.number(k) === it.number) note(end, `after ${it.name}`);
+        const is_own = (kind === KIND.CALL || kind === KIND.WAIT) && line.number(k) === it.number;
+        if (is_own && is_so(it, run, pid)) note(end, `after ${it.name}`);
       } else if (kind === KIND.STEP && fits(it, pid)) {
-        const before_store = (at) => note(at - 1, `before a store to ${it.name}`);
+        const before_store = (at) => {
+          if (is_so(it, before_store_of(run), pid)) note(at - 1, `before a store to ${it.name}`);
+        };
+        const is_there = (at) => { if (is_so(it, run, pid)) note(at, `at ${it.name}`); };
         if (it.kind === "store") search(run, end, UNTIL.STORE, 0, it.address, before_store);
-        else search(run, end, UNTIL.AT, pid, it.address, (at) => note(at, `at ${it.name}`));
+        else search(run, end, UNTIL.AT, pid, it.address, is_there);
       } else {
         run.replay(end);
         // A call, or a turn, may lead to the address too.
         const { current } = run, may_stop = it.kind === "address" && current && fits(it, current);
-        if (may_stop && machine.register(current, 0) === it.address) note(run.at, `at ${it.name}`);
+        const is_at = may_stop && machine.register(current, 0) === it.address;
+        if (is_at && is_so(it, run, current)) note(run.at, `at ${it.name}`);
       }
     });
   }

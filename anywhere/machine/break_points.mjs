@@ -1,6 +1,6 @@
 // Break points of a machine, {kind, address or number, program, name}: at an address ("address"), before a store to a
 // byte ("store"), after a kernel call ("call"). One of a program, told by its place among the files, stops processes
-// that run it; one whose program is null stops each.
+// that run it; one whose program is null stops each. One that has `is_met(run, pid)` stops only if that is so.
 import { KIND } from "./machine.mjs";
 import { word_at } from "./memory.mjs";
 import { bits_of } from "./record.mjs";
@@ -20,6 +20,9 @@ export function stands_before(machine, { addresses, bytes }) {
   const pid = machine.current(), pc = pid ? machine.register(pid, 0) : null;
   return pc !== null && (addresses.includes(pc) || bytes.some((it) => is_stored_next(machine, pid, pc, it)));
 }
+
+/** Whether the condition of a break point, if it has one, is so for a process where the run stands. */
+export const is_so = (it, run, pid) => !it.is_met || it.is_met(run, pid);
 
 export class BreakPoints {
   constructor(run) {
@@ -52,7 +55,7 @@ export class BreakPoints {
     if (!pid) return null;
     const pc = machine.register(pid, 0), is_at = (it) => it.kind === "address" && it.address === pc;
     const is_before = (it) => it.kind === "store" && this.is_stored_next(pid, pc, it.address);
-    const found = this.of_process(pid).find((it) => is_at(it) || is_before(it));
+    const found = this.of_process(pid).find((it) => (is_at(it) || is_before(it)) && is_so(it, run, pid));
     return found ? `${found.kind === "store" ? "before a store to" : "at"} ${found.name}` : null;
   }
 
@@ -61,18 +64,26 @@ export class BreakPoints {
     return is_stored_next(this.run.machine, pid, pc, address);
   }
 
-  /** Whether what came of an event is a call after which a break point stops. */
-  is_stop_after({ kind, number }) {
-    return is_call(kind) && this.list.some((it) => it.kind === "call" && it.number === number);
+  /** The break points after the call that came of an event, whatever their conditions. */
+  after({ kind, number }) {
+    return is_call(kind) ? this.list.filter((it) => it.kind === "call" && it.number === number) : [];
   }
 
-  /** The place after the record's next call, up to a place, at which a break point stops; null if there is none. */
+  /** Whether what came of the last event is a call after which a break point stops. */
+  is_stop_after(told) {
+    return this.after(told).some((it) => is_so(it, this.run, told.pid));
+  }
+
+  /**
+   * The place after the record's next call, up to a place, at which a break point stops if its condition is so; null if
+   * there is none.
+   */
   after_call_of_record(to) {
     const { run } = this, { line } = run;
     if (!this.list.some((it) => it.kind === "call")) return null;
     for (const k of line.along(Math.max(0, line.find(run.at)), 1, { kinds: bits_of(is_call) })) {
       if (line.at(k) >= to) return null;
-      if (this.is_stop_after(line.outcome(k))) return Math.max(run.at, line.at(k)) + 1;
+      if (this.after(line.outcome(k)).length) return Math.max(run.at, line.at(k)) + 1;
     }
     return null;
   }

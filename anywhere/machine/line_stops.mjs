@@ -1,5 +1,5 @@
 // Break points at lines: each belongs to the text of its line, {line, text}, and goes with it while the source is
-// edited.
+// edited. What else it has, as a condition, stays with it.
 
 /** How many lines two sources have in common at their beginnings, and how many at their ends behind that. */
 function common(before, after) {
@@ -29,13 +29,14 @@ export function nearest(lines, text, line, from = 1, to = lines.length + 1) {
 export function moved(stops, before, after) {
   if (!stops.length) return stops;
   const { head, tail } = common(before, after), more = after.length - before.length, found = [];
-  for (const { line, text } of stops) {
-    if (line <= head) found.push({ line, text });
-    else if (line > before.length - tail) found.push({ line: line + more, text });
+  for (const it of stops) {
+    const { line, text } = it;
+    if (line <= head) found.push(it);
+    else if (line > before.length - tail) found.push({ ...it, line: line + more });
     else {
       const same = nearest(after, text, line, head + 1, after.length - tail + 1);
-      if (same) found.push({ line: same, text });
-      else if (more === 0 && after[line - 1].trim()) found.push({ line, text: after[line - 1].trim() });
+      if (same) found.push({ ...it, line: same });
+      else if (more === 0 && after[line - 1].trim()) found.push({ ...it, text: after[line - 1].trim() });
     }
   }
   return found.filter((it, k) => found.findIndex((other) => other.line === it.line) === k);

@@ -55,12 +55,18 @@ export class Player {
     if (run.is_past) {
       const to = Math.min(run.end, run.at + Math.max(1, some)), after_call = breaks.after_call_of_record(to);
       const is_met = run.replay(after_call ?? to, looks ? () => breaks.stops() : null);
-      return !is_met && after_call !== null ? AT_CALL : this.words_here();
+      return !is_met && after_call !== null && this.is_stop_here() ? AT_CALL : this.words_here();
     }
     if (run.halted) return GONE;
     const stops = looks ? breaks.stops() : null;
     const told = has_ticks ? plan.next(some, stops) : plan.next_of_terminal(some, false, stops);
     return breaks.is_stop_after(told) ? AT_CALL : this.words_here();
+  }
+
+  /** Whether the last event is a call after which a break point stops. */
+  is_stop_here() {
+    const { line, at } = this.run;
+    return this.breaks.is_stop_after(line.outcome(line.find(at - 1)));
   }
 
   /** Why a break point stops it here; null if none does. A key or a byte that is sent leads no process to one. */

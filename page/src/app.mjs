@@ -1,5 +1,6 @@
 // What the panels share: the worker, the last view of the machine, the files, and who wants to hear of changes.
 import { ThinnedRecord } from "./thinned_record.mjs";
+import { RunMarks } from "./run_marks.mjs";
 import { LastNames } from "../../anywhere/machine/program_names.mjs";
 import { EventsText } from "../../anywhere/machine/events.mjs";
 
@@ -9,6 +10,7 @@ export const app = {
   worker: null,
   view: null,
   line: new ThinnedRecord(), // what came of the events so far, as far as the page has it
+  marks: new RunMarks(), // what came of them, in short
   events: new EventsText(), // the events so far, as a text
   names: new LastNames(), // the program that each process of the run ran last, by its place among the files
   text: new Uint8Array(0), // the bytes that the console has shown

@@ -1,11 +1,12 @@
 // Break points: those at lines stand with their files, and the others, at labels, addresses, calls and stores, with the
-// work. Each belongs to a program, and counts while the machine has it.
+// work. Each belongs to a program, and counts while the machine has it. It has a switch, and may have a condition.
 import { $, app, ask, element, on, say, tell } from "./app.mjs";
 import { is_source } from "../../anywhere/machine/file_kinds.mjs";
 import { nearest } from "../../anywhere/machine/line_stops.mjs";
 import { start_of_line } from "../../anywhere/machine/source_places.mjs";
 import { all_calls, call_name, call_number } from "../../anywhere/machine/calls.mjs";
 import { hex } from "../../anywhere/machine/number_words.mjs";
+import { condition_of } from "../../anywhere/machine/conditions.mjs";
 import { touch } from "./works.mjs";
 
 const ADDRESS = /^(0x[0-9a-f]+|\d+)$/i;
@@ -26,29 +27,32 @@ function address_of_line(booted, file, { line, text }) {
   return address === undefined ? null : { place, address };
 }
 
-/** A break point as it is shown and as the worker takes it; `sent` is null while it doesn't count. */
+/**
+ * A break point as it is shown and as the worker takes it; `sent` is null while it doesn't count. `it` has its switch
+ * and its condition, and `changed` is called when they have changed.
+ */
 function of_line(booted, file, stop) {
   const found = address_of_line(booted, file, stop), words = `${file.name}, line ${stop.line}`;
+  const changed = () => tell("stops", file), name = `line ${stop.line} of ${file.name}`;
   return {
-    words,
-    sent: found
-      && { kind: "address", address: found.address, program: found.place, name: `line ${stop.line} of ${file.name}` },
-    gone: () => { file.stops = file.stops.filter((it) => it !== stop); tell("stops", file); },
+    it: stop, words, changed, sent: found && { kind: "address", address: found.address, program: found.place, name },
+    gone: () => { file.stops = file.stops.filter((it) => it !== stop); changed(); },
   };
 }
 
 function of_work(booted, it) {
-  const { kind, name, program } = it;
-  const gone = () => { app.work.breaks = app.work.breaks.filter((other) => other !== it); touch(); show(); };
+  const { kind, name, program } = it, changed = () => { touch(); show(); };
+  const gone = () => { app.work.breaks = app.work.breaks.filter((other) => other !== it); changed(); };
   if (kind === "call") {
     const number = number_of_call(name);
-    return { words: `call ${call_name(number)}`, sent: { kind, number, name, program: null }, gone };
+    return { it, words: `call ${call_name(number)}`, changed, sent: { kind, number, name, program: null }, gone };
   }
   const place = program === null ? null : place_of(booted, program);
   const address = ADDRESS.test(name) ? BigInt(name) : label_of(booted, place, name);
   const where = address === null || ADDRESS.test(name) ? "" : ` ${hex(address)}`;
   const words = `${kind === "store" ? "store to" : "at"} ${name}${where}${program === null ? "" : ` in ${program}`}`;
-  return { words, sent: address === null || place === -1 ? null : { kind, address, name, program: place }, gone };
+  const sent = address === null || place === -1 ? null : { kind, address, name, program: place };
+  return { it, words, changed, sent, gone };
 }
 
 const all = (booted) => [
@@ -56,22 +60,56 @@ const all = (booted) => [
   ...app.work.breaks.map((it) => of_work(booted, it)),
 ];
 /** Those that count in a machine, as the worker takes them. */
-export const counting = (booted) => all(booted).flatMap((it) => it.sent ?? []);
+export const counting = (booted) => all(booted).flatMap(({ it, sent }) => (
+  sent && !it.off ? { ...sent, condition: it.condition ?? "" } : []
+));
+
+/** Takes a condition that was written; one that can't be read is told, and that before stays. */
+function take_condition({ it, changed }, field) {
+  const condition = field.value.trim();
+  try {
+    condition_of(condition);
+  } catch (error) {
+    field.setAttribute("aria-invalid", "true");
+    say(`This is no condition: ${error.message}. Join tests by &&.`);
+    return;
+  }
+  if (condition) it.condition = condition; else delete it.condition;
+  changed();
+}
+
+/** The row of a break point in the list: its switch, its condition, and what takes it away. */
+function row(told) {
+  const { it, words, sent, changed, gone } = told;
+  const turn = ({ target }) => { if (target.checked) delete it.off; else it.off = true; changed(); };
+  const on_off = element("input", {
+    type: "checkbox", autocomplete: "off", "aria-label": `Stops: ${words}`, onchange: turn,
+  });
+  on_off.checked = !it.off;
+  const field = element("input", {
+    class: "mono", autocomplete: "off", placeholder: "a0 == 3", "aria-label": `Condition: ${words}`,
+    onchange: () => take_condition(told, field),
+  });
+  field.value = it.condition ?? "";
+  return element(
+    "li", {},
+    element("label", { class: sent && !it.off ? "" : "dim" }, on_off, ` ${words}`, sent ? "" : ": not in this machine"),
+    element("button", { "aria-label": `Take away: ${words}`, onclick: gone }, "✕"),
+    element("label", { class: "small" }, "only if ", field)
+  );
+}
 
 /** Lists the break points, and sends those that count. */
 function show() {
-  const found = all(app.booted);
+  const found = all(app.booted), list = $("break-list"), { activeElement } = document;
+  const focused = list.contains(activeElement) ? activeElement.getAttribute("aria-label") : null;
   if (app.booted) ask("breaks", { list: counting(app.booted) });
   tell("stops shown");
-  $("break-count").textContent = found.length || "";
-  $("break-list").replaceChildren(
-    ...found.map(
-      (it) => element(
-        "li", {}, element("span", { class: it.sent ? "" : "dim" }, it.words, it.sent ? "" : ": not in this machine"),
-        element("button", { "aria-label": `Take away: ${it.words}`, onclick: it.gone }, "✕")
-      )
-    )
-  );
+  $("break-count").textContent = found.filter(({ it }) => !it.off).length || "";
+  list.replaceChildren(...found.map(row));
+  // What had the keys has them again.
+  const named = (it) => it.getAttribute("aria-label") === focused;
+  if (focused) [...list.querySelectorAll("[aria-label]")].find(named)?.focus();
 }
 
 const number_of_call = (name) => Number(call_number(name) ?? name);

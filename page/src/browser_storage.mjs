@@ -14,7 +14,7 @@ const values = new Map(); // by their names: {value, version}
 const waiting = new Map(); // values that aren't written yet, by their names; undefined: it is to be forgotten
 let is_writing = false;
 const state = { is_kept: true, why: "", since: 0 };
-const hearers = { state: () => {}, conflict: () => {} };
+const hearers = { state: () => {}, conflicts: [] };
 
 /** Does something with a storage of the browser; null where it refuses. */
 function attempt(kind, action) {
@@ -90,7 +90,7 @@ function last_not_kept() {
 // ---- values
 
 /** Calls with the name of a value that another tab has changed since this one read it; its own isn't written. */
-export const on_conflict = (call) => { hearers.conflict = call; };
+export const on_conflict = (call) => { hearers.conflicts.push(call); };
 
 /** Writes what waits; a value that isn't what was read or written last, is left as it stands. */
 async function write_all() {
@@ -113,7 +113,7 @@ async function write_all() {
       });
       for (const { name, value, version } of conflicts) {
         values.set(name, { value, version });
-        hearers.conflict(name);
+        for (const call of hearers.conflicts) call(name);
       }
       note_kept();
     } catch (error) {

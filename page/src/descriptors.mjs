@@ -2,7 +2,11 @@
 import { $, app, color_of, element, on, program_name, shown_bytes } from "./app.mjs";
 import { opened_by } from "./happened.mjs";
 
-function target(it) {
+/** What a descriptor may be used for, as `r-`. */
+export const rights_of = ({ read, write }) => `${read ? "r" : "-"}${write ? "w" : "-"}`;
+
+/** What a descriptor names, in words. */
+export function target_words(it) {
   if (it.kind === 1) return "the console";
   if (it.kind === 2) return `file ${program_name(it.program)}, next byte ${it.offset}`;
   return `the ${it.kind === 3 ? "read" : "write"} end of the pipe in frame ${it.frame}`;
@@ -53,7 +57,7 @@ function draw() {
           ),
           element("td", { class: "number" }, String(it.fd)),
           element(
-            "td", {}, target(it), element("span", { class: "dim" }, ` ${it.read ? "r" : "-"}${it.write ? "w" : "-"} `),
+            "td", {}, target_words(it), element("span", { class: "dim" }, ` ${rights_of(it)} `),
             element(
               "button",
               { class: "slight", title: "Goes back to the call that opened it", onclick: () => opened_by(pid, it.fd) },

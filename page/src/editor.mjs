@@ -5,6 +5,7 @@ import { $, app, ask, on, say, tell } from "./app.mjs";
 import { line_at, places_of } from "../../anywhere/machine/source_places.mjs";
 import { is_elf, is_source } from "../../anywhere/machine/file_kinds.mjs";
 import { mistake_words } from "../../anywhere/machine/assembler_mistakes.mjs";
+import { changed_back, note } from "./undo.mjs";
 import { moved } from "../../anywhere/machine/line_stops.mjs";
 
 const LINE = 18, ABOVE = 8; // pixels: the height of a line, and what is free above the first (style.css has both)
@@ -91,7 +92,7 @@ const row_class = (line) => `row${line === state.pc ? " pc" : ""}${is_bad(line) 
 function number_of(line, stops) {
   const name = [
     line === state.pc ? "pc" : "", is_bad(line) ? "bad" : "", may_stop(line) ? "" : "no",
-    stops.has(line) ? "stop" : "",
+    stops.has(line) ? `stop${stops.get(line) ? " off" : ""}` : "",
   ].join(" ");
   return `<div class="${name}" data-line="${line}">${line}</div>`;
 }
@@ -105,7 +106,7 @@ function lines_seen() {
 /** Draws the lines that are seen, and some above and below. */
 function draw() {
   const box = $("editor"), { lines, file } = state, is_plain = box.classList.contains("is-plain");
-  const stops = new Set(stops_of(file).map((it) => it.line));
+  const stops = new Map(stops_of(file).map((it) => [it.line, it.off === true]));
   const { first, last } = lines_seen(), from = Math.max(0, first - UNSEEN), to = Math.min(lines.length, last + UNSEEN);
   const ink = box.querySelector(".ink"), gutter = box.querySelector(".gutter"), numbers = [];
   const shown = is_source(file) ? coloured : escape;
@@ -285,6 +286,7 @@ function edited() {
   const { file, lines: before } = state, source = $("source");
   if (!file || file.text === undefined) return;
   const { value } = source, is_first = !file.changed;
+  if (!state.is_undone) note(file, before.join("\n"), value, performance.now());
   state.lines = value.split("\n");
   file.text = state.ends === "\n" ? value : value.replace(/\n/g, state.ends);
   file.changed = true;
@@ -303,6 +305,25 @@ function edited() {
     if (stops.length) tell("stops", file);
     assemble();
   }, SETTLE);
+}
+
+/** Takes the last edit of the file back, or does it again. */
+function undo(is_redo) {
+  const { file } = state, source = $("source"), made = file && changed_back(file, source.value, is_redo);
+  if (!made || source.readOnly) return;
+  source.value = made.text;
+  source.setSelectionRange(made.from, made.to);
+  state.is_undone = true;
+  edited();
+  state.is_undone = false;
+  reveal(made.text.slice(0, made.from).split("\n").length);
+}
+
+/** Whether a key means undo or redo: Ctrl Z, and Ctrl Y or Shift Ctrl Z. */
+function undo_of_key({ key, ctrlKey, metaKey, shiftKey, altKey }) {
+  const letter = key.toLowerCase();
+  if (altKey || !(ctrlKey || metaKey) || (letter !== "z" && letter !== "y")) return null;
+  return { is_redo: letter === "y" || shiftKey };
 }
 
 /** The first mistake in words, and how many more there are. */
@@ -342,9 +363,16 @@ function show_pc() {
 export function start() {
   const source = $("source"), box = $("editor");
   source.addEventListener("input", edited);
+  source.addEventListener("beforeinput", (event) => {
+    if (!/^history/.test(event.inputType)) return;
+    event.preventDefault();
+    undo(event.inputType === "historyRedo");
+  });
   source.addEventListener("keydown", (event) => {
     if (event.key === "Enter" && (event.ctrlKey || event.metaKey)) { event.preventDefault(); $("boot").click(); }
     if (event.key === "Escape") $("boot").focus();
+    const asked = undo_of_key(event);
+    if (asked) { event.preventDefault(); undo(asked.is_redo); }
     if (event.key === "F9") { event.preventDefault(); break_at_caret(); }
   });
   box.addEventListener("scroll", scrolled, { passive: true });

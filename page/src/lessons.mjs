@@ -2,6 +2,7 @@
 // tells.
 import { $, app, ask, element, on, once, tell } from "./app.mjs";
 import { KIND } from "../../anywhere/machine/machine.mjs";
+import { keep, kept, on_conflict } from "./browser_storage.mjs";
 import { help_of } from "./manual.mjs";
 import { is_changed, machine_of, shipped_files } from "./works.mjs";
 import * as programs from "./programs.mjs";
@@ -371,6 +372,80 @@ const LESSONS = [
 let chosen = null;
 const answers = new Map(); // what was answered, by the numbers of the lesson and the question
 
+// ---- what was solved
+
+const SOLVED = "lessons solved"; // its name among what the browser keeps
+const solved = new Set(); // questions, as "2.3": lesson 2, question 3
+
+/** Takes what the browser has kept of it, of which nothing is known. */
+function take_solved(list) {
+  const is_one = (it) => {
+    const [, lesson, question] = /^([1-9])\.([1-9])$/.exec(it) ?? [];
+    return Number(question) <= LESSONS[Number(lesson) - 1]?.questions.length;
+  };
+  if (Array.isArray(list)) for (const it of list) if (typeof it === "string" && is_one(it)) solved.add(it);
+}
+
+/** Notes that a question was answered rightly. */
+function note_solved(lesson, question) {
+  const name = `${LESSONS.indexOf(lesson) + 1}.${lesson.questions.indexOf(question) + 1}`;
+  if (solved.has(name)) return;
+  solved.add(name);
+  keep(SOLVED, [...solved]);
+}
+
+/** Another tab has solved something too: both count. */
+function join_solved(name) {
+  if (name !== SOLVED) return;
+  const own = solved.size;
+  take_solved(kept(SOLVED));
+  if (own) keep(SOLVED, [...solved]);
+}
+
+/** The questions of a lesson that were solved, by their numbers. */
+const solved_of = (place) => (
+  LESSONS[place].questions.flatMap((_, k) => (solved.has(`${place + 1}.${k + 1}`) ? k + 1 : []))
+);
+
+/** What was solved, as a line to hand in. */
+export function solved_line(name = "") {
+  const all = LESSONS.reduce((sum, it) => sum + it.questions.length, 0);
+  const of_lesson = (it, k) => {
+    const own = solved_of(k), count = it.questions.length;
+    return `${k + 1}: ${own.length === count ? "all" : own.length ? own.join(" ") : "none"} of ${count}`;
+  };
+  const who = name.trim().replace(/\s+/g, " ").slice(0, 80), day = new Date().toISOString().slice(0, 10);
+  return [
+    "nektavoly lessons", ...(who ? [who] : []), day, `solved ${solved.size} of ${all}`, ...LESSONS.map(of_lesson),
+  ].join("; ");
+}
+
+/** The line that is handed in, with a name, below the list of lessons. */
+function hand_in() {
+  const line = element("input", {
+    id: "solved-line", class: "mono", readonly: true, "aria-label": "The line to hand in",
+  });
+  const name = element("input", {
+    id: "solved-name", autocomplete: "name", maxlength: 80, oninput: () => { line.value = solved_line(name.value); },
+  });
+  const told = element("span", { role: "status" });
+  const copy = async () => {
+    line.select();
+    try {
+      await navigator.clipboard.writeText(line.value);
+      told.textContent = " It is in the clipboard.";
+    } catch { told.textContent = " It is chosen: copy it by Ctrl C."; }
+  };
+  line.value = solved_line();
+  return element(
+    "div", { class: "ask" }, element("p", {}, "What you have solved, as a line to hand in:"),
+    element(
+      "p", {}, element("label", {}, "your name ", name), " ", element("button", { onclick: copy }, "Copy the line"), told
+    ),
+    line
+  );
+}
+
 /** The lesson's copy of its program: it is kept beside the example, so that neither changes the other. */
 const name_of = (lesson) => `lesson ${LESSONS.indexOf(lesson) + 1}`;
 const copy_of = (lesson) => () => ({
@@ -407,6 +482,7 @@ async function judge(lesson, question, given, told) {
     );
     if (place !== undefined) told.append(element("button", { onclick: () => ask("go", { place }) }, "See it"));
     question.done = right || question.done;
+    if (right) note_solved(lesson, question);
     tell("answered", {
       lesson: LESSONS.indexOf(lesson) + 1, question: lesson.questions.indexOf(question) + 1, is_right: right,
       is_solved: lesson.questions.every((it) => it.done),
@@ -490,10 +566,13 @@ function draw() {
         "div", { class: "list" },
         ...LESSONS.map(
           (it, k) => element(
-            "button", { onclick: () => open(it) }, `${k + 1}. ${it.name}`, element("small", {}, it.about)
+            "button", { onclick: () => open(it) }, `${k + 1}. ${it.name}`,
+            solved_of(k).length ? ` · ${solved_of(k).length} of ${it.questions.length} solved` : "",
+            element("small", {}, it.about)
           )
         )
-      )
+      ),
+      hand_in()
     );
     return;
   }
@@ -551,6 +630,8 @@ function help_button() {
 
 export function start() {
   draw();
+  on("read", () => { take_solved(kept(SOLVED)); if (!chosen) draw(); });
+  on_conflict(join_solved);
   on("touched", (work) => { if (chosen && work.name === name_of(chosen)) draw(); });
   globalThis.open_lesson = (number) => open_lesson(number + 1);
 }

@@ -2,6 +2,7 @@
 import { $, app, ask, base64, hush, on, set_theme, start_part, tell } from "./app.mjs";
 import { learn_calls } from "../../anywhere/machine/calls.mjs";
 import { ThinnedRecord } from "./thinned_record.mjs";
+import { RunMarks } from "./run_marks.mjs";
 import { LastNames } from "../../anywhere/machine/program_names.mjs";
 import { EventsText, with_room } from "../../anywhere/machine/events.mjs";
 import * as terminal from "./terminal.mjs";
@@ -28,6 +29,8 @@ import * as slides from "./slides.mjs";
 import * as first_minute from "./first_minute.mjs";
 import * as your_runs from "./your_runs.mjs";
 import * as frame from "./frame.mjs";
+import * as beside from "./beside.mjs";
+import * as pictures from "./pictures.mjs";
 import { problem } from "./messages.mjs";
 import { is_booted, is_embedded, short_place } from "./place_links.mjs";
 import { calls_in_words } from "../../anywhere/machine/event_words.mjs";
@@ -55,6 +58,7 @@ function take_names({ from, list }) {
 
 function take_view(view) {
   app.line.take(view.line);
+  app.marks.take(view.line);
   app.events.take(view.events);
   take_names(view.names);
   take_text(view.text);
@@ -85,7 +89,7 @@ function take_view(view) {
 function take_boot({ id, took }) {
   app.booted = { ...programs.booting(id), id, took };
   Object.assign(app, {
-    view: null, line: new ThinnedRecord(), events: new EventsText(), names: new LastNames(),
+    view: null, line: new ThinnedRecord(), marks: new RunMarks(), events: new EventsText(), names: new LastNames(),
     text: text_room.subarray(0, 0), faults: [], kills: [], chosen: 0,
   });
   tell("booted");
@@ -94,7 +98,7 @@ function take_boot({ id, took }) {
 
 function heard({ data }) {
   if (data.view) take_view(data.view);
-  else if (data.stretches) app.line.take(data.stretches);
+  else if (data.stretches) { app.line.take(data.stretches); app.marks.take(data.stretches); }
   else if (data.part) { if (missing_stretches.take(data.part)) redraw(); }
   else if (data.booted) take_boot(data.booted);
   else if (data.refused) programs.refused(data.refused);
@@ -213,7 +217,7 @@ async function first_machine() {
 const PARTS = {
   messages, terminal, editor, works, time, breaks, processes, instruction, c_source, pages, descriptors, why, programs,
   sharing, lessons, session, happened, missing_stretches, translate, manual, slides, first_minute,
-  your_runs, frame,
+  your_runs, frame, pictures, beside,
 };
 
 function begin() {
@@ -244,7 +248,7 @@ function begin() {
   });
   globalThis.page = {
     app, ask, problems: messages.problems, on, time, programs, sharing, works, drawn: () => drawn, short_place,
-    calls_in_words, manual: manual.pages,
+    calls_in_words, manual: manual.pages, pictures, session,
   };
 }
 begin();

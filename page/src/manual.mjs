@@ -9,8 +9,13 @@ const seen = []; // the pages that were shown before this one, with how far they
 let shown = null;
 
 let unpacked_pages = null;
-/** The pages of the manual, as HTML, by their names; they are unpacked when one is asked for. */
-export const pages = () => (unpacked_pages ??= JSON.parse(unpacked(DATA.manual)));
+/**
+ * The pages of the manual, as HTML, by their names; they are unpacked when one is asked for. A heading has its name as
+ * `data-heading`: the page has elements of its own that are called so.
+ */
+export const pages = () => (
+  unpacked_pages ??= JSON.parse(unpacked(DATA.manual).replace(/<(h\d) id=/g, "<$1 data-heading="))
+);
 
 /** The title of a page of the manual. */
 const title_of_page = (name) => /<h1[^>]*>(.*?)<\/h1>/.exec(pages()[name])?.[1].replace(/<[^>]*>/g, "") ?? name;
@@ -50,7 +55,7 @@ function show({ name, heading = "", top = 0 }) {
   $("manual-page").value = name;
   $("manual-back").disabled = seen.length === 0;
   if (!$("manual").open) $("manual").showModal();
-  const at = heading ? body.querySelector(`[id="${CSS.escape(heading)}"]`) : null;
+  const at = heading ? body.querySelector(`[data-heading="${CSS.escape(heading)}"]`) : null;
   if (at) at.scrollIntoView({ block: "start" }); else body.scrollTop = top;
 }
 

@@ -38,7 +38,7 @@ export const problems = () => [...told.keys()];
 /** The element of each part of the page that shows something of the machine. */
 const SHOWN_BY = {
   terminal: "terminal", processes: "processes", instruction: "instruction", c_source: "c-source", pages: "pages",
-  translate: "translate", descriptors: "opened", happened: "happened", why: "why",
+  translate: "translate", descriptors: "opened", happened: "happened", why: "why", beside: "beside",
 };
 
 const words_of = (error) => String(error?.message ?? error);

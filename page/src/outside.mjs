@@ -2,6 +2,7 @@
 // reader answers a value of its own making, of the types and sizes that are said here, with its own properties only;
 // or it throws a Refusal, whose message says what is wrong.
 import { MOST_FUTURES, spans_of } from "../../anywhere/machine/events.mjs";
+import { condition_of } from "../../anywhere/machine/conditions.mjs";
 import { MOST_BYTES, MOST_FRAMES } from "../../anywhere/machine/file_refusals.mjs";
 
 export class Refusal extends Error {}
@@ -51,8 +52,21 @@ export function bytes_of_base64(it, what) {
 
 // ---- files, break points, settings
 
+/** What each break point may have: that it is switched off, and a condition. */
+function switched(it, what) {
+  const read = (words) => text(words, `${what} its condition`, MOST_NAME).trim();
+  const condition = if_there(own(it, "condition"), "", read);
+  try {
+    condition_of(condition);
+  } catch (error) {
+    refuse(what, `has a condition that can't be read: ${error.message}`);
+  }
+  return { ...(own(it, "off") === true ? { off: true } : {}), ...(condition ? { condition } : {}) };
+}
+
 const stop = (it, what) => ({
   line: whole(own(it, "line"), `${what} its line`, 1, MOST_TEXT), text: text(own(it, "text"), `${what} its text`),
+  ...switched(it, what),
 });
 const stops = (it, what) => if_there(it, [], (all) => list(all, `the break points of ${what}`, MOST_BREAKS, stop));
 
@@ -60,6 +74,7 @@ const break_point = (it, what) => ({
   kind: KINDS_OF_BREAKS.includes(own(it, "kind")) ? own(it, "kind") : refuse(what, "has no kind of a break point"),
   name: text(own(it, "name"), `${what} its name`, MOST_NAME),
   program: if_there(own(it, "program"), null, (name) => text(name, `${what} its program`, MOST_NAME)),
+  ...switched(it, what),
 });
 const breaks = (it) => if_there(it, [], (all) => list(all, "the list of break points", MOST_BREAKS, break_point));
 
@@ -109,6 +124,12 @@ function future(it, what) {
   return { at, end: at + count, text: letters };
 }
 
+/** The marks of a run, by which it is told where it differs. */
+function marks(it) {
+  const letters = text(it, "the text of the run's marks");
+  return /^[\w-]*$/.test(letters) ? letters : refuse("the text of the run's marks", "has other letters than marks have");
+}
+
 /** A run that was kept or shared: its files, settings, events, place, keys that wait, and futures that were cut off. */
 export function run_of(it) {
   const played = events(own(it, "events"), "the run"), byte = (key, what) => whole(key, what, 0, 255);
@@ -124,6 +145,7 @@ export function run_of(it) {
     keys: if_there(own(it, "keys"), [], (keys) => list(keys, "the list of keys", MOST_KEYS, byte)),
     futures: if_there(own(it, "futures"), [], (all) => list(all, "the list of futures", MOST_FUTURES, future)),
     plays: own(it, "plays") === true,
+    marks: if_there(own(it, "marks"), "", marks),
   };
 }
 
@@ -196,7 +218,30 @@ export function work_of_kept(it) {
   };
 }
 
+const TWO = /^[1-9]\d{0,8},[1-9]\d{0,8}$/; // the numbers of two processes
 const name_or = (it) => (typeof it === "string" && it.length <= MOST_NAME ? it : undefined);
+
+/** The two processes that were shown side by side, and the address of their memory; null if none were. */
+function two_of(it) {
+  const pids = own(it, "beside"), memory = own(it, "memory");
+  if (typeof pids !== "string" || !TWO.test(pids)) return null;
+  return { pids: pids.split(",").map(Number), memory: name_or(memory) };
+}
+
+const MOST_COLUMNS = 256; // of a small picture
+
+/**
+ * The small picture of a run that was kept: who ran in each part, and in which somebody faulted; null if it has none.
+ */
+export function picture_of_run(it) {
+  const picture = own(it, "picture"), number = (one, what) => whole(one, what, 0, 4294967295);
+  try {
+    const [ran, faults] = ["ran", "faults"].map((name) => list(own(picture, name), name, MOST_COLUMNS, number));
+    return { ran, faults };
+  } catch {
+    return null;
+  }
+}
 
 /** What was shown last time: the work, the file, the tabs, the speed, the lesson with its answers, and the run. */
 export function shown_of(it) {
@@ -214,6 +259,7 @@ export function shown_of(it) {
       answers: given.filter(([, answer]) => typeof answer === "string" && answer.length <= MOST_NAME),
     },
     length: Number.isFinite(told) && told > 0 ? told : 0,
+    beside: two_of(own(it, "beside")),
     run: if_there(own(it, "run"), null, run_of),
   };
 }
@@ -233,6 +279,7 @@ const is_number = (word, least, most) => /^\d{1,15}$/.test(word) && Number(word)
 /** What is to stand in place of each word that a link may have: words for that, and whether what it says is such. */
 const LINK = {
   run: ["what Share has packed", (it) => /^[\w-]+$/.test(it)],
+  slides: ["what Share has packed", (it) => /^[\w-]+$/.test(it)],
   example: ["the name of an example", (it, known) => known.examples.includes(it)],
   lesson: ["the number of a lesson", (it, known) => is_number(it, 1, known.questions.length)],
   question: [
@@ -241,6 +288,8 @@ const LINK = {
   ],
   at: ["an event's number, or as fork, fork.2, fault, end, turn.3, asleep, last", (it, known) => known.is_place(it)],
   pid: ["the number of a process", (it) => is_number(it, 1, 4294967295)],
+  beside: ["the numbers of two processes, as 2,3", (it) => TWO.test(it)],
+  memory: ["an address, a register or a label", (it) => it.length > 0 && it.length <= MOST_NAME],
   tab: [(known) => `one of ${known.tabs.join(", ")}`, (it, known) => known.tabs.includes(it)],
   frames: ["a number of frames from 16 to 32768", (it) => is_number(it, 16, MOST_FRAMES)],
   rounds: ["a number of Runs from 1 on", (it) => is_number(it, 1, MOST_QUANTUM)],

@@ -4,8 +4,8 @@ import { $, app, ask, color_of, element, fresh, on, style_of, tell, write } from
 import { PAGE } from "../../anywhere/machine/memory.mjs";
 import { hex } from "../../anywhere/machine/number_words.mjs";
 
-const RAM = 0x80000000n;
-const BITS = [[2, "R", "read"], [4, "W", "write"], [8, "X", "execute"], [16, "U", "user code may use it"]];
+const RAM = 0x80000000n, MOST_ROWS = 600; // rows of a last table
+export const BITS = [[2, "R", "read"], [4, "W", "write"], [8, "X", "execute"], [16, "U", "user code may use it"]];
 let before = null, changed = new Set(), new_pages = new Set(), last_pages = null, point = 0, opened = new Map();
 
 function bits(rights) {
@@ -15,7 +15,7 @@ function bits(rights) {
   );
 }
 
-const address_of = (frame) => hex(RAM + BigInt(frame) * BigInt(PAGE));
+export const address_of = (frame) => hex(RAM + BigInt(frame) * BigInt(PAGE));
 
 /** What a page is, as far as its rights tell: the guard page is there, and user code may not use it. */
 function use_of(rights) {
@@ -48,11 +48,11 @@ function branch(key, is_open, words, is_new, ...children) {
   return made;
 }
 
-function draw_table() {
-  const { view } = app, { found, size } = view.pages, pid = view.pid, root = table_frame(3, pid, 0);
-  const at = view.registers ? Number(view.registers[0] / 4096n) : -1;
-  const sp = view.registers ? Number(view.registers[2] / 4096n) : -1;
-  const touched = view.next !== null && view.next !== undefined ? Number(view.next / 4096n) : -1;
+/**
+ * The tables of the process that is looked at, below its root: {place, frame, below} each, of middle tables, whose
+ * `below` are last tables, whose `below` are pages.
+ */
+export function tables_of({ pid, pages: { found } }) {
   const uppers = new Map();
   for (const it of found) {
     const two = Math.floor(it.page / 262144), one = Math.floor(it.page / 512);
@@ -60,78 +60,72 @@ function draw_table() {
     if (!uppers.get(two).has(one)) uppers.get(two).set(one, []);
     uppers.get(two).get(one).push(it);
   }
-  const tables = [...uppers].map(([two, lowers]) => {
-    const upper = table_frame(4, pid, two), below = [...lowers].map(([one, list]) => {
-      const lower = table_frame(5, pid, one);
-      const leaves = list.slice(0, 600).map((it) => {
-        const notes = [];
-        if (it.page === at) notes.push("pc");
-        if (it.page === sp) notes.push("sp");
-        if (it.page === touched) notes.push("next load or store");
-        const use = use_of(it.rights);
-        if (use) notes.push(use);
-        return element(
-          "div",
-          {
-            class: `leaf mono${new_pages.has(it.page) ? " new" : ""}${it.page === at ? " at" : ""}`,
-            title: `page ${it.page}: entry ${it.page % 512} of its last table`,
-          },
-          element(
-            "span", {}, new_pages.has(it.page) ? sign() : null,
-            element("span", { class: "dim" }, `entry ${it.page % 512}`)
-          ),
-          element(
-            "button",
-            {
-              class: "slight mono", title: "Translate this address",
-              onclick: () => tell("translate", { text: hex(BigInt(it.page) * 4096n), access: "load" }),
-            },
-            hex(BigInt(it.page) * 4096n)
-          ),
-          bits(it.rights),
-          element(
-            "span", {}, it.frame === null ? "" : `frame ${it.frame}`,
-            notes.length ? element("span", { class: "dim" }, ` ${notes.join(", ")}`) : ""
-          )
-        );
-      });
-      if (list.length > 600) leaves.push(element("div", { class: "leaf dim" }, `and ${list.length - 600} more`));
-      return branch(
-        `${pid} ${two} ${one}`, true,
-        [
-          `entry ${one % 512}: last table`,
-          element("span", { class: "dim" }, lower === null ? "" : ` in frame ${lower}, ${address_of(lower)}`),
-          element(
-            "span", { class: "dim" },
-            ` · ${list.length} page${list.length > 1 ? "s" : ""} from ${hex(BigInt(one) * 512n * 4096n)}`
-          ),
-        ],
-        lower !== null && changed.has(lower), ...leaves
-      );
-    });
-    return branch(
-      `${pid} ${two}`, true,
-      [
-        `entry ${two}: middle table`,
-        element("span", { class: "dim" }, upper === null ? "" : ` in frame ${upper}, ${address_of(upper)}`),
-      ],
-      upper !== null && changed.has(upper), ...below
-    );
-  });
-  const summary = `${found.length} pages of ${Math.ceil(size / PAGE)} below the size ${hex(BigInt(size))}`;
-  $("table").replaceChildren(
-    branch(
-      `${pid}`, true,
-      [
-        "root table",
-        element(
-          "span", { class: "dim" }, root === null ? "" : ` in frame ${root}, ${address_of(root)}, to which satp points`
-        ),
-        element("span", { class: "dim" }, ` · ${summary}`),
-      ],
-      false, ...tables
+  const last = ([place, below]) => ({ place, below, frame: table_frame(5, pid, place) });
+  return [...uppers].map(([place, lowers]) => (
+    { place, below: [...lowers].map(last), frame: table_frame(4, pid, place) }
+  ));
+}
+export const root_of = ({ pid }) => table_frame(3, pid, 0);
+
+/** What is said beside a page: whether it is the pc's, the stack pointer's, that of what is next, the guard's. */
+export function notes_of({ page, rights }, { registers, next }) {
+  const is_of = (address) => address !== null && address !== undefined && Number(address / 4096n) === page;
+  const told = [
+    [is_of(registers?.[0]), "pc"], [is_of(registers?.[2]), "sp"], [is_of(next), "next load or store"],
+    [use_of(rights), use_of(rights)],
+  ];
+  return told.flatMap(([is_so, words]) => (is_so ? words : []));
+}
+
+/** The row of a page in its last table. */
+function leaf_of(it) {
+  const { view } = app, notes = notes_of(it, view), is_new = new_pages.has(it.page), is_at = notes.includes("pc");
+  const address = hex(BigInt(it.page) * 4096n);
+  const translate = () => tell("translate", { text: address, access: "load" });
+  return element(
+    "div",
+    {
+      class: `leaf mono${is_new ? " new" : ""}${is_at ? " at" : ""}`,
+      title: `page ${it.page}: entry ${it.page % 512} of its last table`,
+    },
+    element("span", {}, is_new ? sign() : null, element("span", { class: "dim" }, `entry ${it.page % 512}`)),
+    element("button", { class: "slight mono", title: "Translate this address", onclick: translate }, address),
+    bits(it.rights),
+    element(
+      "span", {}, it.frame === null ? "" : `frame ${it.frame}`,
+      notes.length ? element("span", { class: "dim" }, ` ${notes.join(", ")}`) : ""
     )
   );
+}
+
+const in_frame = (frame, more = "") => (
+  element("span", { class: "dim" }, frame === null ? "" : ` in frame ${frame}, ${address_of(frame)}${more}`)
+);
+
+function last_table(two, { place, frame, below }) {
+  const { pid } = app.view, leaves = below.slice(0, MOST_ROWS).map(leaf_of), from = hex(BigInt(place) * 512n * 4096n);
+  if (below.length > MOST_ROWS) {
+    leaves.push(element("div", { class: "leaf dim" }, `and ${below.length - MOST_ROWS} more`));
+  }
+  const count = element("span", { class: "dim" }, ` · ${below.length} page${below.length > 1 ? "s" : ""} from ${from}`);
+  const words = [`entry ${place % 512}: last table`, in_frame(frame), count];
+  return branch(`${pid} ${two} ${place}`, true, words, frame !== null && changed.has(frame), ...leaves);
+}
+
+function middle_table({ place, frame, below }) {
+  const words = [`entry ${place}: middle table`, in_frame(frame)], is_new = frame !== null && changed.has(frame);
+  return branch(`${app.view.pid} ${place}`, true, words, is_new, ...below.map((it) => last_table(place, it)));
+}
+
+/** How many pages of a process are there, in words. */
+export const pages_words = ({ pages: { found, size } }) => (
+  `${found.length} pages of ${Math.ceil(size / PAGE)} below the size ${hex(BigInt(size))}`
+);
+
+function draw_table() {
+  const { view } = app, summary = element("span", { class: "dim" }, ` · ${pages_words(view)}`);
+  const words = ["root table", in_frame(root_of(view), ", to which satp points"), summary];
+  $("table").replaceChildren(branch(`${view.pid}`, true, words, false, ...tables_of(view).map(middle_table)));
 }
 
 // ---- the map of frames

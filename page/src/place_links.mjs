@@ -12,6 +12,7 @@ import { way_of } from "../../anywhere/machine/named_place.mjs";
 import { keys_in } from "../../anywhere/machine/events.mjs";
 import { example_of, machine_of, shipped_files } from "./works.mjs";
 import { events_shown, show_events } from "./happened.mjs";
+import { beside_now, show_beside } from "./beside.mjs";
 import { translate } from "./translate.mjs";
 import * as programs from "./programs.mjs";
 import * as lessons from "./lessons.mjs";
@@ -76,17 +77,29 @@ async function go_to(at) {
 }
 
 /** Shows the process and the panel that a link names. */
-function show({ pid, tab, address, access, show: events }) {
+function show({ pid, tab, address, access, show: events, beside, memory }) {
   if (pid !== undefined) look_at(Number(pid));
   if (address !== undefined) translate(address, access ?? "load");
+  if (beside !== undefined) look_at_two(beside.split(",").map(Number), memory);
   if (events !== undefined) show_events(events);
   if (tab !== undefined) globalThis.show_tab(tab);
 }
 
+/** Whether the run has a process of this number up to here; if not, that is said. */
+function is_there(pid) {
+  const { lives } = app.line, is = pid <= lives.most && lives.from[pid] <= app.view.at;
+  if (!is) problem(`The run has no process ${pid} up to this place: event ${grouped(app.view.at)}.`);
+  return is;
+}
+
+/** Looks at two processes side by side, if the run has both up to here. */
+function look_at_two(pids, memory) {
+  if (pids.every(is_there)) show_beside(pids, memory);
+}
+
 /** Looks at a process, if the run has one of this number up to here. */
 function look_at(pid) {
-  const { lives } = app.line, is_there = pid <= lives.most && lives.from[pid] <= app.view.at;
-  if (!is_there) { problem(`The run has no process ${pid} up to this place: event ${grouped(app.view.at)}.`); return; }
+  if (!is_there(pid)) return;
   app.chosen = pid;
   $("follow").checked = false;
   ask("look", { pid, follow: false });
@@ -125,7 +138,7 @@ const panel_now = () => PANELS.find((it) => !$(it).hidden);
 
 /** What names the panel and the process that are shown, behind the words that name the run. */
 export function seen_now() {
-  const { chosen } = app, words = new URLSearchParams({ tab: panel_now() });
+  const { chosen } = app, words = new URLSearchParams({ tab: panel_now(), ...beside_now() });
   if (chosen && !$("follow").checked) words.set("pid", chosen);
   if (words.get("tab") === "translate") {
     words.set("address", $("translated-address").value || "pc");

@@ -7,7 +7,8 @@ import { range } from "./time.mjs";
 /** In which call a process sleeps, and on what: the report's words, without who could wake it. */
 const sleep_of = ({ wait }) => /sleeps in [^:;]*/.exec(wait ?? "")?.[0] ?? "sleeps";
 
-function state_of(process, current) {
+/** What a process does: the name of its colour, and words. */
+export function state_of(process, current) {
   if (!process.lives) return ["zombie", `zombie, ended with ${process.status}`];
   const mark = process.marked ? ", to be killed" : "";
   if (process.asleep) return ["sleeps", `${sleep_of(process)}${mark}`];
@@ -193,10 +194,9 @@ function draw_life(draw, it, { view, from, to, x_of, bar, high, top_of }) {
   }
 }
 
-function draw_turns() {
-  const canvas = $("turns"), { draw, width, height } = fresh(canvas), { view } = app, { from, to } = range();
-  if (!view || width < 40) return;
-  const { lives } = app.line;
+/** Paints the turns of the part that is shown, so wide and high; tells the lives that it shows. */
+export function paint_turns(draw, width, height) {
+  const { view } = app, { from, to } = range(), { lives } = app.line;
   const shown = fitting(
     lives.within(from, to), Math.max(2, Math.floor((height - 14) / 7)), view.at
   ).map((pid) => lives.of(pid));
@@ -213,14 +213,19 @@ function draw_turns() {
     draw.fillStyle = style_of(it.end === KIND.FAULT ? "--bad" : "--ink");
     draw.fillRect(x_of(it.to), top_of.get(it.pid) - 1, 2, bar + 2);
   }
-  tell_turns(shown);
   draw.fillStyle = style_of("--ink");
   draw.fillRect(x_of(view.at) - 0.5, 0, 1, height - 10);
   draw.fillStyle = style_of("--dim");
-  draw.font = "10px system-ui";
+  draw.font = "10px system-ui, sans-serif";
   draw.fillText(
     "solid: it runs · blue: it sleeps · lines: forks · dotted: an end is waited for", width < 480 ? 2 : left, height - 2
   );
+  return shown;
+}
+
+function draw_turns() {
+  const { draw, width, height } = fresh($("turns"));
+  if (app.view && width >= 40) tell_turns(paint_turns(draw, width, height));
 }
 
 export function start() {

@@ -122,12 +122,8 @@ function bring_last_back() {
 
 /** Hands a file to the host, which saves it. */
 export function save(name, content) {
-  const made = element("a", {
-    href: URL.createObjectURL(
-      new Blob([content], { type: typeof content === "string" ? "text/plain" : "application/octet-stream" })
-    ),
-    download: name,
-  });
+  const type = typeof content === "string" ? "text/plain" : content.type ?? "application/octet-stream";
+  const made = element("a", { href: URL.createObjectURL(new Blob([content], { type })), download: name });
   made.click();
   setTimeout(() => URL.revokeObjectURL(made.href), 60000);
 }

@@ -10,10 +10,12 @@ import {
 import { flush, title_of, unpacked_file } from "./works.mjs";
 import { keys_in } from "../../anywhere/machine/events.mjs";
 import { play_again, run_now } from "./sharing.mjs";
+import { beside_now, show_beside } from "./beside.mjs";
 import * as editor from "./editor.mjs";
 import * as lessons from "./lessons.mjs";
 import * as programs from "./programs.mjs";
 import { is_booted, is_slide } from "./place_links.mjs";
+import { KIND } from "../../anywhere/machine/machine.mjs";
 import { problem } from "./messages.mjs";
 import { shown_of } from "./outside.mjs";
 
@@ -34,8 +36,20 @@ function shown_now() {
   return {
     work, title: title_of(work), file, run: run_now(true), length: app.line.end,
     tabs: TABS.filter((it) => $(it).getAttribute("aria-selected") === "true"), speed: $("speed").value,
-    lesson: lessons.kept_lesson(),
+    lesson: lessons.kept_lesson(), beside: beside_now(), picture: picture_now(),
   };
+}
+
+const COLUMNS = 64; // of the small picture of a run
+
+/** Who runs, in so many parts of the run, and in which of them somebody faults: for a small picture. */
+function picture_now() {
+  const { line, faults } = app, end = Math.max(1, line.end);
+  const ran = Array.from({ length: COLUMNS }, (_, k) => {
+    const found = line.find(Math.floor(((k + 0.5) * end) / COLUMNS));
+    return found >= 0 && line.kind[found] <= KIND.FAULT ? line.pid[found] : 0;
+  });
+  return { ran, faults: [...new Set(faults.map((it) => Math.floor((it.at * COLUMNS) / end)))].slice(0, COLUMNS) };
 }
 
 /** The record of the run that is shown. */
@@ -139,8 +153,10 @@ async function open_record(record, is_first) {
   }
   is_opening = true;
   try {
-    if (run && (await play_again(run))) {
-      go_on_with(record);
+    const played = run && (await play_again(run));
+    if (played) {
+      if (played.differs) go_on_anew(record); else go_on_with(record);
+      if (told.beside) show_beside(told.beside.pids, told.beside.memory);
       say(`Here is ${not_kept_since ? "what was kept" : "what you had"}: ${words_of_place(run)}.`);
       tell_lost();
       return true;
@@ -161,6 +177,12 @@ function go_on_with({ id, is_own, of_link }) {
   change_run(id, { owner });
 }
 
+/** A run that differs here is one of its own from now on: that which was kept stays as it is. */
+function go_on_anew({ is_own, of_link }) {
+  current = { id: new_id(), is_own: is_own === true, of_link: of_link === true };
+  keep_here("run", { id: current.id });
+}
+
 /** If not all of the last time was kept, that is said. */
 function tell_lost() {
   if (!not_kept_since) return;
@@ -172,8 +194,7 @@ function tell_lost() {
 
 function tell_begun_anew({ run, length }) {
   const begun = "Your sources are here. The run begins anew";
-  const other = "this page is another one than that which made it";
-  if (run) say(`${begun}: ${other}, or its files have changed. It stays among your runs.`);
+  if (run) say(`${begun}: a file of it is gone, or is refused here. It stays among your runs.`);
   else if (length > 0) say(`${begun}: it was too long to be kept, with ${grouped(length)} events.`);
   tell_lost();
 }
@@ -209,7 +230,7 @@ export async function open_run(record) {
   await keep_now();
   leave();
   const before = app.work;
-  let why = "this page is another one than that which made it, or its files are gone";
+  let why = "a file of it is gone, or is refused here";
   try { if (await open_record(record, false)) return true; } catch (error) { why = error.message; }
   problem(`The run can't be played again: ${why}.`);
   if (app.work !== before) programs.open_again(before);
@@ -257,9 +278,9 @@ async function back_to_run_before() {
   leave();
   programs.open_work(work);
   is_opening = true;
-  const is_there = await play_again(run);
+  const played = await play_again(run);
   is_opening = false;
-  if (is_there) go_on_with(record); else say("The run before can't be played again.");
+  if (played) go_on_with(record); else say("The run before can't be played again.");
   offer();
 }
 

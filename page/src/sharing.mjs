@@ -5,16 +5,18 @@ import { RECORD_BEGINNING, read_record, record_text } from "../../anywhere/machi
 import { spans_of } from "../../anywhere/machine/events.mjs";
 import { bytes_of_file, packed_file, touch, unpacked_file, work_of } from "./works.mjs";
 import { problem } from "./messages.mjs";
-import { MOST_EVENTS, Refusal, shared_of, unpacked_value } from "./outside.mjs";
+import { MOST_EVENTS, Refusal, SLIDES_BEGINNING, shared_of, unpacked_value } from "./outside.mjs";
 import { arrive, follow_place, is_booted, is_slide, read_link, seen_now, short_place } from "./place_links.mjs";
+import { event_words } from "./time.mjs";
 import { open_manual } from "./manual.mjs";
-import { listed_slides, note_slide, words_of_slides } from "./slides.mjs";
+import { first_slide, listed_slides, note_slide, own_slides, take_slides, words_of_slides } from "./slides.mjs";
 import * as programs from "./programs.mjs";
 
 const DATA = globalThis.PAGE_DATA;
 const BEGINNING = "nektavoly 1\n"; // of a file that has what a link has
 const MOST_LETTERS = 100000; // of a link that most programs still hand on
 const MOST_STRETCHES = 1000000;
+const MOST_MARKS = 200000, MARKS_OF_LINK = 64; // of a run, by which another release tells whether it differs
 
 // ---- the run that the page has, as a value that can be kept
 
@@ -34,6 +36,7 @@ export function run_now(is_whole = false) {
   return {
     built: DATA.built, files, frames: booted.config.frames, how: booted.how, events: events.all(), end: view.end,
     stretches: view.stretches, at: view.at, keys: view.waiting_keys ?? [], futures: app.cut_off, plays: view.playing,
+    marks: app.marks.text(is_whole ? MOST_MARKS : MARKS_OF_LINK),
   };
 }
 
@@ -48,17 +51,37 @@ const files_of_run = (run) => run.files.map(({ name, place, file }) => (
   { name, from: file === undefined ? app.files[place] : same_file(file) }
 ));
 
-/** Plays a kept run again, on the files of the work that is open; false if it can't be played. */
+/** Says that a run differs from what came of it in the page that made it; false if it doesn't. */
+function tells_difference({ built, marks }) {
+  const is_other = built !== DATA.built, found = marks ? app.marks.difference(marks) : null;
+  const of_other = "This run was made by another release of the page";
+  if (found) {
+    const { from, to } = found, here = event_words(from);
+    const where = from === to ? `at event ${grouped(from)}` : `between event ${grouped(from)} and event ${grouped(to)}`;
+    const who = is_other ? of_other : "This run is played again";
+    problem(`${who}, and here it differs first ${where}${here && `: ${here}`}.`);
+  } else if (is_other && !marks) {
+    problem(`${of_other}, and what came of it wasn't kept: whether it differs here can't be told.`);
+  }
+  return found !== null;
+}
+
+/**
+ * Plays a kept run again, on the files of the work that is open; null if it can't be played. Else tells whether it
+ * differs from what came of it before, which is said.
+ */
 export async function play_again(run) {
   const named = files_of_run(run);
-  if (run.built !== DATA.built || named.some((it) => !it.from)) return false;
+  if (named.some((it) => !it.from)) return null;
   const files = await programs.made_of_all(named.map((it) => it.from));
-  if (!files) return false;
+  if (!files) return null;
   named.forEach((it, k) => { files[k].name = it.name; });
   const replayed = once("replayed", "refused"), spans = spans_of(run.events), config = { frames: run.frames, trace: 0 };
   const { how, at, keys, futures, plays: play } = run;
   programs.begin("replay", { files, config, how, spans, at, keys, futures, play });
-  return (await replayed).name === "replayed";
+  if ((await replayed).name !== "replayed") return null;
+  if (!app.view) await once("view");
+  return { differs: tells_difference(run) };
 }
 
 // ---- a link
@@ -126,7 +149,7 @@ async function open(packed_text) {
   }
   const is_there = await is_booted(() => programs.boot());
   if (it.run) {
-    problem("The programs are there, and the run begins anew: this page is another one than that which made it.");
+    problem("The programs are there, and the run begins anew: it can't be played again here.");
   }
   return is_there;
 }
@@ -164,14 +187,25 @@ export async function first_is_there() {
   for_first = null;
 }
 
+/** Takes the slides that a link has, and follows the first of them. */
+async function follow_slides(packed_text, in_its_place) {
+  let text = null;
+  try { text = await unpacked_value(packed_text); } catch { /* it is told below */ }
+  const is_whole = typeof text === "string" && text.startsWith(SLIDES_BEGINNING);
+  if (!is_whole) problem("The slides of the link aren't shown: it isn't whole.");
+  if (!is_whole || !take_slides(text, "The slides of the link")) return false;
+  return follow(first_slide(), in_its_place);
+}
+
 /** Follows a link: whether it has led to a machine. What is wrong with it is said, and what comes in its place. */
 export async function follow(hash, in_its_place) {
-  const words = read_link(hash), { run, manual, to, example, lesson } = words;
+  const words = read_link(hash), { run, manual, to, example, lesson, slides } = words;
   if (manual !== undefined) {
     forget_address();
     open_manual(manual, to);
     return false;
   }
+  if (slides !== undefined) return follow_slides(slides, in_its_place);
   if (run === undefined && example === undefined && lesson === undefined) {
     if (Object.keys(words).length) await show_here(words);
     return false;
@@ -228,6 +262,15 @@ function links_of(packed_run) {
     ]];
 }
 
+/** The link to all slides of a teacher's own; nothing if they are those of the course. */
+async function link_of_slides() {
+  const words = own_slides();
+  if (!words) return "";
+  const value = `${page_address()}#slides=${await packed(words)}`;
+  const field = element("input", { id: "slides-link", readonly: true, value });
+  return element("p", {}, element("label", {}, "Link to all of these slides ", field));
+}
+
 async function share() {
   const dialog = $("dialog"), body = dialog.querySelector("div");
   const text = element("textarea", { readonly: true, "aria-label": "Link" }), it = shared(), of_it = await packed(it);
@@ -254,7 +297,7 @@ async function share() {
       "p", {},
       "The record has each event of the run, and the sums of its programs, and no program: the terminal plays it too. Drop it on the page, or choose it by Open file.., to have the run again."
     ),
-    element("details", {}, element("summary", {}, words_of_slides()), listed_slides()));
+    element("details", {}, element("summary", {}, words_of_slides()), listed_slides(), await link_of_slides()));
   if (!dialog.open) dialog.showModal();
   text.select();
 }
@@ -278,6 +321,16 @@ export const run_as_record = () => new Promise((done) => {
   app.on_record = async (record) => done(await recorded(record));
   ask("record");
 });
+
+/** A run that was kept with all its files, as a record's text; it throws if a file of it is gone, or is refused. */
+export async function kept_as_record({ files, frames, events }) {
+  const made = await Promise.all(files.map(async ({ name, file }) => {
+    const from = file && unpacked_file(file), it = from ? await programs.made_of(from) : { mistake: "it is gone" };
+    if (it.mistake) throw new Error(`${name}: ${it.mistake}`);
+    return { ...it, name };
+  }));
+  return recorded({ config: { frames }, files: made, spans: spans_of(events) });
+}
 
 /** The files that a record may mean, by their sums: those of the list, and the programs of the page. */
 async function files_by_sum() {

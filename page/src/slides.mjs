@@ -49,41 +49,47 @@ export const SLIDES = [
 
 const COURSE = SLIDES.map(([title, link]) => ({ title, link, question: "", answer: "" }));
 const KEPT = "nektavoly slides"; // as long as the tab is open: a reload has the file's slides again
-let deck = COURSE; // the slides along which the keys go
+const own = { deck: COURSE, words: "" }; // the slides along which the keys go, and the text of a teacher's own
 let here = -1; // the one that is shown
 
 /** Goes to a slide. */
 function open(number) {
-  if (number < 0 || number >= deck.length) return;
-  const hash = `#${deck[number].link}&view=lecture`;
+  if (number < 0 || number >= own.deck.length) return;
+  const hash = `#${own.deck[number].link}&view=lecture`;
   here = number;
   if (location.hash === hash) note_slide(hash); else location.hash = hash;
 }
 
-/** Shows the slides of a file. */
-function take_slides(words, name) {
+/** Takes the slides of a text; if they can't be read, that is said: false, and those of before stay. */
+export function take_slides(words, what) {
   try {
-    deck = slides_of(words);
+    Object.assign(own, { deck: slides_of(words), words });
   } catch (error) {
-    problem(`The slides ${name} aren't shown: ${error.message}.`);
-    return;
+    problem(`${what} aren't shown: ${error.message}.`);
+    return false;
   }
+  here = -1;
   try { sessionStorage.setItem(KEPT, words); } catch { /* a reload has the course's again */ }
-  open(0);
+  return true;
 }
 
-/** Has the slides again that a file of this tab had. */
+/** Has the slides again that a file or a link of this tab had. */
 function taken_before() {
   try {
     const words = sessionStorage.getItem(KEPT);
-    if (words) deck = slides_of(words);
+    if (words) Object.assign(own, { deck: slides_of(words), words });
   } catch { /* those of the course */ }
 }
+
+/** The link of the first slide, as a lecture shows it. */
+export const first_slide = () => `#${own.deck[0].link}&view=lecture`;
+/** The text of the teacher's own slides; nothing if they are those of the course. */
+export const own_slides = () => own.words;
 
 /** Shows the answer to the slide's question, or hides it. */
 function reveal() {
   const answer = $("lecture-answer"), is_shown = !answer.hidden;
-  if (!deck[here]?.answer) return;
+  if (!own.deck[here]?.answer) return;
   answer.hidden = is_shown;
   write($("lecture-reveal"), is_shown ? "Answer" : "Hide the answer");
 }
@@ -102,7 +108,16 @@ const KEYS = {
   " ": toggle, Home: () => ask(
     "go", { place: 0 }
   ), PageDown: () => open(here + 1), PageUp: () => open(here - 1), End: reveal, Escape: leave,
+  f: full_screen,
 };
+
+/** The whole screen, or no more. */
+function full_screen() {
+  if (!$("letters").checked) return;
+  const root = document.documentElement, is_whole = document.fullscreenElement !== null;
+  const asked = is_whole ? document.exitFullscreen() : root.requestFullscreen();
+  asked.catch(() => problem("The browser doesn't let the page have the whole screen: F11 does the same."));
+}
 
 /** The keys of a lecture go before those of the panels. */
 function key(event) {
@@ -125,11 +140,12 @@ function draw() {
 
 /** Notes which slide a link leads to: its title stands above, and its question with the answer hidden. */
 export function note_slide(hash) {
-  const link = hash.replace(/^#/, "").replace(/&view=lecture$/, "");
+  const { deck } = own, link = hash.replace(/^#/, "").replace(/&view=lecture$/, "");
   // (Two slides of one link: that which is shown, if it is one of them.)
   if (deck[here]?.link !== link) here = deck.findIndex((it) => it.link === link);
   const { title = app.work.name, question = "", answer = "" } = deck[here] ?? {};
   write($("lecture-title"), here < 0 ? title : `${here + 1}. ${title}`);
+  document.title = `${title} · Nektavoly`;
   write($("lecture-question"), question);
   write($("lecture-answer"), answer);
   write($("lecture-reveal"), "Answer");
@@ -141,7 +157,7 @@ export function note_slide(hash) {
 /** The list of all slides, as links. */
 export const listed_slides = () => element(
   "ol", {},
-  ...deck.map(
+  ...own.deck.map(
     ({ title, link }, place) => element(
       "li", {}, element("a", { href: `#${link}` }, title), " ",
       element("a", { class: "dim", href: `#${link}&view=lecture`, onclick: () => { here = place; } }, "as a slide")
@@ -149,12 +165,15 @@ export const listed_slides = () => element(
   )
 );
 /** What the list of slides has: those of the course, or of a file. */
-export const words_of_slides = () => (deck === COURSE ? "Twelve slides for a course" : `${deck.length} slides of your file`);
+export const words_of_slides = () => (
+  own.deck === COURSE ? "Twelve slides for a course" : `${own.deck.length} slides of your own`
+);
 
 export function start() {
   addEventListener("keydown", key, true);
   $("lecture-reveal").addEventListener("click", reveal);
-  take_texts(SLIDES_BEGINNING, take_slides);
+  take_texts(SLIDES_BEGINNING, (words, name) => { if (take_slides(words, `The slides ${name}`)) open(0); });
+  on("booted", () => { if (!is_lecture()) document.title = `${app.booted.work} · Nektavoly`; });
   taken_before();
   on("view", draw);
   on("lecture", draw);

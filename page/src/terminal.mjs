@@ -2,13 +2,14 @@
 import { $, app, ask, element, on, tell, say, write } from "./app.mjs";
 
 const MOST_LINES = 3000, MOST_HEARD = 30;
+const PAUSE = 4000, MOST_AT_ONCE = 8; // ms between what is read out while the machine computes, and lines of it
 const MOST_DRAWN = 1500, KEPT_DRAWN = 1000; // lines: so many may stand on the screen, and so many are left then
 const shown = { bytes: 0, lines: [""], count: 0, row: [], column: 0 };
 const drawn = {
   lines: document.createTextNode(""), left: document.createTextNode(""), caret: element("span", { class: "caret" }),
   right: document.createTextNode(""), from: 0, to: 0,
 };
-let heard = 0; // how many whole lines were told to readers of the screen
+let heard = 0, heard_at = 0; // how many whole lines were told to readers of the screen, and when
 const decoder = new TextDecoder();
 
 function clear() {
@@ -71,17 +72,20 @@ function draw() {
 
 /**
  * Tells readers of the screen the whole lines that came, the last ones if they are many: when the machine waits, or
- * stands.
+ * stands; and while it computes in pauses, the last ones, and how many were passed over.
  */
 function tell_lines() {
-  const { view } = app;
+  const { view } = app, computes = view.playing && view.facts.current !== 0, now = performance.now();
   // Back in the run there are fewer.
   heard = Math.min(heard, shown.count);
-  if (heard === shown.count || (view.playing && view.facts.current)) return;
-  const lines = shown.lines.slice(-Math.min(shown.count - heard, MOST_HEARD)), log = $("heard");
+  if (heard === shown.count || (computes && now - heard_at < PAUSE)) return;
+  const many = shown.count - heard, told = Math.min(many, computes ? MOST_AT_ONCE : MOST_HEARD), log = $("heard");
+  const lines = shown.lines.slice(-Math.min(told, shown.lines.length));
+  if (computes && many > told) lines.unshift(`${many - told} lines before:`);
   log.append(...lines.map((it) => element("div", {}, it)));
   while (log.childElementCount > MOST_HEARD) log.firstElementChild.remove();
   heard = shown.count;
+  heard_at = now;
 }
 
 /** Types bytes into the machine. */
@@ -155,6 +159,7 @@ export function start() {
     clear();
     for (const it of [drawn.left, drawn.caret, drawn.right]) write(it, "");
     heard = 0;
+    heard_at = performance.now();
     $("heard").replaceChildren();
   });
 }

@@ -1,6 +1,7 @@
 // The worker: it has the machine, plays it, and tells the page how it stands. So the page stays alive at full speed.
 // What runs a machine is in anywhere/machine; here are the messages, the time that they may take, and what is told.
 import { all_mistakes } from "../../anywhere/machine/assembler_mistakes.mjs";
+import { condition_of } from "../../anywhere/machine/conditions.mjs";
 import { calls_of, line_step } from "../../anywhere/machine/line_steps.mjs";
 import { end_before, last_of, round } from "../../anywhere/machine/event_search.mjs";
 import { fault_in_words, faults_told, kill_in_words, kills_told } from "../../anywhere/machine/end_reports.mjs";
@@ -24,7 +25,9 @@ const ASKED = 60; // ms that the page's questions about events may take, before 
 const EVENTS_AT_ONCE = 4; // events that are looked at from one copy of the machine
 // Stretches round a place of which the page is told, and of a part that it shows.
 const ROUND = 2000, MOST_OF_PART = 16384;
-const MEMORY_SHOWN = 256; // bytes
+const MEMORY_SHOWN = 256, MEMORY_BESIDE = 128; // bytes
+const MOST_ENDED = 4; // processes as they ended, of which is known what was told
+const PANELS_BESIDE = { instruction: true };
 
 let machine = null, run = null, player = null;
 let settings = { rounds: false, quantum: 1000, speed: 0 };
@@ -35,7 +38,7 @@ let wanted = {
 let next_whole = 0;
 let stopped = "";
 let counts = new InstructionCounts();
-let ended = null; // the last process as it ended, if none lives: what was told of it last
+const ended = new Map(); // processes as they ended: what was told of them last, by what was asked
 let trap = { key: "", told: null }; // the last trap of the process that is looked at
 let search = null; // a search back in the run, which goes on part by part
 
@@ -76,20 +79,20 @@ function looked_at(current, list) {
 }
 
 /** The memory that is shown: from the address that is wanted, or from sp on, or from 0 if none is there. */
-function memory_of(pid, registers) {
+function memory_of(pid, registers, memory) {
   const from = (at) => ({ at, bytes: machine.peek(pid, at, MEMORY_SHOWN) });
-  const told = from(wanted.memory ?? registers[2] & ~15n);
-  return told.bytes.length || wanted.memory !== null ? told : from(0n);
+  const told = from(memory ?? registers[2] & ~15n);
+  return told.bytes.length || memory !== null ? told : from(0n);
 }
 
-/** What the panels show of a process. */
-function process_panels(pid, { instruction, pages, translate }) {
+/** What the panels show of a process, with its memory from an address on. */
+function process_panels(pid, { instruction, pages, translate }, memory = wanted.memory) {
   const registers = pid === 0 ? null : machine.registers(pid), { frames } = run.config;
   if (registers === null) return {};
   const told = { registers, next: machine.address(pid) };
   if (instruction) {
     told.code = code_round(machine, pid, registers[0]);
-    told.memory = memory_of(pid, registers);
+    told.memory = memory_of(pid, registers, memory);
   }
   if (pages) told.pages = pages_of(machine, pid, frames);
   if (translate) {
@@ -108,17 +111,24 @@ function trap_of(pid) {
 
 const frames = () => frames_of(machine, run.config.frames);
 
+/** The address that is wanted of a process: one, or what a register has, of its number. */
+const address_of = (pid, memory) => (
+  typeof memory === "number" ? (machine.register(pid, memory) ?? 0n) & ~15n : memory
+);
+
 /** A process as it ended, with what the panels show of it, and the frames as they were then; of pid 0 the last one. */
 function as_it_ended(of_pid, { panels, memory, translate }) {
   const end = end_before(run.line, run.at, of_pid);
   if (!end) return null;
   const { at, pid } = end, key = JSON.stringify([run.edits, at, pid, panels, String(memory), String(translate)]);
-  if (ended?.key === key) return ended.told;
+  if (ended.has(key)) return ended.get(key);
   const told = run.look(at, () => ({
-    pid, ended: { ...end, program: run.program_of(pid) }, ...process_panels(pid, panels),
+    pid, ended: { ...end, program: run.program_of(pid) }, program: run.program_of(pid),
+    ...process_panels(pid, panels, address_of(pid, memory)),
     ...(panels.translate ? { trap: last_trap(run, pid, at + 1) } : {}), ...(panels.pages ? { frames: frames() } : {}),
   }));
-  ended = { key, told };
+  if (ended.size >= MOST_ENDED) ended.delete(ended.keys().next().value);
+  ended.set(key, told);
   return told;
 }
 
@@ -132,6 +142,17 @@ function of_process(current, list) {
   return { pid, ended: null, ...process_panels(pid, panels), ...(panels.pages ? { frames: frames() } : {}) };
 }
 
+/** One of two processes that are looked at side by side; `memory`: an address, or the number of a register. */
+function beside_of(pid, memory, list) {
+  const own = list.find((it) => it.pid === pid && it.lives), registers = own ? machine.registers(pid) : null;
+  if (!registers) return { pid, ...as_it_ended(pid, { panels: PANELS_BESIDE, memory, translate: 0n }) };
+  const at = typeof memory === "bigint" ? memory : registers[memory ?? 2] & ~15n;
+  return {
+    pid, program: own.program, registers, ended: null, code: code_round(machine, pid, registers[0]),
+    memory: { at, bytes: machine.peek(pid, at, MEMORY_BESIDE) },
+  };
+}
+
 /** What a whole view has beside: the processes, and what the panels show. */
 function whole(current) {
   const { panels } = wanted, list = processes(), { plan, futures } = player;
@@ -140,6 +161,7 @@ function whole(current) {
     futures: futures.map(({ at, end }) => ({ at, count: end - at })), ...of_process(current, list),
   };
   if (panels.files) told.files = files_of(machine, list);
+  if (wanted.beside) told.beside = wanted.beside.pids.map((pid, k) => beside_of(pid, wanted.beside.memory[k], list));
   const { along, bytes } = run.copies;
   return { ...told, copies: along.length, copies_bytes: bytes, memory_bytes: machine.memory().length };
 }
@@ -301,15 +323,21 @@ function first_mistake(text) {
   return file ? null : { line, kind };
 }
 
+/** Break points as the page sends them, each with whether its condition is so. */
+const with_conditions = (list) => (
+  list.map((it) => (it.condition ? { ...it, is_met: condition_of(it.condition) } : it))
+);
+
 /** Boots a machine, and tells the page; false if it is refused. */
-function boot({ id, how = {}, ...asked }) {
-  const before = performance.now(), order = { ...settings, ...how }, refusal = player.boot({ ...asked, how: order });
+function boot({ id, how = {}, breaks = [], ...asked }) {
+  const before = performance.now(), order = { ...settings, ...how };
+  const refusal = player.boot({ ...asked, how: order, breaks: with_conditions(breaks) });
   if (refusal !== null) {
     postMessage({ refused: { id, refusal } });
     view();
     return false;
   }
-  ended = null;
+  ended.clear();
   counts = new InstructionCounts();
   Object.assign(wanted, { edits: -1, pid: 1 });
   settings = order;
@@ -357,7 +385,7 @@ const obey = {
     slice_from = performance.now();
     owed = 0;
   },
-  breaks({ list }) { player.breaks.list = list; },
+  breaks({ list }) { player.breaks.list = with_conditions(list); },
   tell_events,
   /** Tells the events round a place that are wanted. */
   round({ key, place, wants }) {

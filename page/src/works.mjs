@@ -104,7 +104,8 @@ export function flush() {
     const { title, example, how, files, machine, breaks, gone } = work;
     keep(`work ${work.name}`, {
       title, example, how: plain(how), files: files.map(packed_file), machine,
-      breaks: breaks.map(({ kind, name, program }) => ({ kind, name, program })), gone: gone.map(packed_file),
+      breaks: breaks.map(({ kind, name, program, ...switched }) => ({ kind, name, program, ...switched })),
+      gone: gone.map(packed_file),
     });
   }
   waiting.clear();

@@ -404,7 +404,7 @@ async function manual(page) {
   const wrong = [];
   for (const name of pages) {
     await page.eval(`page.app.open_manual('${name}')`);
-    wrong.push(...(await page.eval(`[...document.querySelectorAll('#manual-body a[href^="#manual="]')].filter((it) => { const words = new URLSearchParams(it.getAttribute('href').slice(1)), page = words.get('manual'), to = words.get('to'); const html = globalThis.page.manual()[page]; return !html || (to && !html.includes('id="' + to + '"')); }).map((it) => '${name}: ' + it.getAttribute('href'))`)));
+    wrong.push(...(await page.eval(`[...document.querySelectorAll('#manual-body a[href^="#manual="]')].filter((it) => { const words = new URLSearchParams(it.getAttribute('href').slice(1)), page = words.get('manual'), to = words.get('to'); const html = globalThis.page.manual()[page]; return !html || (to && !html.includes('data-heading="' + to + '"')); }).map((it) => '${name}: ' + it.getAttribute('href'))`)));
   }
   holds(pages.length > 20 && wrong.length === 0, `${pages.length} pages of the manual are inside, and their links lead on: ${wrong.join(", ")}`);
   await page.eval("page.app.open_manual('page-tables', 'entries')");

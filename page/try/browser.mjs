@@ -41,19 +41,30 @@ export async function open(url, { width = 1400, height = 900, dark = false, mobi
     const { usedSize, backingStorageSize = 0 } = await send("Runtime.getHeapUsage", {}, to);
     return { used: usedSize, all: usedSize + backingStorageSize };
   };
-  const { targetInfos } = await send("Target.getTargets");
-  session = (await send("Target.attachToTarget", { targetId: targetInfos.find((it) => it.type === "page").targetId, flatten: true })).sessionId;
-  await send("Page.enable");
-  await send("Runtime.enable");
-  await send("Target.setAutoAttach", { autoAttach: true, waitForDebuggerOnStart: false, flatten: true });
-  await send("Emulation.setDeviceMetricsOverride", { width, height, deviceScaleFactor: mobile ? 2 : 1, mobile });
-  await send("Emulation.setEmulatedMedia", { features: [{ name: "prefers-color-scheme", value: dark ? "dark" : "light" }] });
+  const tabs = []; // {target, session} of each
+  const attach = async (target) => {
+    session = (await send("Target.attachToTarget", { targetId: target, flatten: true })).sessionId;
+    tabs.push({ target, session });
+    await send("Page.enable");
+    await send("Runtime.enable");
+    await send("Target.setAutoAttach", { autoAttach: true, waitForDebuggerOnStart: false, flatten: true });
+    await send("Emulation.setDeviceMetricsOverride", { width, height, deviceScaleFactor: mobile ? 2 : 1, mobile });
+    await send("Emulation.setEmulatedMedia", { features: [{ name: "prefers-color-scheme", value: dark ? "dark" : "light" }] });
+  };
+  const { targetInfos } = await send("Target.getTargets", {}, undefined);
+  await attach(targetInfos.find((it) => it.type === "page").targetId);
   const page = {
     logs, send, sleep,
     /** The memory of the page's JavaScript, and of its workers', in bytes. */
     async heaps() {
       const told = await Promise.all([session, ...workers].map(heap_of)), [page, ...others] = told.map((it) => it.used);
       return { page, workers: others, all: told.map((it) => it.all), resident: resident(chrome.pid) };
+    },
+    /** Goes to a tab, from 0 on; the next one that isn't there is opened. */
+    async tab(number) {
+      if (number === tabs.length) await attach((await send("Target.createTarget", { url: "about:blank" }, undefined)).targetId);
+      session = tabs[number].session;
+      await send("Target.activateTarget", { targetId: tabs[number].target }, undefined);
     },
     async go(to) { await send("Page.navigate", { url: to }); await page.until("window.ready === true", 120000).catch((error) => logs.push(error.message)); },
     async eval(expression) {

@@ -11,7 +11,7 @@ const SPECIAL = { Enter: "\uE007", Backspace: "\uE003", Escape: "\uE00C", Tab: "
 /** The connection to a browser's Marionette: packets are LENGTH:JSON. */
 async function marionette(folder) {
   let port = "";
-  for (let k = 0; k < 300 && !port; k++) { await sleep(100); try { port = readFileSync(`${folder}/MarionetteActivePort`, "utf8").trim(); } catch { /* it isn't up yet */ } }
+  for (let k = 0; k < 1200 && !port; k++) { await sleep(100); try { port = readFileSync(`${folder}/MarionetteActivePort`, "utf8").trim(); } catch { /* it isn't up yet */ } }
   if (!port) throw new Error("Firefox doesn't tell its port");
   const socket = connect(Number(port), "127.0.0.1"), waiting = new Map();
   let held = Buffer.alloc(0), last = 0, greeted;
@@ -60,8 +60,14 @@ user_pref("app.update.enabled", false);
   const script = (text, args = []) => send("WebDriver:ExecuteAsyncScript", { script: text, args, sandbox: null });
   const { value: inner } = await script("arguments[0]([innerWidth, innerHeight])");
   await send("WebDriver:SetWindowRect", { width: 2 * width - inner[0], height: 2 * height - inner[1] });
+  const tabs = [(await send("WebDriver:GetWindowHandle")).value];
   const page = {
     logs, send, sleep,
+    /** Goes to a tab, from 0 on; the next one that isn't there is opened. */
+    async tab(number) {
+      if (number === tabs.length) tabs.push((await send("WebDriver:NewWindow", { type: "tab" })).handle);
+      await send("WebDriver:SwitchToWindow", { handle: tabs[number], focus: true });
+    },
     async go(to) { await send("WebDriver:Navigate", { url: to }); await page.until("window.ready === true", 120000).catch((error) => logs.push(error.message)); await page.eval("(() => { window.errors_seen = []; addEventListener('error', (it) => window.errors_seen.push(it.message)); const old = console.error; console.error = (...words) => { window.errors_seen.push(words.join(' ')); old(...words); }; })()"); },
     async eval(expression) {
       const { value } = await script("const [words, done] = arguments; (async () => { try { done({ value: (await (0, window.eval)(words)) ?? null }); } catch (error) { done({ error: String((error && error.stack) || error) }); } })();", [expression]);

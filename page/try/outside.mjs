@@ -40,6 +40,8 @@ const LINKS = [
   "example=hello&at=1&access=jump", "example=hello&at=1&show=nothing", "example=hello&at=1&show=constructor",
   "example=hello&view=other", "manual=constructor", "manual=__proto__", "manual=nothing", "foo=bar", "__proto__=1",
   "constructor=1", "run=", "run=!!!", "run=abc", "run=AAAA", "run=____", "run=a".padEnd(40000, "a"), "example=x".padEnd(9000, "y"),
+  "example=fork&at=fork&beside=1", "example=fork&at=fork&beside=1,99", "example=fork&at=1&beside=1,2", "beside=x,y",
+  "beside=__proto__", "beside=0,1", "memory=", "slides=abc", "slides=!!!", "slides=", "slides=q1YqUrKqBQA",
 ];
 
 async function links(page) {
@@ -71,6 +73,10 @@ const VALUES = [
   { files: [["init.s", "  ecall\n"]], run: { ...RUN, events: "Rzzzzzzzzz" } },
   { files: [["init.s", "  ecall\n"]], run: { ...RUN, events: "X" } }, { files: [["init.s", "  ecall\n"]], run: { ...RUN, files: 5 } },
   { files: [["init.s", "  ecall\n"]], run: { ...RUN, keys: [999] } }, { files: [["init.s", "  ecall\n"]], run: { ...RUN, at: "x" } },
+  { files: [["init.s", "  ecall\n"]], breaks: [{ kind: "call", name: "write", condition: "a0 is 5" }] },
+  { files: [["init.s", "  ecall\n"]], breaks: [{ kind: "call", name: "write", condition: 5 }] },
+  { files: [["init.s", "  ecall\n"]], stops: [[{ line: 1, text: "ecall", condition: "__proto__ == 1" }]] },
+  { files: [["init.s", "  ecall\n"]], run: { ...RUN, marks: 5 } }, { files: [["init.s", "  ecall\n"]], run: { ...RUN, marks: "a b" } },
   { files: [["init.s", "  ecall\n"]], run: RUN }, { files: Array.from({ length: 300 }, (_, k) => [`f${k}`, "x"]) },
 ];
 /** A value as a link packs it; of a page that is there. */

@@ -111,7 +111,8 @@ const CUT = `(() => {
   return found;
 })()`;
 
-const SIZES = [[360, 740], [412, 860], [853, 480], [1300, 800], [1920, 1000]];
+// (650 x 400 are 1300 x 800 at 200 %.)
+const SIZES = [[360, 740], [412, 860], [650, 400], [853, 480], [1300, 800], [1920, 1000]];
 
 async function widths() {
   for (const [width, height] of SIZES) {
