@@ -13,5 +13,6 @@ const BROKE = 70;
  */
 export function run_compiler(module, words, file_of) {
   const { status = BROKE, output, errors, made } = run_held(module, words, file_of);
-  return { status, told: `${errors}${output}`, made };
+  const text_of = (bytes) => new TextDecoder().decode(bytes);
+  return { status, told: text_of(errors) + text_of(output), made };
 }

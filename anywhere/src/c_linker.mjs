@@ -112,7 +112,7 @@ function laid_out({ sections, commons }, objects, globals) {
   return { text: [...text, ...constants], executed: text, data, table, read_end, begin, data_end, end };
 }
 
-const address_of = (symbol) => (
+export const address_of = (symbol) => (
   symbol.address !== undefined ? symbol.address
     : (symbol.section?.address ?? 0) + (symbol.is_undefined ? 0 : symbol.value)
 );
@@ -214,5 +214,5 @@ export function link(program, library) {
   const layout = laid_out(reached(globals), objects, globals);
   for (const section of [...layout.text, ...layout.data]) relocate_section(section, globals, layout.table);
   layout.executed.forEach(check_words);
-  return { file: file_of(layout, address_of(globals.get(START))), layout, globals, objects: own };
+  return { file: file_of(layout, address_of(globals.get(START))), layout, globals, objects: own, library: others };
 }

@@ -128,7 +128,7 @@ class HostFiles {
   }
 
   open(folder, path, how) {
-    const bytes = this.held[path.toString()];
+    const bytes = this.held[Buffer.from(path).toString()];
     return bytes && !how.writes ? new HeldFile(bytes) : new HostFile(this.whole(folder, path), how);
   }
 
