@@ -1,7 +1,8 @@
 // Programs in C, of sources that are bytes: each is compiled, and its mistakes are told; then they are linked with the
 // library. Node and the page's worker do it with the same code.
 import { run_compiler } from "./c_host.mjs";
-import { link } from "./c_linker.mjs";
+import { NotLinked, link } from "./c_linker.mjs";
+import { object_of as object_of_file } from "./c_objects.mjs";
 import { table_of } from "./c_lines.mjs";
 import { message_of, placed, without_mistake } from "./c_mistakes.mjs";
 
@@ -42,7 +43,7 @@ export function compile(compiler, path, words, file_of) {
   let text = source, mistake = messages.find((it) => it.is_error), left_out = "";
   for (let count = 1; mistake?.file === path && mistake.line > 0 && count < MOST_MISTAKES; count++) {
     const without = without_mistake(text, mistake);
-    if (without.gone === "") break;
+    if (without.gone === null) break;
     text = without.text;
     left_out += `${without.gone}\n`;
     const bytes = new TextEncoder().encode(text), find = (name) => (name === path ? bytes : file_of(name));
@@ -73,4 +74,23 @@ function is_new(message, messages, left_out) {
 export function program_of(objects, library) {
   const linked = link(objects, library);
   return { file: linked.file, table: table_of(linked) };
+}
+
+/** Whether an object file has the function main. */
+const has_main = ([name, bytes]) => object_of_file(name, bytes).symbols.some((it) => it.name === "main" && !it.is_undefined);
+
+/**
+ * A program of each object that has the function main: {name, file, table}, or {name, texts} if it can't be linked. What
+ * the other objects have is taken before what the library has.
+ */
+export function programs_of(objects, library) {
+  const mains = objects.filter(has_main), shared = objects.filter((it) => !mains.includes(it));
+  return mains.map(([name, bytes]) => {
+    try {
+      return { name, ...program_of([[name, bytes]], [...shared, ...library]) };
+    } catch (error) {
+      if (!(error instanceof NotLinked)) throw error;
+      return { name, texts: error.texts };
+    }
+  });
 }

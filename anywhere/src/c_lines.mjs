@@ -59,7 +59,8 @@ function names_of(objects, executed) {
 /** The rows of lines: a line that goes on isn't told again, and where an object ends none is known. */
 function rows_of_lines(objects, executed) {
   const ends = [...executed].map((it) => ({ address: it.address + it.size, file: "", line: 0 }));
-  const lines = objects.flatMap(lines_of), begins = new Set(lines.map((it) => it.address));
+  const is_placed = ({ sections }) => sections.some((it) => executed.has(it));
+  const lines = objects.filter(is_placed).flatMap(lines_of), begins = new Set(lines.map((it) => it.address));
   const all = [...ends.filter((it) => !begins.has(it.address)), ...lines].sort(by_address);
   const rows = [];
   let file = "", told = "0";
@@ -73,9 +74,9 @@ function rows_of_lines(objects, executed) {
   return rows;
 }
 
-/** The text of the table. `objects` are the program's, `library` those of the library. */
-export function table_of({ layout, objects, library }) {
-  const executed = new Set(layout.executed), names = names_of([...objects, ...library], executed);
+/** The text of the table of what was linked. */
+export function table_of({ layout, objects }) {
+  const executed = new Set(layout.executed), names = names_of(objects, executed);
   const named = names.map((it) => `${it.is_label ? "label" : "function"} ${it.address} ${it.size} ${it.name}`);
   const frames = names.flatMap(({ address, size, section, is_label }) => (
     is_label ? [`frame ${address} - 0 0 0`]

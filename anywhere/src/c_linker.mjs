@@ -214,5 +214,5 @@ export function link(program, library) {
   const layout = laid_out(reached(globals), objects, globals);
   for (const section of [...layout.text, ...layout.data]) relocate_section(section, globals, layout.table);
   layout.executed.forEach(check_words);
-  return { file: file_of(layout, address_of(globals.get(START))), layout, globals, objects: own, library: others };
+  return { file: file_of(layout, address_of(globals.get(START))), layout, globals, objects };
 }

@@ -1,4 +1,5 @@
 // What the C compiler tells: its messages, and sources without the mistake that is told, in which the next one is found.
+import { c_code } from "../machine/file_kinds.mjs";
 
 /** A message of a line that the compiler has told: {file, line, is_error, text}; null if the line is none. */
 export function message_of(told) {
@@ -13,17 +14,11 @@ export const line_of = (text, line) => text.split("\n")[line - 1]?.replace(/\r$/
 
 /** Where in its line a message points: {at, length} of the word that it names; null if that isn't found. */
 export function named_in(text, { text: message, is_at_end }) {
-  if (is_at_end) return { at: code_alone(text).trimEnd().length, length: 1 };
+  if (is_at_end) return { at: c_code(text).trimEnd().length, length: 1 };
   const word = /\(got "(.+)"\)$/.exec(message)?.[1] ?? /'([^']+)'/.exec(message)?.[1];
   const is_whole = word && /^\w+$/.test(word);
   const at = !word ? -1 : is_whole ? text.search(new RegExp(`\\b${word}\\b`)) : text.indexOf(word);
   return at < 0 ? null : { at, length: word.length };
-}
-
-/** A source with a blank for each letter of its comments and of its texts in quotes: its braces are those of the code. */
-export function code_alone(text) {
-  const part = /\/\*[\s\S]*?(?:\*\/|$)|\/\/[^\n]*|"(?:\\.|[^"\\\n])*"?|'(?:\\.|[^'\\\n])*'?/g;
-  return text.replace(part, (it) => it.replace(/[^\n]/g, " "));
 }
 
 /** Where a line begins and ends in a text, without its end. */
@@ -53,17 +48,30 @@ function is_statement(code, { from, to }) {
   return /;\s*$/.test(own) && !/[{}#]/.test(own) && count("(") === count(")") && ["{", "}", ";"].includes(before);
 }
 
+/** The line before one that lacks the `;` that the compiler expects in that; 0 if none does. */
+function line_without_end(code, { line, text: words }) {
+  const met = /^';' expected \(got "(\w+|.)"\)$/.exec(words)?.[1], lines = code.split("\n");
+  if (met === undefined || !lines[line - 1]?.trim().startsWith(met)) return 0;
+  const before = lines.slice(0, line - 1).findLastIndex((it) => it.trim());
+  return before < 0 || lines[before].trimEnd().endsWith(";") ? 0 : before + 1;
+}
+
 /**
- * A source without a mistake: {text, gone}. The line is left out, if it is a whole statement of a function; else all of
- * the function's body. `gone` is the text that was left out; it is empty if nothing could be.
+ * A source without a mistake: {text, gone}. A missing `;` is written; else the line is left out, if it is a whole statement
+ * of a function, or all of the function's body. `gone` is the text that was left out; null if nothing could be.
  */
-export function without_mistake(text, { line }) {
-  const code = code_alone(text), its = letters_of(text, line), body = body_round(code, its.from);
-  if (!body) return { text, gone: "" };
+export function without_mistake(text, mistake) {
+  const code = c_code(text), its = letters_of(text, mistake.line), open = line_without_end(code, mistake);
+  if (open > 0) {
+    const { from, to } = letters_of(text, open), end = from + code.slice(from, to).trimEnd().length;
+    return { text: `${text.slice(0, end)};${text.slice(end)}`, gone: "" };
+  }
+  const body = body_round(code, its.from);
+  if (!body) return { text, gone: null };
   const is_short = is_statement(code, its) && code.slice(its.from, its.to).trim() !== ";", part = is_short ? its : body;
   const gone = text.slice(part.from, part.to), blank = gone.replace(/[^\n]/g, " ");
   const stays = is_short ? `${blank.slice(0, -1)};` : blank;
-  return { text: text.slice(0, part.from) + stays + text.slice(part.to), gone: gone.trim() };
+  return { text: text.slice(0, part.from) + stays + text.slice(part.to), gone: gone.trim() || null };
 }
 
 /**
@@ -71,9 +79,7 @@ export function without_mistake(text, { line }) {
  * here it is that of what comes before.
  */
 export function placed(message, text) {
-  const { line, text: words } = message, met = /^';' expected \(got "(\w+|.)"\)$/.exec(words)?.[1];
-  const lines = code_alone(text).split("\n"), own = lines[line - 1]?.trim() ?? "";
-  if (met === undefined || !own.startsWith(met)) return message;
-  const before = lines.slice(0, line - 1).findLastIndex((it) => it.trim()) + 1;
-  return before === 0 ? message : { ...message, line: before, text: `';' expected at the end (got "${met}" in line ${line})`, is_at_end: true };
+  const line = line_without_end(c_code(text), message), met = /"(.+)"/.exec(message.text)?.[1];
+  if (line === 0) return message;
+  return { ...message, line, text: `';' expected at the end (got "${met}" in line ${message.line})`, is_at_end: true };
 }

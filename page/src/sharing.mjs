@@ -10,6 +10,7 @@ import { arrive, follow_place, is_booted, is_slide, read_link, seen_now, short_p
 import { open_manual } from "./manual.mjs";
 import { listed_slides, note_slide, words_of_slides } from "./slides.mjs";
 import * as programs from "./programs.mjs";
+import { sum_for, sum_of_machine } from "./c_programs.mjs";
 
 const DATA = globalThis.PAGE_DATA;
 const BEGINNING = "nektavoly 1\n"; // of a file that has what a link has
@@ -32,7 +33,7 @@ export function run_now(is_whole = false) {
       : { name, file: packed_file(text !== undefined ? { name: from.name, text } : from) };
   });
   return {
-    built: DATA.built, files, frames: booted.config.frames, how: booted.how, events: events.all(), end: view.end,
+    built: DATA.built + sum_of_machine(booted.files), beside: booted.files.beside, files, frames: booted.config.frames, how: booted.how, events: events.all(), end: view.end,
     stretches: view.stretches, at: view.at, keys: view.waiting_keys ?? [], futures: app.cut_off, plays: view.playing,
   };
 }
@@ -51,8 +52,8 @@ const files_of_run = (run) => run.files.map(({ name, place, file }) => (
 /** Plays a kept run again, on the files of the work that is open; false if it can't be played. */
 export async function play_again(run) {
   const named = files_of_run(run);
-  if (run.built !== DATA.built || named.some((it) => !it.from)) return false;
-  const files = await programs.made_of_all(named.map((it) => it.from));
+  if (named.some((it) => !it.from) || run.built !== DATA.built + await sum_for(named)) return false;
+  const files = await programs.made_of_all(named.map((it) => it.from), run.beside);
   if (!files) return false;
   named.forEach((it, k) => { files[k].name = it.name; });
   const replayed = once("replayed", "refused"), spans = spans_of(run.events), config = { frames: run.frames, trace: 0 };
