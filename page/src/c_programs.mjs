@@ -85,11 +85,12 @@ const mistake_of = ({ file, line, is_error, text }) => (
 function mistakes_of(name, { messages, programs, failed }) {
   if (failed) return [{ line: 0, kind: "C", written: null, words: `the compiler has failed: ${failed}` }];
   const unlinked = programs.find((it) => it.name === name)?.texts ?? [];
-  const own = messages.filter((it) => it.file === name), others = messages.filter((it) => it.file !== name && it.is_error);
-  const is_header = (it) => it.file.endsWith(".h");
-  return [...own, ...(name.endsWith(".h") ? [] : others.filter(is_header))].map(mistake_of).concat(
-    unlinked.map((words) => ({ line: 0, kind: "C", written: null, words }))
-  );
+  const is_header = (it) => it.file.endsWith(".h") && it.is_error && !name.endsWith(".h");
+  const all = messages.filter((it) => it.file === name || is_header(it));
+  const is_first = (it, place) => place === all.findIndex((other) => ["file", "line", "text"].every((part) => it[part] === other[part]));
+  return [
+    ...all.filter(is_first).map(mistake_of), ...unlinked.map((words) => ({ line: 0, kind: "C", written: null, words })),
+  ];
 }
 
 /** The places in the sources of a program that was compiled of these. */

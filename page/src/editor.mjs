@@ -188,9 +188,9 @@ function button_of(words, act) {
  * The row of a mistake: a button that goes to its line, what is wrong, if that isn't told above the list, and a button that
  * writes the line as it is meant.
  */
-function row_of_mistake({ line, kind, written, words: of_c, file }, is_told) {
+function row_of_mistake({ line, kind, written, words: of_c, file, is_warning }, is_told) {
   const row = document.createElement("li"), text = state.lines[line - 1];
-  if (of_c) return row_of_c(row, { line, words: of_c, file });
+  if (of_c) return row_of_c(row, { line, words: of_c, file, is_warning });
   const [, words] = /^line \d+: (.*)$/s.exec(mistake_words({ line, kind }, state.lines.join("\n")));
   row.append(button_of(`line ${line}`, () => go_to(line)), is_told ? " " : ` ${words} `);
   if (written === null) return row;
@@ -200,11 +200,12 @@ function row_of_mistake({ line, kind, written, words: of_c, file }, is_told) {
 }
 
 /** The row of what the compiler of C tells, perhaps of a header. */
-function row_of_c(row, { line, words, file }) {
+function row_of_c(row, { line, words, file, is_warning }) {
   const is_own = is_here({ file }), there = app.files.find((it) => it.name === file);
   const go = () => { if (!is_own && there) open(there); go_to(line); };
   if (line) row.append(button_of(is_own ? `line ${line}` : `${file}, line ${line}`, go));
   row.append(` ${words}`);
+  row.className = is_warning ? "warning" : "";
   return row;
 }
 
