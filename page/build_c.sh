@@ -1,9 +1,9 @@
 #!/bin/sh
 # build_c.sh [FOLDER]: the C compiler for the page, of what programs/c/tcc/build.sh has left in the folder programs/c/tcc/out, or in XV_TCC.
-# Two files come into FOLDER, or stand beside page/nektavoly.html:
+# Two files come into FOLDER, beside the nektavoly.html there; without FOLDER into this one:
 #
 #   nektavoly-c.js    the compiler, its library, its licence: the page takes it if it lies beside it and there is a source in C
-#   nektavoly-c.html  the page with all of that inside
+#   nektavoly-c.html  the page with all of that inside: that of FOLDER, or that which stands here
 #
 # Neither is a part of a clone. The same sources give the same bytes. It needs python3.
 set -eu

@@ -3,8 +3,9 @@
 import { run_compiler } from "./c_host.mjs";
 import { NotLinked, link } from "./c_linker.mjs";
 import { object_of as object_of_file } from "./c_objects.mjs";
-import { table_of } from "./c_lines.mjs";
+import { names_of, table_of } from "./c_lines.mjs";
 import { message_of, placed, without_mistake } from "./c_mistakes.mjs";
+import { with_names } from "./c_symbols.mjs";
 
 // The module takes no path for an absolute one. So those of the library have a head of their own.
 export const LIBRARY = "%library/";
@@ -72,8 +73,8 @@ function is_new(message, messages, left_out) {
  * of lines. It throws NotLinked.
  */
 export function program_of(objects, library) {
-  const linked = link(objects, library);
-  return { file: linked.file, table: table_of(linked) };
+  const linked = link(objects, library), names = names_of(linked);
+  return { file: with_names(linked.file, names, linked.layout.read_end), table: table_of(linked, names) };
 }
 
 /** Whether an object file has the function main. */

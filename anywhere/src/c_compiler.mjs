@@ -10,7 +10,6 @@ import { line_of, named_in } from "./c_mistakes.mjs";
 import { path_of } from "./program.mjs";
 import { ROOT } from "./sources.mjs";
 import { write_all } from "./streams.mjs";
-import { as_taken } from "./words.mjs";
 
 // The module takes no path for an absolute one. So absolute ones have a head of their own.
 const ABSOLUTE = "%";
@@ -154,7 +153,7 @@ function run_of(asked) {
  * Does what these words behind `--cc` or `--run` ask for. It gives the exit status, 1 if they or a source are refused;
  * or the words of the run that is to come.
  */
-export function compile_by(mode, words) {
+export function compile_by(mode, ...words) {
   const say = (text) => write_all(2, `xv ${mode}: ${text}\n`);
   if (words.length === 0 || ["--help", "-h"].includes(String(words[0]))) {
     write_all(words.length === 0 ? 2 : 1, USAGE[mode]);
@@ -165,7 +164,7 @@ export function compile_by(mode, words) {
     return NOTHING_RUNS;
   }
   try {
-    const asked = asked_by(mode, as_taken(words));
+    const asked = asked_by(mode, words);
     return mode === "--cc" ? leave(asked) : run_of(asked);
   } catch (error) {
     if (error instanceof NotLinked) error.texts.forEach(say);

@@ -41,7 +41,8 @@ function lines_of(object) {
 }
 
 /** The functions and labels of the sections that are executed: {address, size, name, is_label}. */
-function names_of(objects, executed) {
+export function names_of({ layout, objects }) {
+  const executed = new Set(layout.executed);
   const is_shown = (it) => executed.has(it.section) && (
     it.kind === FUNCTION ? it.size > 0 : it.kind === NO_TYPE && !it.is_local && it.name !== ""
   );
@@ -74,9 +75,9 @@ function rows_of_lines(objects, executed) {
   return rows;
 }
 
-/** The text of the table of what was linked. */
-export function table_of({ layout, objects }) {
-  const executed = new Set(layout.executed), names = names_of(objects, executed);
+/** The text of the table of what was linked, with these names. */
+export function table_of({ layout, objects }, names) {
+  const executed = new Set(layout.executed);
   const named = names.map((it) => `${it.is_label ? "label" : "function"} ${it.address} ${it.size} ${it.name}`);
   const frames = names.flatMap(({ address, size, section, is_label }) => (
     is_label ? [`frame ${address} - 0 0 0`]

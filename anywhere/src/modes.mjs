@@ -30,8 +30,7 @@ const WAYS = {
 
 /** What xv answers itself, and its status; or the words that are for a program. */
 async function answered(words) {
-  const first = words[0]?.toString(), others = words.slice(1);
-  switch (first) {
+  switch (words[0]?.toString()) {
     case undefined:
       write_all(2, help());
       return REFUSED;
@@ -47,9 +46,8 @@ async function answered(words) {
       write_all(1, `${modules().text}\n`);
       return 0;
     case "--dap": // it takes no words: the editor sends them
-      return others.length > 0 ? tell(said("no-value", "--dap")) : (await import("../editor/main.mjs")).main("xv");
-    case "--cc":
-    case "--run": return (await import("./c_compiler.mjs")).compile_by(first, others);
+      return words.length > 1 ? tell(said("no-value", "--dap")) : (await import("../editor/main.mjs")).main("xv");
+    case "--cc": case "--run": return (await import("./c_compiler.mjs")).compile_by(...words.map(String));
     default: return words;
   }
 }

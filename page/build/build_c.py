@@ -41,7 +41,8 @@ sum_ = hashlib.sha256(json.dumps(parts, sort_keys=True).encode()).hexdigest()
 packed = json.dumps({**parts, "sum": sum_}, ensure_ascii=True, separators=(",", ":")).replace("</", "<\\/").replace("<!--", "<\\!--")
 notice = "\n".join(f"// {line}" for line in parts["notice"].splitlines())
 script = f"{notice}\nglobalThis.PAGE_C = {packed};\n"
-with open(os.path.join(root, "page", "nektavoly.html"), encoding="utf-8") as it:
+there = [os.path.join(it, "nektavoly.html") for it in (folder, os.path.join(root, "page"))]
+with open(next(it for it in there if os.path.exists(it)), encoding="utf-8") as it:
     page = it.read()
 mark = "<script>globalThis.PAGE_DATA = "
 assert page.count(mark) == 1
