@@ -1,12 +1,19 @@
 // What the C compiler tells: its messages, and sources without the mistake that is told, in which the next one is found.
 import { c_code } from "../machine/file_kinds.mjs";
 
+// What the compiler says of what its back end lacks, and what is said here.
+const LACKING = {
+  "RISCV64 asm not implemented.": "inline assembler isn't there: gcc takes it",
+  "implement me: store(!local)": "a store to an address that is a constant isn't there: put the address into a variable",
+  "unimp: load(non-local lval)": "a load from an address that is a constant isn't there: put the address into a variable",
+};
+
 /** A message of a line that the compiler has told: {file, line, is_error, text}; null if the line is none. */
 export function message_of(told) {
   const found = /^(.+?):(?:(\d+):)? (error|warning): (.*)$/.exec(told);
   if (!found) return null;
   const [, file, line = "0", kind, text] = found;
-  return { file, line: Number(line), is_error: kind === "error", text };
+  return { file, line: Number(line), is_error: kind === "error", text: LACKING[text] ?? text };
 }
 
 /** The text of a source's line, from 1 on. */
@@ -56,6 +63,12 @@ function line_without_end(code, { line, text: words }) {
   return before < 0 || lines[before].trimEnd().endsWith(";") ? 0 : before + 1;
 }
 
+/** What stays of a statement that is left out: of a declaration with a value the name, which others use. */
+function rest_of(statement) {
+  const head = /^(\s*[A-Za-z_]\w*[\s*]+[A-Za-z_][\w\s*]*?)\s*=[^=]/.exec(statement)?.[1] ?? "";
+  return `${head.padEnd(statement.length - 1)};`;
+}
+
 /**
  * A source without a mistake: {text, gone}. A missing `;` is written; else the line is left out, if it is a whole statement
  * of a function, or all of the function's body. `gone` is the text that was left out; null if nothing could be.
@@ -70,7 +83,7 @@ export function without_mistake(text, mistake) {
   if (!body) return { text, gone: null };
   const is_short = is_statement(code, its) && code.slice(its.from, its.to).trim() !== ";", part = is_short ? its : body;
   const gone = text.slice(part.from, part.to), blank = gone.replace(/[^\n]/g, " ");
-  const stays = is_short ? `${blank.slice(0, -1)};` : blank;
+  const stays = is_short ? rest_of(gone) : blank;
   return { text: text.slice(0, part.from) + stays + text.slice(part.to), gone: gone.trim() || null };
 }
 
