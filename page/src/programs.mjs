@@ -66,6 +66,15 @@ function show_files() {
       "button",
       { id: "save", title: "Save this file on your host", "aria-label": "Save this file", onclick: save_opened }, "Save"
     ),
+    ...(
+      is_c_program(editor.opened() ?? {}) ? [
+        element(
+          "button",
+          { id: "save-program", title: "Save the program that is compiled of this source", onclick: save_program },
+          "Save program"
+        ),
+      ] : []
+    ),
     element(
       "button", { title: "Program files, sources, texts, or the record of a run", onclick: ask_for_files },
       "Open file.."
@@ -147,6 +156,11 @@ export function save(name, content) {
 function save_opened() {
   const file = editor.opened();
   if (file) save(file.name, file.text ?? bytes_of_file(file));
+}
+
+async function save_program() {
+  const made = await made_of(editor.opened());
+  if (made.mistake) refuse(`${made.from.name}, ${made.mistake}`); else save(made.name, made.bytes);
 }
 
 // ---- works

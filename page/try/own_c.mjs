@@ -94,6 +94,8 @@ async function mistakes_are_told(page) {
   holds((await mistakes(page)).join() === " pp.c uses rite, which no file has,line 13 warning: implicit declaration of function 'rite'", `what isn't there: ${await mistakes(page)}`);
   await edit(page, "rite(back", "write(back");
   await comes(page, "document.getElementById('mistake').textContent.startsWith('compiles') && document.querySelectorAll('#mistakes li').length === 0");
+  await page.eval("globalThis.saved = []; HTMLAnchorElement.prototype.click = function () { fetch(this.href).then((it) => it.arrayBuffer()).then((it) => saved.push([this.download, [...new Uint8Array(it).subarray(1, 4)]])); }; document.getElementById('save-program').click()");
+  holds(await comes(page, "JSON.stringify(saved) === '[[\"pp\",[69,76,70]]]'"), "the program can be saved");
   await boot(page);
   await page.until("document.getElementById('screen').textContent.includes('$ ')");
   await type(page, "pp\n");
