@@ -1,6 +1,7 @@
 // Programs in C, of sources that are bytes: each is compiled, and its mistakes are told; then they are linked with the
 // library. Node and the page's worker do it with the same code.
-import { run_compiler } from "./c_host.mjs";
+import { MOST_MISTAKES } from "../machine/assembler_mistakes.mjs";
+import { BROKE, run_compiler } from "./c_host.mjs";
 import { NotLinked, link } from "./c_linker.mjs";
 import { object_of as object_of_file } from "./c_objects.mjs";
 import { names_of, table_of } from "./c_lines.mjs";
@@ -9,7 +10,7 @@ import { with_names } from "./c_symbols.mjs";
 
 // The module takes no path for an absolute one. So those of the library have a head of their own.
 export const LIBRARY = "%library/";
-const OBJECT = "object.o", BROKE = 70, MOST_MISTAKES = 20;
+const OBJECT = "object.o";
 // What a source could ask for that this machine isn't.
 const NOT_HERE = [
   "__linux__", "__linux", "__unix__", "__unix", "__riscv_flen", "__riscv_float_abi_double", "__riscv_mul",

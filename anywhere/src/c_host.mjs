@@ -2,7 +2,8 @@
 // takes. It sees no other file, and its clock stands still, so that a source gives the same bytes each time.
 import { run_held } from "./wasi.mjs";
 
-const BROKE = 70;
+/** The status of a compiler that broke. */
+export const BROKE = 70;
 
 /**
  * Runs a compiler until its end: `words` with its name, and `file_of(path)`, which gives the bytes of a file, or

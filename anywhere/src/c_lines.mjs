@@ -1,10 +1,11 @@
 // The table of lines of a program that c_linker.mjs has linked, in the form that programs/c/table.sh writes: functions
 // and labels, the lines of the sources, and how calls lie on the stack. The compiler tells lines in stabs (GDB, "The
 // stabs representation"), from which they are read here; one that writes DWARF has the same in .debug_line.
+import { FUNCTION } from "../machine/line_tables.mjs";
 import { address_of } from "./c_linker.mjs";
 import { frames_of } from "./c_frames.mjs";
 
-const FUNCTION = 2, NO_TYPE = 0; // kinds of symbols
+const NO_TYPE = 0; // the kind of a symbol
 const STAB = { BYTES: 12, KIND: 4, LINE: 6, VALUE: 8 }; // bytes of an entry, and where its parts lie
 const KINDS = { FUNCTION: 0x24, LINE: 0x44, SOURCE: 0x64, INCLUDED: 0x84 }; // N_FUN, N_SLINE, N_SO, N_SOL
 

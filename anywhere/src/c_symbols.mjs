@@ -1,8 +1,8 @@
 // The names of a program's functions in its file, behind what the machine loads, for debuggers: sections for the text,
 // the symbols and their names (ELF-64 Object File Format, "Sections", "Symbol table").
 import { SEGMENTS_AT, SEGMENT_BYTES } from "./c_linker.mjs";
+import { SECTION_BYTES, SYMBOL_BYTES } from "./c_objects.mjs";
 
-const SECTION_BYTES = 64, SYMBOL_BYTES = 24;
 const KINDS = { PROGRAM: 1, SYMBOLS: 2, STRINGS: 3 }, FUNCTION = 0x12; // of global binding
 const ALLOCATED_AND_EXECUTED = 6, TEXT = 1, NAMES = 3;
 
