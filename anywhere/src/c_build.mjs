@@ -25,7 +25,7 @@ function object_of({ module, header }, path, words, file_of) {
   return { object: status === 0 ? made.get(OBJECT) : undefined, told, has_broken: status === BROKE };
 }
 
-/** The messages of a text that the compiler has told: {file, line, is_error, text} each; `line` is 0 if it is of none. */
+/** The messages that the compiler has told: {file, line, is_error, text} each; `line` is 0 if it is of none. */
 function messages_of(path, { told, has_broken }) {
   const found = told.split("\n").map(message_of).filter(Boolean);
   const broken = { file: path, line: 0, is_error: true, text: "the compiler can't compile this, and ended itself" };
@@ -33,7 +33,7 @@ function messages_of(path, { told, has_broken }) {
 }
 
 /**
- * Compiles a source. `compiler` has the `module` and `header(name)`, the bytes of a file of the library; `file_of(path)`
+ * Compiles a source. `compiler` has the `module`, and `header(name)`, the bytes of a library's file; `file_of(path)`
  * gives those of all other files, or nothing.
  *
  * @returns {{object, messages}} the object file, unless there is a mistake; and what the compiler tells, by lines. It
@@ -53,7 +53,8 @@ export function compile(compiler, path, words, file_of) {
     mistake = more.find((it) => it.is_error);
     messages.push(...more.filter((it) => is_new(it, messages, left_out)));
   }
-  return { object: first.object, messages: in_order(messages.map((it) => (it.file === path ? placed(it, source) : it))) };
+  const at_their_places = messages.map((it) => (it.file === path ? placed(it, source) : it));
+  return { object: first.object, messages: in_order(at_their_places) };
 }
 
 const in_order = (messages) => messages.sort((one, other) => (one.file === other.file ? one.line - other.line : 0));
@@ -79,11 +80,13 @@ export function program_of(objects, library) {
 }
 
 /** Whether an object file has the function main. */
-const has_main = ([name, bytes]) => object_of_file(name, bytes).symbols.some((it) => it.name === "main" && !it.is_undefined);
+const has_main = ([name, bytes]) => (
+  object_of_file(name, bytes).symbols.some((it) => it.name === "main" && !it.is_undefined)
+);
 
 /**
- * A program of each object that has the function main: {name, file, table}, or {name, texts} if it can't be linked. What
- * the other objects have is taken before what the library has.
+ * A program of each object that has the function main: {name, file, table}, or {name, texts} if it can't be linked.
+ * What the other objects have is taken before what the library has.
  */
 export function programs_of(objects, library) {
   const mains = objects.filter(has_main), shared = objects.filter((it) => !mains.includes(it));

@@ -1,6 +1,8 @@
 // `--cc FILE.c.. [-o NAME]`: a program in C becomes a program of the machine, by the compiler and the library that
 // programs/c/tcc/build.sh makes, and c_linker.mjs. `--run FILE.c..` runs it at once, with the shell's programs.
-import { chmodSync, existsSync, mkdtempSync, readFileSync, readdirSync, rmSync, statSync, writeFileSync } from "node:fs";
+import {
+  chmodSync, existsSync, mkdtempSync, readFileSync, readdirSync, rmSync, statSync, writeFileSync,
+} from "node:fs";
 import { tmpdir } from "node:os";
 import { basename, join } from "node:path";
 import { NOTHING_RUNS, REFUSED } from "./about.mjs";
@@ -16,13 +18,15 @@ const ABSOLUTE = "%";
 const USAGE = {
   "--cc": `usage: xv --cc FILE.c.. [-o NAME] [-I FOLDER] [-D NAME[=TEXT]] [-U NAME] [-Wall] [-Werror] [-w]
 
-Compiles programs in C for the machine, and links them: docs/manual/c-programs.md. Without -o the program's name is the first FILE's,
-without its .c, beside it; NAME.lines beside it has its lines, for debuggers. -O.., -std=.. and -g are taken, and change nothing.
+Compiles programs in C for the machine, and links them: docs/manual/c-programs.md. Without -o the program's name is
+the first FILE's, without its .c, beside it; NAME.lines beside it has its lines, for debuggers. -O.., -std=.. and -g
+are taken, and change nothing.
 `,
   "--run": `usage: xv --run FILE.c.. [-I FOLDER] [-D NAME[=TEXT]] [-U NAME] [-Wall] [-Werror] [-w] [-- TEXT..]
 
-Compiles a program in C as xv --cc does, and runs it in a machine with the shell's programs: the shell calls it, with these TEXTs. A
-program that is called sh takes the shell's place, and one that is called init the first process's. No file is left.
+Compiles a program in C as xv --cc does, and runs it in a machine with the shell's programs: the shell calls it, with
+these TEXTs. A program that is called sh takes the shell's place, and one that is called init the first process's. No
+file is left.
 `,
 };
 const WARNINGS = ["-Wall", "-Wextra", "-Werror", "-w"];
@@ -133,14 +137,22 @@ function leave(asked) {
   return 0;
 }
 
-/** The words of a run of the program with the shell's programs: files, of which the program's own lies in a folder that goes. */
+/**
+ * The words of a run of the program with the shell's programs: files, of which the program's own lies in a folder that
+ * goes when this process ends.
+ */
 function run_of(asked) {
-  const name = basename(asked.output), wrong = asked.texts.find((it) => !FOR_THE_SHELL.test(it));
-  if (wrong !== undefined) throw new Refused(`the shell can't hand on the text ${JSON.stringify(wrong)}: it has no quotes`);
-  if (["rc", "console"].includes(name)) throw new Refused(`a program can't be called ${name} here: give the file another name`);
+  const name = basename(asked.output), text = asked.texts.find((it) => !FOR_THE_SHELL.test(it));
+  if (text !== undefined) {
+    throw new Refused(`the shell can't hand on the text ${JSON.stringify(text)}: it has no quotes`);
+  }
+  if (["rc", "console"].includes(name)) {
+    throw new Refused(`a program can't be called ${name} here: give the file another name`);
+  }
   const program = built(asked);
   if (!program) return REFUSED;
-  const room = mkdtempSync(join(tmpdir(), "xv-")), others = readdirSync(`${ROOT}programs/bin`).filter((it) => it !== name);
+  const room = mkdtempSync(join(tmpdir(), "xv-"));
+  const others = readdirSync(`${ROOT}programs/bin`).filter((it) => it !== name);
   process.on("exit", () => rmSync(room, { recursive: true, force: true }));
   write_program(join(room, name), program);
   const files = [...others.map((it) => `${ROOT}programs/bin/${it}`), join(room, name)];

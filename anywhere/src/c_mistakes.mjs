@@ -1,11 +1,13 @@
-// What the C compiler tells: its messages, and sources without the mistake that is told, in which the next one is found.
+// What the C compiler tells: its messages; and sources without the mistake that is told, in which the next one is
+// found.
 import { c_code } from "../machine/file_kinds.mjs";
 
 // What the compiler says of what its back end lacks, and what is said here.
+const CONSTANT = "an address that is a constant isn't there: put the address into a variable";
 const LACKING = {
   "RISCV64 asm not implemented.": "inline assembler isn't there: gcc takes it",
-  "implement me: store(!local)": "a store to an address that is a constant isn't there: put the address into a variable",
-  "unimp: load(non-local lval)": "a load from an address that is a constant isn't there: put the address into a variable",
+  "implement me: store(!local)": `a store to ${CONSTANT}`,
+  "unimp: load(non-local lval)": `a load from ${CONSTANT}`,
 };
 
 /** A message of a line that the compiler has told: {file, line, is_error, text}; null if the line is none. */
@@ -70,8 +72,8 @@ function rest_of(statement) {
 }
 
 /**
- * A source without a mistake: {text, gone}. A missing `;` is written; else the line is left out, if it is a whole statement
- * of a function, or all of the function's body. `gone` is the text that was left out; null if nothing could be.
+ * A source without a mistake: {text, gone}. A missing `;` is written; else the line is left out, if it is a whole
+ * statement of a function, or all of the function's body. `gone` is the text that was left out; null if nothing could be.
  */
 export function without_mistake(text, mistake) {
   const code = c_code(text), its = letters_of(text, mistake.line), open = line_without_end(code, mistake);

@@ -39,11 +39,12 @@ function write_section(view, at, [name, kind, flags, offset, size, link, info, a
   );
 }
 
-/** The file of a program with the names of its functions and labels, {address, size, name}; its segments stay as they are. */
+/** The file of a program with the names of its functions and labels, {address, size, name}; its segments stay. */
 export function with_names(file, names, text_bytes) {
   const texts = strings_of(names.map((it) => it.name)), heads = strings_of([".text", ".symtab", ".strtab"]);
   const parts = [symbols_of(names, texts.places), Uint8Array.from([...texts.bytes, ...heads.bytes])];
-  const begin = Math.ceil(file.length / 8) * 8, strings_at = begin + parts[0].length, heads_at = strings_at + texts.bytes.length;
+  const begin = Math.ceil(file.length / 8) * 8, strings_at = begin + parts[0].length;
+  const heads_at = strings_at + texts.bytes.length;
   const sections_at = Math.ceil((strings_at + parts[1].length) / 8) * 8;
   const bytes = new Uint8Array(sections_at + 5 * SECTION_BYTES), view = new DataView(bytes.buffer);
   bytes.set(file);

@@ -1,7 +1,7 @@
 // A host of WASI (preview 1): what the modules of programs and of the C compiler ask for. Words, streams, the clock and
 // files come from the caller: files of this host (program.mjs), or ones that are held in memory, so that a run is a
-// function of bytes (run_held), in Node and in a browser. Node's own WASI isn't taken: it is experimental, aborts in threads, takes no words
-// that are no text, and knows no streams but those of this process.
+// function of bytes (run_held), in Node and in a browser. Node's own WASI isn't taken: it is experimental, aborts in
+// threads, takes no words that are no text, and knows no streams but those of this process.
 export const CHARACTERS = 2, FOLDER = 3, REGULAR_FILE = 4, SOCKET = 6, LINK = 7;
 const GOOD = 0, BAD_DESCRIPTOR = 8, IO = 29, NOT_HERE = 52, NO_SEEK = 70;
 // Errors by the names that Node gives them.

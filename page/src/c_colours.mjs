@@ -3,7 +3,10 @@ const LANGUAGE = new Set((
   "auto break case char const continue default do double else enum extern float for goto if inline int long register "
     + "return short signed sizeof static struct switch typedef union unsigned void volatile while _Bool _Noreturn"
 ).split(" "));
-const PART = /\/\/.*|\/\*[\s\S]*?(?:\*\/|$)|("(?:\\.|[^"\\])*"?|'(?:\\.|[^'\\])*'?)|(^\s*#\s*\w+)|\b(\d\w*)|\b([A-Za-z_]\w*)/g;
+const PART = new RegExp([
+  /\/\/.*|\/\*[\s\S]*?(?:\*\/|$)/, /("(?:\\.|[^"\\])*"?|'(?:\\.|[^'\\])*'?)/, /(^\s*#\s*\w+)/, /\b(\d\w*)/,
+  /\b([A-Za-z_]\w*)/,
+].map((it) => it.source).join("|"), "g");
 
 const escape = (text) => text.replace(/[&<>]/g, (it) => ({ "&": "&amp;", "<": "&lt;", ">": "&gt;" })[it]);
 const span = (name, text) => `<span class="${name}">${escape(text)}</span>`;

@@ -6,8 +6,9 @@ import { file_of_bytes } from "../../anywhere/machine/program_files.mjs";
 import { shipped_source } from "./shipped_sources.mjs";
 
 const BESIDE = "nektavoly-c.js";
-const MISSING = `this page has no C compiler: nektavoly-c.html has one, and so has this page if ${BESIDE} lies beside it`;
-const ASSEMBLER_INSIDE = ["crash.c", "tests.c"]; // of the shipped sources: this compiler takes no assembler with operands
+const MISSING = "this page has no C compiler: nektavoly-c.html has one, and so has this page if "
+  + `${BESIDE} lies beside it`;
+const ASSEMBLER_INSIDE = ["crash.c", "tests.c"]; // of the shipped sources: this compiler takes no assembler
 const waiting = new Map(); // who waits for what is built
 let begun = null, asked = 0, last = { key: "", built: null };
 
@@ -33,9 +34,8 @@ async function begin() {
   const { worker: code, wasm, headers, objects } = await parts();
   const worker = new Worker(URL.createObjectURL(new Blob([code], { type: "text/javascript" })));
   worker.onmessage = ({ data }) => { waiting.get(data.id)?.(data); waiting.delete(data.id); };
-  worker.postMessage({
-    begin: { wasm: base64.of(wasm), headers, objects: Object.entries(objects).map(([name, it]) => [name, base64.of(it)]) },
-  });
+  const library = Object.entries(objects).map(([name, it]) => [name, base64.of(it)]);
+  worker.postMessage({ begin: { wasm: base64.of(wasm), headers, objects: library } });
   tell_whose();
   return worker;
 }
@@ -44,9 +44,8 @@ async function begin() {
 function tell_whose() {
   const { notice, licence } = globalThis.PAGE_C;
   if ($("whose-compiler")) return;
-  document.querySelector("footer").append(element(
-    "details", { id: "whose-compiler" }, element("summary", {}, "Whose C compiler this is"), element("pre", {}, `${notice}\n${licence}`)
-  ));
+  const words = element("summary", {}, "Whose C compiler this is"), text = element("pre", {}, `${notice}\n${licence}`);
+  document.querySelector("footer").append(element("details", { id: "whose-compiler" }, words, text));
 }
 
 /** The sum of the compiler and its library, if one of these files is compiled; else nothing. */
@@ -54,7 +53,9 @@ export async function sum_for(files) {
   return files.some((it) => is_c_program(it.from ?? it)) ? `+${(await parts()).sum.slice(0, 16)}` : "";
 }
 /** The same of files of a machine, which were compiled already. */
-export const sum_of_machine = (files) => (files.some((it) => it.is_compiled) ? `+${globalThis.PAGE_C.sum.slice(0, 16)}` : "");
+export const sum_of_machine = (files) => (
+  files.some((it) => it.is_compiled) ? `+${globalThis.PAGE_C.sum.slice(0, 16)}` : ""
+);
 
 /** The sources in C and the headers of a list, of which each program may use something. */
 export const c_texts = (files) => files.filter(is_c).map(({ name, text }) => ({ name, text }));
@@ -87,7 +88,8 @@ function mistakes_of(name, { messages, programs, failed }) {
   const unlinked = programs.find((it) => it.name === name)?.texts ?? [];
   const is_header = (it) => it.file.endsWith(".h") && it.is_error && !name.endsWith(".h");
   const all = messages.filter((it) => it.file === name || is_header(it));
-  const is_first = (it, place) => place === all.findIndex((other) => ["file", "line", "text"].every((part) => it[part] === other[part]));
+  const is_same = (it, other) => ["file", "line", "text"].every((part) => it[part] === other[part]);
+  const is_first = (it, place) => place === all.findIndex((other) => is_same(it, other));
   return [
     ...all.filter(is_first).map(mistake_of), ...unlinked.map((words) => ({ line: 0, kind: "C", written: null, words })),
   ];
@@ -100,7 +102,8 @@ function symbols_of({ file, table }, name, sources) {
 }
 
 /**
- * What is told of a source in C as it is edited: {mistakes, size, symbols}; `size` is that of its program, 0 if it is none.
+ * What is told of a source in C as it is edited: {mistakes, size, symbols}; `size` is that of its program, 0 if it is
+ * none.
  */
 export async function check(file, list) {
   const sources = c_texts(list), { name } = file;
@@ -118,7 +121,8 @@ export async function program_of(file, list) {
   const { name, text } = file, sources = c_texts(list);
   const { mistakes, size, symbols } = await check(file, list), wrong = mistakes.find((it) => !it.is_warning);
   const place = wrong && (wrong.line ? `line ${wrong.line}: ` : "");
-  if (wrong) return { mistake: `${wrong.file && wrong.file !== name ? `${wrong.file}, ` : ""}${place}${wrong.words}`, from: file };
+  const header = wrong?.file && wrong.file !== name ? `${wrong.file}, ` : "";
+  if (wrong) return { mistake: header + place + wrong.words, from: file };
   if (!size) return { mistake: "it has mistakes", from: file };
   const { file: bytes } = (await built(sources)).programs.find((it) => it.name === name);
   return { name: name.slice(0, -2), bytes, symbols, from: file, text, is_compiled: true };

@@ -17,7 +17,8 @@ function begin({ wasm, headers, objects: own }) {
 
 /** What comes of a source, among others that it may include: of the last time, if all of them are the same. */
 function compiled(name, sources) {
-  const key = JSON.stringify(sources.filter((it) => it.name === name || it.name.endsWith(".h"))), last = objects.get(name);
+  const used = sources.filter((it) => it.name === name || it.name.endsWith(".h"));
+  const key = JSON.stringify(used), last = objects.get(name);
   if (last?.key === key) return last;
   const texts = new Map(sources.map((it) => [it.name, bytes_of(it.text)]));
   const made = { key, ...compile(compiler, name, WORDS, (path) => texts.get(path.replace(/^\.\//, ""))) };

@@ -114,7 +114,8 @@ function draw() {
   const stops = new Set(stops_of(file).map((it) => it.line));
   const { first, last } = lines_seen(), from = Math.max(0, first - UNSEEN), to = Math.min(lines.length, last + UNSEEN);
   const ink = box.querySelector(".ink"), gutter = box.querySelector(".gutter"), numbers = [];
-  const shown = is_source(file) ? coloured : is_c(file) ? (line, k) => coloured_c(line, state.comments.has(k)) : escape;
+  const in_c = (line, k) => coloured_c(line, state.comments.has(k));
+  const shown = is_source(file) ? coloured : is_c(file) ? in_c : escape;
   let rows = "";
   for (let k = from; k < to; k++) {
     if (!is_plain) rows += `<span class="${row_class(k + 1)}">${shown(lines[k], k) || " "}</span>`;
@@ -343,9 +344,11 @@ function told_c({ mistakes, size, symbols }) {
   const wrong = mistakes.filter((it) => !it.is_warning), [first] = wrong, others = mistakes.length - wrong.length;
   take_mistakes(mistakes);
   state.places = symbols;
-  state.coded = symbols && new Set(symbols.table.lines.filter((it) => it.file === state.file.name).map((it) => it.number));
+  const own = symbols?.table.lines.filter((it) => it.file === state.file.name);
+  state.coded = own ? new Set(own.map((it) => it.number)) : null;
+  const warned = others ? `, with ${others} warning${others > 1 ? "s" : ""}` : "";
   if (first) said(wrong.length > 1 ? `${wrong.length} mistakes` : first.line ? "a mistake" : first.words, "bad");
-  else said(`${size ? `compiles: ${size} bytes` : "compiles: it has no main"}${others ? `, with ${others} warning${others > 1 ? "s" : ""}` : ""}`, "good");
+  else said(`compiles: ${size ? `${size} bytes` : "it has no main"}${warned}`, "good");
   draw();
   show_pc();
 }
