@@ -9,13 +9,15 @@
 # repository is refused, unless git ignores it.
 #
 # The archive holds the programs twice: for Linux on x86-64, as `./xv --build` proved and built them (libexec/), and for
-# Node on every host (anywhere/). It holds the page, the extension for VS Code (nektavoly.vsix), the programs for the machine with
-# their sources, and the manual and the course as HTML, with a search that needs no network, and as text; a link of theirs to
-# what it doesn't hold is words. npm takes it as a package, since package.json stands in its one folder. No file of it is a link: npm leaves links out, and
-# Windows makes them for some users alone. Windows has `tar`, so there is no .zip.
+# Node on every host (anywhere/). It holds the page, the extension for VS Code (nektavoly.vsix), the programs for the
+# machine with their sources, and the manual and the course as HTML, with a search that needs no network, and as text; a
+# link of theirs to what it doesn't hold is words. A C compiler, TinyCC with its licence, has a folder of its own,
+# programs/c/tcc/out, and for the page it stands in page/nektavoly-c.js and page/nektavoly-c.html. npm takes the archive as
+# a package, since package.json stands in its one folder. No file of it is a link: npm leaves links out, and Windows makes
+# them for some users alone. Windows has `tar`, so there is no .zip.
 #
 # The same commit, kit and pandoc give the same bytes, whoever makes it, when and in which folder. pandoc is Debian's
-# package of that name; 2.17 is that of Debian 12. BUILT in the archive names the kit.
+# package of that name; 2.17 is that of Debian 12. The compiler is what programs/c/tcc/build.sh has left. BUILT in the archive names the kit.
 #
 #   release.sh --cut VERSION [--commit]
 #
@@ -123,6 +125,7 @@ is_clean
 programs/host/build.sh --is-current || stop "the native programs aren't proved and built of these sources: ./xv --build"
 page/is_current.sh >/dev/null 2>&1 || stop "page/nektavoly.html is of other sources: page/build.sh"
 anywhere/is_current.sh >/dev/null 2>&1 || stop "the modules for Node are of other sources: anywhere/build.sh"
+programs/c/tcc/build.sh --is-current >/dev/null 2>&1 || stop "the C compiler isn't there, or is of other sources: programs/c/tcc/build.sh"
 grep -q "\"version\": *\"$version\"" package.json || stop "package.json has another version than VERSION, $version"
 grep -qF "## [$version]" CHANGELOG.md || stop "CHANGELOG.md doesn't know version $version: release.sh --cut"
 into=$(folder_for "${into:-../$name-release}")
@@ -186,6 +189,13 @@ cp "$room/html/style.css" "$RELEASE/docs/style.css"
 sed -i -E -e 's/([A-Za-z0-9-]+)\.md(\\?[#"`)])/\1.html\2/g' \
     -e 's|(<select id="manual-page"[^>]*></select></label>)|\1 <a href="../docs/search.html">search</a>|' "$RELEASE/page/nektavoly.html"
 grep -q 'href="../docs/search.html"' "$RELEASE/page/nektavoly.html" || stop "the page has no place for the link to the search"
+
+# The C compiler, all but the one for this host alone, and the page's.
+mkdir "$RELEASE/programs/c/tcc/out"
+(cd programs/c/tcc/out && cp -r tcc.wasm lib include COPYING NOTICE SOURCES "$RELEASE/programs/c/tcc/out/")
+page/build_c.sh "$RELEASE/page" >/dev/null
+echo "release.sh: of it the C compiler and its library have $(du -sb --apparent-size "$RELEASE/programs/c/tcc/out" | cut -f 1) bytes, and for" \
+    "the page $(cat "$RELEASE"/page/nektavoly-c.* | wc -c)"
 
 # What is a teacher's goes apart; its page is made while all that it leads to is there.
 echo docs/COURSE-ANSWERS.md | as_html

@@ -1,14 +1,17 @@
 #!/bin/sh
 # look.sh FOLDER [PAGE.html]: tries the page in Chromium as a student would: whether anything is lost or shown wrong,
 # whether bad links and files are told, whether all is reached by keys, can be heard and seen, and nothing is cut off,
-# whether links and questions are answered, what a lecture wants, and what it shows of programs in C. It takes pictures
-# into the folder. With BROWSER=firefox it takes Firefox. It needs node and the browser (Debian's nodejs, chromium and
-# firefox-esr). The status is 1 if something isn't as it should be, and 2 if it can't be tried.
+# whether links and questions are answered, what a lecture wants, and what it shows of programs in C; of those that are
+# written on the page, too, if nektavoly-c.js lies beside it (build_c.sh). It takes pictures into the folder. With
+# BROWSER=firefox it takes Firefox. It needs node and the browser (Debian's nodejs, chromium and firefox-esr). The status
+# is 1 if something isn't as it should be, and 2 if it can't be tried.
 cd "$(dirname "$(readlink -f "$0")")" || exit 2
 browser=chromium; [ "${BROWSER-}" != firefox ] || browser=firefox-esr
 command -v node >/dev/null || { echo "look.sh: there is no node: apt-get install nodejs" >&2; exit 2; }
 command -v $browser >/dev/null || { echo "look.sh: there is no $browser: apt-get install $browser" >&2; exit 2; }
 page=${2-nektavoly.html} folder=${1:?a folder for the pictures}
 status=0
-for try in look lossless outside reach hear breaks runs lecture asked c; do node try/$try.mjs "$page" "$folder" || status=1; done
+tries='look lossless outside reach hear breaks runs lecture asked c'
+[ ! -e "$(dirname "$page")/nektavoly-c.js" ] || tries="$tries own_c"
+for try in $tries; do node try/$try.mjs "$page" "$folder" || status=1; done
 exit $status

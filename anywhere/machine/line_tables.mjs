@@ -1,7 +1,8 @@
 // What stands beside a program of C for readers of its source, as programs/c/table.sh writes it: its functions, the
 // lines of its source, and how its calls lie on the stack.
 
-const FUNCTION = 2, SYMBOLS = 2, STRINGS = 3; // of an ELF file: STT_FUNC, SHT_SYMTAB, SHT_STRTAB
+export const FUNCTION = 2; // of an ELF file: STT_FUNC
+const SYMBOLS = 2, STRINGS = 3; // SHT_SYMTAB, SHT_STRTAB
 const HEAD = 64, SYMBOL = 24; // bytes of an ELF file's header and of a section's; of a symbol
 
 export const is_table = (text) => /^(function|label) \d+ \d+ \S+\n/.test(text ?? "");

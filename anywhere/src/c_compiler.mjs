@@ -1,34 +1,40 @@
 // `--cc FILE.c.. [-o NAME]`: a program in C becomes a program of the machine, by the compiler and the library that
-// programs/c/tcc/build.sh makes, and c_linker.mjs. Nothing else of the host is asked for.
-import { chmodSync, existsSync, readFileSync, readdirSync, writeFileSync } from "node:fs";
-import { basename } from "node:path";
+// programs/c/tcc/build.sh makes, and c_linker.mjs. `--run FILE.c..` runs it at once, with the shell's programs.
+import {
+  chmodSync, existsSync, mkdtempSync, readFileSync, readdirSync, rmSync, statSync, writeFileSync,
+} from "node:fs";
+import { tmpdir } from "node:os";
+import { basename, join } from "node:path";
 import { NOTHING_RUNS, REFUSED } from "./about.mjs";
-import { run_compiler } from "./c_host.mjs";
-import { NotLinked, link } from "./c_linker.mjs";
+import { LIBRARY, compile, program_of } from "./c_build.mjs";
+import { NotLinked } from "./c_linker.mjs";
+import { line_of, named_in } from "./c_mistakes.mjs";
+import { path_of } from "./program.mjs";
 import { ROOT } from "./sources.mjs";
 import { write_all } from "./streams.mjs";
-import { as_taken } from "./words.mjs";
 
-const NAME = "xv --cc";
-// The module takes no path for an absolute one. So those of the library, and absolute ones, have a head of their own.
-const OBJECT = "object.o", LIBRARY = "%library/", ABSOLUTE = "%";
-const USAGE = `usage: xv --cc FILE.c.. [-o NAME] [-I FOLDER] [-D NAME[=TEXT]] [-U NAME] [-Wall] [-Werror] [-w]
+// The module takes no path for an absolute one. So absolute ones have a head of their own.
+const ABSOLUTE = "%";
+const USAGE = {
+  "--cc": `usage: xv --cc FILE.c.. [-o NAME] [-I FOLDER] [-D NAME[=TEXT]] [-U NAME] [-Wall] [-Werror] [-w]
 
-Compiles programs in C for the machine, and links them: docs/manual/c-programs.md. Without -o the program's name is the first FILE's,
-without its .c, beside it. -O.., -std=.. and -g are taken, and change nothing.
-`;
-// What a source could ask for that this machine isn't.
-const NOT_HERE = [
-  "__linux__", "__linux", "__unix__", "__unix", "__riscv_flen", "__riscv_float_abi_double", "__riscv_mul",
-  "__riscv_div", "__riscv_muldiv",
-];
+Compiles programs in C for the machine, and links them: docs/manual/c-programs.md. Without -o the program's name is
+the first FILE's, without its .c, beside it; NAME.lines beside it has its lines, for debuggers. -O.., -std=.. and -g
+are taken, and change nothing.
+`,
+  "--run": `usage: xv --run FILE.c.. [-I FOLDER] [-D NAME[=TEXT]] [-U NAME] [-Wall] [-Werror] [-w] [-- TEXT..]
+
+Compiles a program in C as xv --cc does, and runs it in a machine with the shell's programs: the shell calls it, with
+these TEXTs. A program that is called sh takes the shell's place, and one that is called init the first process's. No
+file is left.
+`,
+};
 const WARNINGS = ["-Wall", "-Wextra", "-Werror", "-w"];
 const WITHOUT_MEANING = /^-(O[0-3sgz]?|g[0-3]?|std=(c|gnu)(89|90|99|9x|11|1x|17|18)|ansi|pedantic)$/;
+const FOR_THE_SHELL = /^[^\s|<;&()#]+$/; // a word that its lines can have
 
 /** Words that are refused: what is said of them. */
 class Refused extends Error {}
-
-const say = (text) => write_all(2, `${NAME}: ${text}\n`);
 
 /** The folder of the compiler: XV_TCC is another than the one that belongs here. */
 const folder = () => process.env.XV_TCC ?? `${ROOT}programs/c/tcc/out`;
@@ -36,13 +42,14 @@ const folder = () => process.env.XV_TCC ?? `${ROOT}programs/c/tcc/out`;
 /** What a word of the command line adds; `next` gives the word behind it. */
 function take(asked, word, next) {
   const letter = word.slice(0, 2), value = () => word.slice(2) || next(word);
-  if (!word.startsWith("-")) asked.files.push(word);
-  else if (letter === "-o") asked.output = value();
-  else if (letter === "-I") asked.words.push(letter + for_module(value()));
+  if (!word.startsWith("-")) asked.files.push(path_of(word));
+  else if (letter === "-o" && asked.mode === "--cc") asked.output = value();
+  else if (letter === "-I") asked.words.push(letter + for_module(path_of(value())));
   else if (["-D", "-U"].includes(letter)) asked.words.push(letter + value());
   else if (WARNINGS.includes(word)) asked.words.push(word);
+  else if (word === "--" && asked.mode === "--run") asked.texts = asked.left.splice(0);
   else if (!WITHOUT_MEANING.test(word)) {
-    throw new Refused(`there is no option ${word} here: xv --cc tells those that there are`);
+    throw new Refused(`there is no option ${word} here: xv ${asked.mode} tells those that there are`);
   }
 }
 
@@ -50,20 +57,21 @@ function check_file(file) {
   if (/\.(cc|cpp|cxx|C)$/.test(file)) throw new Refused(`${file} is C++: programs/c/xvcc builds it`);
   if (!file.endsWith(".c")) throw new Refused(`${file} is no source in C, whose name ends in .c`);
   if (!existsSync(file)) throw new Refused(`${file}: there is no such file`);
+  if (!statSync(file).isFile()) throw new Refused(`${file} is no file`);
 }
 
-/** What the words ask for: {files, output, words}. */
-function asked_by(words) {
-  const asked = { files: [], words: [], output: null }, left = words.map(String);
+/** What the words ask for: {files, output, words, texts}. */
+function asked_by(mode, words) {
+  const asked = { mode, files: [], words: [], texts: [], output: null, left: words.map(String) };
   const next = (word) => {
-    if (left.length === 0) throw new Refused(`${word} takes a word behind it`);
-    return left.shift();
+    if (asked.left.length === 0) throw new Refused(`${word} takes a word behind it`);
+    return asked.left.shift();
   };
-  while (left.length > 0) take(asked, left.shift(), next);
+  while (asked.left.length > 0) take(asked, asked.left.shift(), next);
   if (asked.files.length === 0) throw new Refused("there is no FILE.c to compile");
   asked.files.forEach(check_file);
   asked.output ??= asked.files[0].replace(/\.c$/, "");
-  if (/\.[chs]$/.test(asked.output)) {
+  if (/\.([chs]|lines)$/.test(asked.output)) {
     throw new Refused(`-o ${asked.output} would overwrite a source: a program has another name`);
   }
   return asked;
@@ -84,28 +92,15 @@ function file_at(path) {
   }
 }
 
-/** A message with paths as they are here. */
-const without_heads = (message) => (
-  message.replace(/(^|from )(%[^:]*)(?=:)/g, (_, before, path) => before + from_module(path))
-);
-
-/** Below a message its line of the source, and marks below the word that it names. */
-function with_line(message) {
-  const found = /^(.+?):(\d+): (?:error|warning): (.*)$/.exec(message), bytes = found && file_at(found[1]);
-  const line = bytes && Buffer.from(bytes).toString().split("\n")[Number(found[2]) - 1];
-  if (!line?.trim()) return without_heads(message);
-  const named = /'([^']+)'/.exec(found[3])?.[1], at = named ? line.indexOf(named) : -1;
-  const marks = at < 0 ? "" : `\n    ${line.slice(0, at).replace(/[^\t]/g, " ")}${"^".repeat(named.length)}`;
-  return `${without_heads(message)}\n    ${line}${marks}`;
-}
-
-/** The object file of a source, [name, bytes]; null if it has mistakes, which are told. */
-function object_of(module, file, words) {
-  const fixed = ["-nostdinc", ...NOT_HERE.map((name) => `-U${name}`), "-c", for_module(file), "-o", OBJECT];
-  const { status, told, made } = run_compiler(module, ["tcc", ...words, `-I${LIBRARY}include`, ...fixed], file_at);
-  if (told) write_all(2, `${told.trimEnd().split("\n").map(with_line).join("\n")}\n`);
-  if (status === 70) say(`${file}: the compiler can't compile this, and ended itself`);
-  return status === 0 && made.has(OBJECT) ? [file, made.get(OBJECT)] : null;
+/** A message, and below it its line of the source, with marks below the word that it names. */
+function told(message) {
+  const { file, line, is_error, text } = message, place = line ? `${from_module(file)}:${line}` : from_module(file);
+  const words = `${place}: ${is_error ? "error" : "warning"}: ${text}`;
+  const source = line ? line_of(new TextDecoder().decode(file_at(file)), line) : "";
+  if (!source.trim()) return words;
+  const named = named_in(source, message);
+  if (!named) return `${words}\n    ${source}`;
+  return `${words}\n    ${source}\n    ${source.slice(0, named.at).replace(/[^\t]/g, " ")}${"^".repeat(named.length)}`;
 }
 
 /** The library's objects, [name, bytes] each. */
@@ -115,21 +110,65 @@ function library() {
   ]);
 }
 
-/** Compiles all files, so that each tells its mistakes, and links. */
-function compile({ files, output, words }) {
+/** The program of all files, {file, table}; null if one has a mistake. All of them are told. */
+function built({ files, words }) {
   const module = new WebAssembly.Module(readFileSync(`${folder()}/tcc.wasm`));
-  const objects = files.map((file) => object_of(module, file, words));
-  if (objects.includes(null)) return REFUSED;
-  const { file } = link(objects, library());
-  writeFileSync(output, file);
-  chmodSync(output, 0o755);
+  const compiler = { module, header: (name) => file_at(LIBRARY + name) };
+  const objects = files.map((file) => {
+    const { object, messages } = compile(compiler, for_module(file), words, file_at);
+    if (messages.length > 0) write_all(2, `${messages.map(told).join("\n")}\n`);
+    return object ? [file, object] : null;
+  });
+  return objects.includes(null) ? null : program_of(objects, library());
+}
+
+/** Writes a program, and its table beside it. */
+function write_program(path, { file, table }) {
+  writeFileSync(path, file);
+  chmodSync(path, 0o755);
+  writeFileSync(`${path}.lines`, table);
+}
+
+/** Leaves the program where the words ask for it. */
+function leave(asked) {
+  const program = built(asked);
+  if (!program) return REFUSED;
+  write_program(asked.output, program);
   return 0;
 }
 
-/** Does what these words ask for, and gives the exit status: 1 if they or a source are refused. */
-export function compile_by(words) {
+/**
+ * The words of a run of the program with the shell's programs: files, of which the program's own lies in a folder that
+ * goes when this process ends.
+ */
+function run_of(asked) {
+  const name = basename(asked.output), text = asked.texts.find((it) => !FOR_THE_SHELL.test(it));
+  if (text !== undefined) {
+    throw new Refused(`the shell can't hand on the text ${JSON.stringify(text)}: it has no quotes`);
+  }
+  if (["rc", "console"].includes(name)) {
+    throw new Refused(`a program can't be called ${name} here: give the file another name`);
+  }
+  const program = built(asked);
+  if (!program) return REFUSED;
+  const room = mkdtempSync(join(tmpdir(), "xv-"));
+  const others = readdirSync(`${ROOT}programs/bin`).filter((it) => it !== name);
+  process.on("exit", () => rmSync(room, { recursive: true, force: true }));
+  write_program(join(room, name), program);
+  const files = [...others.map((it) => `${ROOT}programs/bin/${it}`), join(room, name)];
+  if (["init", "sh"].includes(name)) return files.map(path_of);
+  writeFileSync(join(room, "rc"), `${[name, ...asked.texts].join(" ")}\n`);
+  return [...files, join(room, "rc")].map(path_of);
+}
+
+/**
+ * Does what these words behind `--cc` or `--run` ask for. It gives the exit status, 1 if they or a source are refused;
+ * or the words of the run that is to come.
+ */
+export function compile_by(mode, ...words) {
+  const say = (text) => write_all(2, `xv ${mode}: ${text}\n`);
   if (words.length === 0 || ["--help", "-h"].includes(String(words[0]))) {
-    write_all(words.length === 0 ? 2 : 1, USAGE);
+    write_all(words.length === 0 ? 2 : 1, USAGE[mode]);
     return words.length === 0 ? REFUSED : 0;
   }
   if (!existsSync(`${folder()}/tcc.wasm`)) {
@@ -137,7 +176,8 @@ export function compile_by(words) {
     return NOTHING_RUNS;
   }
   try {
-    return compile(asked_by(as_taken(words)));
+    const asked = asked_by(mode, words);
+    return mode === "--cc" ? leave(asked) : run_of(asked);
   } catch (error) {
     if (error instanceof NotLinked) error.texts.forEach(say);
     else if (error instanceof Refused) say(error.message);

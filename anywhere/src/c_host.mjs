@@ -2,7 +2,8 @@
 // takes. It sees no other file, and its clock stands still, so that a source gives the same bytes each time.
 import { run_held } from "./wasi.mjs";
 
-const BROKE = 70;
+/** The status of a compiler that broke. */
+export const BROKE = 70;
 
 /**
  * Runs a compiler until its end: `words` with its name, and `file_of(path)`, which gives the bytes of a file, or
@@ -13,5 +14,6 @@ const BROKE = 70;
  */
 export function run_compiler(module, words, file_of) {
   const { status = BROKE, output, errors, made } = run_held(module, words, file_of);
-  return { status, told: `${errors}${output}`, made };
+  const text_of = (bytes) => new TextDecoder().decode(bytes);
+  return { status, told: text_of(errors) + text_of(output), made };
 }

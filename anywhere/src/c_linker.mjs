@@ -5,7 +5,9 @@ import { PAGE } from "../machine/memory.mjs";
 import { object_of } from "./c_objects.mjs";
 import { relocate, type_name } from "./c_relocations.mjs";
 
-const HEADER_BYTES = 64, SEGMENT_BYTES = 56, MOST_TEXT = 1 << 20, ADDRESS_BYTES = 8;
+export const SEGMENTS_AT = 64; // which is where the file's header ends
+export const SEGMENT_BYTES = 56;
+const MOST_TEXT = 1 << 20, ADDRESS_BYTES = 8;
 const READ_EXECUTE = 5, READ_WRITE = 6;
 const START = "_start";
 
@@ -112,7 +114,7 @@ function laid_out({ sections, commons }, objects, globals) {
   return { text: [...text, ...constants], executed: text, data, table, read_end, begin, data_end, end };
 }
 
-const address_of = (symbol) => (
+export const address_of = (symbol) => (
   symbol.address !== undefined ? symbol.address
     : (symbol.section?.address ?? 0) + (symbol.is_undefined ? 0 : symbol.value)
 );
@@ -179,7 +181,7 @@ function write_segment(view, at, flags, offset, address, in_file, in_memory) {
  */
 function file_of(layout, entry) {
   const has_data = layout.end > layout.begin, count = has_data ? 2 : 1;
-  const text_at = HEADER_BYTES + count * SEGMENT_BYTES, data_at = aligned(text_at + layout.read_end, 8);
+  const text_at = SEGMENTS_AT + count * SEGMENT_BYTES, data_at = aligned(text_at + layout.read_end, 8);
   const data_bytes = layout.data_end - layout.begin;
   const bytes = new Uint8Array(has_data ? data_at + data_bytes : text_at + layout.read_end);
   const view = new DataView(bytes.buffer);
@@ -187,12 +189,12 @@ function file_of(layout, entry) {
   [2, 243].forEach((number, index) => view.setUint16(16 + 2 * index, number, true));
   view.setUint32(20, 1, true);
   view.setBigUint64(24, BigInt(entry), true);
-  view.setBigUint64(32, BigInt(HEADER_BYTES), true);
-  [HEADER_BYTES, SEGMENT_BYTES, count].forEach((number, index) => view.setUint16(52 + 2 * index, number, true));
-  write_segment(view, HEADER_BYTES, READ_EXECUTE, text_at, 0, layout.read_end, layout.read_end);
+  view.setBigUint64(32, BigInt(SEGMENTS_AT), true);
+  [SEGMENTS_AT, SEGMENT_BYTES, count].forEach((number, index) => view.setUint16(52 + 2 * index, number, true));
+  write_segment(view, SEGMENTS_AT, READ_EXECUTE, text_at, 0, layout.read_end, layout.read_end);
   if (has_data) {
     write_segment(
-      view, HEADER_BYTES + SEGMENT_BYTES, READ_WRITE, data_at, layout.begin, data_bytes, layout.end - layout.begin
+      view, SEGMENTS_AT + SEGMENT_BYTES, READ_WRITE, data_at, layout.begin, data_bytes, layout.end - layout.begin
     );
   }
   for (const section of layout.text) bytes.set(section.bytes, text_at + section.address);
@@ -214,5 +216,5 @@ export function link(program, library) {
   const layout = laid_out(reached(globals), objects, globals);
   for (const section of [...layout.text, ...layout.data]) relocate_section(section, globals, layout.table);
   layout.executed.forEach(check_words);
-  return { file: file_of(layout, address_of(globals.get(START))), layout, globals, objects: own };
+  return { file: file_of(layout, address_of(globals.get(START))), layout, globals, objects };
 }

@@ -1,6 +1,9 @@
 // What an object file of a compiler for RISC-V has: its sections, symbols and relocations (ELF-64 Object File Format,
 // "Sections", "Symbol table", "Relocation").
-const HEADER = { SECTIONS_AT: 0x28, SECTION_COUNT: 0x3c, NAMES: 0x3e }, SECTION_BYTES = 64, SYMBOL_BYTES = 24;
+const HEADER = { SECTIONS_AT: 0x28, SECTION_COUNT: 0x3c, NAMES: 0x3e };
+/** How many bytes the head of a section, and a symbol, have. */
+export const SECTION_BYTES = 64;
+export const SYMBOL_BYTES = 24;
 const RELOCATION_BYTES = 24;
 const KINDS = { SYMBOLS: 2, RELOCATIONS: 4, NO_BITS: 8 };
 const FLAGS = { WRITE: 1, ALLOCATED: 2, EXECUTED: 4 };

@@ -2,6 +2,7 @@
 // FILE that has none, or that can't be read, gets none. Of assembler sources the programs themselves know the lines.
 import { spawnSync } from "node:child_process";
 import { existsSync, readFileSync, statSync } from "node:fs";
+import { rows_beside } from "./c_tables.mjs";
 import { files_of } from "./words.mjs";
 
 const TOOLS = ["riscv64-unknown-elf-readelf", "riscv64-linux-gnu-readelf", "readelf"];
@@ -46,7 +47,7 @@ export function read_symbols(path) {
  * behind the first is of a function that the linker left out.
  */
 function of_program(path) {
-  if (!has_lines(from(path))) return [];
+  if (!has_lines(from(path))) return rows_beside(path);
   const rows = [];
   let sequence = [];
   for (const told of told_by_readelf("--debug-dump=decodedline", from(path)).split("\n")) {

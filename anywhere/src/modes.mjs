@@ -28,9 +28,9 @@ const WAYS = {
   gdb: async (_, words, given) => (await import("./gdb.mjs")).gdb(words, given, tell),
 };
 
-/** What xv answers itself, and its status; nothing if the words are for a program. */
-async function answered(first, others) {
-  switch (first) {
+/** What xv answers itself, and its status; or the words that are for a program. */
+async function answered(words) {
+  switch (words[0]?.toString()) {
     case undefined:
       write_all(2, help());
       return REFUSED;
@@ -46,9 +46,9 @@ async function answered(first, others) {
       write_all(1, `${modules().text}\n`);
       return 0;
     case "--dap": // it takes no words: the editor sends them
-      return others.length > 0 ? tell(said("no-value", "--dap")) : (await import("../editor/main.mjs")).main("xv");
-    case "--cc": return (await import("./c_compiler.mjs")).compile_by(others);
-    default: return undefined;
+      return words.length > 1 ? tell(said("no-value", "--dap")) : (await import("../editor/main.mjs")).main("xv");
+    case "--cc": case "--run": return (await import("./c_compiler.mjs")).compile_by(...words.map(String));
+    default: return words;
   }
 }
 
@@ -76,9 +76,8 @@ function kind_of(parts) {
 
 /** Does what the words of this process ask for, and gives the exit status. */
 export async function main() {
-  const words = as_taken(own_words()), [first, ...others] = words;
-  const own = await answered(first?.toString(), others);
-  if (own !== undefined) return own;
+  const words = await answered(as_taken(own_words()));
+  if (typeof words === "number") return words;
   const all = parts_of(words), is_mode = ({ kind, word }) => kind === "option" && MODES.includes(String(word));
   const foreign = options_of(all).find(({ name }) => OWN.get(name) === "kit");
   if (foreign) return tell(said("of-the-kit", foreign.name));

@@ -128,7 +128,7 @@ class HostFiles {
   }
 
   open(folder, path, how) {
-    const bytes = this.held[path.toString()];
+    const bytes = this.held[Buffer.from(path).toString()];
     return bytes && !how.writes ? new HeldFile(bytes) : new HostFile(this.whole(folder, path), how);
   }
 
@@ -152,7 +152,7 @@ class HostFiles {
  */
 export function run(module, name, words, streams = {}) {
   const input = streams.input ?? { read: (room) => read_into(0, room) };
-  const to = (fd, write = (bytes) => write_all(fd, bytes)) => ({ write });
+  const to = (fd, write = (bytes) => write_all(fd, bytes)) => ({ write: (bytes) => write(Buffer.from(bytes.buffer)) });
   try {
     return run_module(module, {
       words: [name, ...words], environment: [`PWD=${folder_now()}`], files: new HostFiles(words, streams.files ?? {}),

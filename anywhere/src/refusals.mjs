@@ -119,7 +119,7 @@ function copy_as_init(file, bytes) {
   process.on("exit", () => rmSync(folder, { recursive: true, force: true }));
   const copy = join(folder, file.endsWith(".s") ? "init.s" : "init");
   writeFileSync(copy, bytes);
-  if (existsSync(`${file}.debug`)) copyFileSync(`${file}.debug`, `${copy}.debug`);
+  for (const end of [".debug", ".lines"]) if (existsSync(file + end)) copyFileSync(file + end, copy + end);
   return path_of(copy);
 }
 

@@ -1,7 +1,7 @@
 // A host of WASI (preview 1): what the modules of programs and of the C compiler ask for. Words, streams, the clock and
 // files come from the caller: files of this host (program.mjs), or ones that are held in memory, so that a run is a
-// function of bytes (run_held). Node's own WASI isn't taken: it is experimental, aborts in threads, takes no words
-// that are no text, and knows no streams but those of this process.
+// function of bytes (run_held), in Node and in a browser. Node's own WASI isn't taken: it is experimental, aborts in
+// threads, takes no words that are no text, and knows no streams but those of this process.
 export const CHARACTERS = 2, FOLDER = 3, REGULAR_FILE = 4, SOCKET = 6, LINK = 7;
 const GOOD = 0, BAD_DESCRIPTOR = 8, IO = 29, NOT_HERE = 52, NO_SEEK = 70;
 // Errors by the names that Node gives them.
@@ -14,6 +14,22 @@ const [CREATES, EXCLUDES, EMPTIES, APPENDS] = [1, 4, 8, 1]; // of how a path is 
 const READS = 1n << 1n, WRITES = 1n << 6n, ALL_RIGHTS = 0xffffffffffffffffn;
 const FIRST_FOLDER = 3;
 const NOTHING = new Uint8Array(0);
+
+/** The bytes of a word that is a text, or bytes. */
+const bytes_of = (word) => (typeof word === "string" ? new TextEncoder().encode(word) : word);
+
+/** The same, and a zero byte. */
+function ended(word) {
+  const bytes = bytes_of(word), made = new Uint8Array(bytes.length + 1);
+  made.set(bytes);
+  return made;
+}
+
+/** How bytes become a text of an encoding: "utf8", or "latin1", of which each byte is a letter. */
+const READERS = {
+  utf8: (bytes) => new TextDecoder("utf-8", { ignoreBOM: true }).decode(bytes),
+  latin1: (bytes) => Array.from(bytes, (byte) => String.fromCharCode(byte)).join(""),
+};
 
 /** The end of a program, with its status. */
 class End {
@@ -70,11 +86,11 @@ export class HeldFile {
  */
 class HeldFiles {
   constructor(file_of, encoding) {
-    Object.assign(this, { names: ["/"], file_of, encoding, made: new Map() });
+    Object.assign(this, { names: ["/"], file_of, text_of: READERS[encoding], made: new Map() });
   }
 
   open(_, path, { creates }) {
-    const text = path.toString(this.encoding);
+    const text = this.text_of(path);
     if (creates) {
       const file = new HeldFile();
       this.made.set(text, file);
@@ -90,7 +106,7 @@ class HeldFiles {
   }
 
   remove(_, path) {
-    if (!this.made.delete(path.toString(this.encoding))) throw failure("ENOENT");
+    if (!this.made.delete(this.text_of(path))) throw failure("ENOENT");
   }
 }
 
@@ -101,7 +117,6 @@ class HeldFiles {
  */
 class Host {
   constructor({ words, environment = [], streams, files, sleep = () => {}, now = () => 0n }) {
-    const ended = (text) => Buffer.concat([Buffer.from(text), Buffer.of(0)]);
     Object.assign(this, { words: words.map(ended), environment: environment.map(ended), files, sleep, now });
     this.opened = [...streams, ...files.names.map(() => ({ kind: FOLDER, size: 0 }))];
   }
@@ -110,7 +125,7 @@ class Host {
   put(at, value) { this.view.setUint32(at, value, true); }
   put_long(at, value) { this.view.setBigUint64(at, BigInt(value), true); }
   bytes(at, size) { return new Uint8Array(this.memory.buffer, at, size); }
-  path(at, size) { return Buffer.from(this.bytes(at, size)); }
+  path(at, size) { return this.bytes(at, size).slice(); }
   parts(list, count) {
     const { view } = this, number = (place) => view.getUint32(list + 4 * place, true);
     return Array.from({ length: count }, (_, k) => this.bytes(number(2 * k), number(2 * k + 1)));
@@ -152,7 +167,7 @@ class Host {
     this.put(told, 0);
     this.put(told + 4, name.length);
   }
-  fd_prestat_dir_name(fd, at, size) { this.bytes(at, size).set(Buffer.from(this.files.names[fd - FIRST_FOLDER])); }
+  fd_prestat_dir_name(fd, at, size) { this.bytes(at, size).set(bytes_of(this.files.names[fd - FIRST_FOLDER])); }
   fd_fdstat_get(fd, told) {
     this.bytes(told, 24).fill(0);
     this.view.setUint8(told, this.file(fd).kind);
@@ -187,7 +202,7 @@ class Host {
   }
   fd_write(fd, list, count, got) {
     const parts = this.parts(list, count), file = this.file(fd, "write");
-    for (const bytes of parts) file.write(Buffer.from(bytes));
+    for (const bytes of parts) file.write(bytes.slice());
     this.put(got, parts.reduce((sum, bytes) => sum + bytes.length, 0));
   }
   fd_seek(fd, offset, whence, at) {
@@ -254,7 +269,6 @@ export function run_held(module, words, file_of, { input = NOTHING, encoding = "
     if (!is_trap(error)) throw error;
     trap = error;
   }
-  const bytes_of = (file) => Buffer.from(file.bytes);
-  const made = new Map([...files.made].map(([path, file]) => [path, bytes_of(file)]));
-  return { status, trap, output: bytes_of(streams[1]), errors: bytes_of(streams[2]), made };
+  const made = new Map([...files.made].map(([path, file]) => [path, file.bytes.slice()]));
+  return { status, trap, output: streams[1].bytes.slice(), errors: streams[2].bytes.slice(), made };
 }

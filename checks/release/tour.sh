@@ -92,9 +92,20 @@ untar_for_another_host() {
     from=$(date +%s%N) from_what='the files'
 }
 
+# A program in C, without a compiler of the host, by the command in the arguments: what it prints, and its mistakes.
+compile_c() {
+    mkdir -p ../c
+    printf '#include <stdio.h>\nint main(int count, char *texts[])\n{\n    printf("%%d %%s\\n", 6 * count, texts[0]);\n}\n' >../c/my.c
+    printf 'int main(void)\n{\n    return y;\n}\n' >../c/wrong.c
+    has 'a program in C, compiled and run' '^18 my$' "$@" --run ../c/my.c -- one two
+    has 'a mistake in C, with its line' "wrong.c:3: error: 'y' undeclared" "$@" --cc ../c/wrong.c
+    has 'whose compiler it is' 'GNU Lesser General Public License' cat programs/c/tcc/out/NOTICE
+}
+
 by_node() {
     untar_for_another_host
     says_hi ./xv
+    compile_c ./xv
     has './xv --version has the version' "^Nektavoly $(cat VERSION)\$" ./xv --version
     ask_versions
     look_around
@@ -123,6 +134,7 @@ by_node_alone() {
     untar_for_another_host
     mkdir ../alone && ln -s "$(command -v node)" ../alone/node
     says_hi alone
+    compile_c alone
     has 'the shell by a pipe' '^1 2 12' alone programs/bin/init programs/bin/sh programs/bin/echo programs/bin/wc \
         < <(printf 'echo hello world | wc\nexit\n')
     has 'why nobody goes on' 'only process 1 can write' alone --why --rounds 20 programs/course/hang/init.s

@@ -82,6 +82,66 @@ for source in programs/c/src/sh.c programs/c/src/sort.c; do
     node checks/tcc/object.mjs "$source" >"$work/module.o" && cmp "$work/native.o" "$work/module.o" || fail "the module compiles $source otherwise"
 done
 
+# Steps by lines, in an editor and in the debugger; a function whose part of the stack is large has its prologue at its end.
+cat >"$work/steps.c" <<'END'
+#include <stdio.h>
+
+static int twice(int n)
+{
+    char room[3000];
+    room[0] = n;
+    return 2 * room[0];
+}
+
+int main(void)
+{
+    int x = twice(21);
+    printf("%d\n", x);
+    return 0;
+}
+END
+cc "$work/steps.c" || fail "steps.c isn't compiled"
+node checks/tcc/steps.mjs "$work" >"$work/steps.told"
+cmp "$work/steps.told" checks/tcc/steps.txt || fail "steps by lines go otherwise"
+told=$(printf 'break twice\nc\nquit\n' | node xv.mjs --debug "$work/steps" 2>&1)
+case $told in
+    *'<twice+0x0>, steps.c:4'*) ;;
+    *) fail "the debugger doesn't show the line: $told" ;;
+esac
+
+# --run: the program's output, its texts, its own shell.
+[ "$(node xv.mjs --run "$work/first.c" 2>&1)" = "xv --run: $work/first.c: there is no such file" ] || fail "--run of nothing isn't refused"
+cat >"$work/texts.c" <<'END'
+#include <stdio.h>
+int main(int count, char *texts[]) { for (int k = 0; k < count; k++) puts(texts[k]); return 0; }
+END
+[ "$(node xv.mjs --run "$work/texts.c" -- one two </dev/null)" = "$(printf 'texts\none\ntwo')" ] || fail "--run gives no texts"
+[ ! -e "$work/texts" ] || fail "--run leaves a program"
+mkdir "$work/shell"
+cp programs/c/src/sh.c "$work/shell/sh.c"
+[ "$(echo 'echo a b | wc' | node xv.mjs --run "$work/shell/sh.c" 2>/dev/null | tail -n 2 | head -n 1)" = '1 2 4' ] || fail "--run of an own shell"
+
+# All mistakes of a source at once, by lines.
+cat >"$work/several.c" <<'END'
+int first(int n)
+{
+    int x = y + n;
+    int a = 3
+    x = zz;
+    return x + y;
+}
+int main(void)
+{
+    struct none it;
+    return first(1;
+}
+END
+wanted=$(printf '%s\n' "several.c:3: error: 'y' undeclared" "several.c:4: error: ';' expected at the end (got \"x\" in line 5)" \
+    "several.c:5: error: 'zz' undeclared" 'several.c:10: error: unknown type size' "several.c:11: error: ',' expected (got \";\")")
+told=$(cd "$work" && node "$OLDPWD/xv.mjs" --cc several.c 2>&1 | grep error:)
+[ "$told" = "$wanted" ] || fail "the mistakes are other ones: $told"
+refuses "inline assembler isn't there" programs/c/src/tests.c -o "$work/tests"
+
 printf 'int main(void)\n{\n    return y;\n}\n' >"$work/mistake.c"
 refuses "mistake.c:3: error: 'y' undeclared" "$work/mistake.c"
 refuses '               ^' "$work/mistake.c"

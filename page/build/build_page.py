@@ -2,14 +2,14 @@
 """build_page.py MODULE.wasm SUM REPOSITORY OUT.html [NOTE]: the page, one file with all that it needs inside. SUM is that of the module
 before it was lowered, with a memory of 64 bits, which stands at the page's foot.
 
-The modules of page/src and of anywhere/machine are joined, those that a module imports first, without their import and export
-words: each name stands once, which `node --check` and the browser tell. The programs, the examples and the manual (docs/manual/*.md, by manual.py) are read
+The modules of page/src and of anywhere/machine are joined (joining.py). The programs, the examples and the manual (docs/manual/*.md, by manual.py) are read
 from the repository. The same inputs give the same bytes."""
 import base64, json, os, re, sys
 
 module, sum_of_64_bits, root, out = sys.argv[1:5]
 note = "".join(sys.argv[5:])
 sys.path.append(os.path.join(root, "anywhere", "build"))
+import joining
 import manual
 import packing
 import sources
@@ -23,37 +23,6 @@ def read(path):
 
 def text(path):
     return read(path).decode()
-
-
-IMPORT = re.compile(r'^import (?:\* as (?P<all>\w+)|\{(?P<names>[^}]*)\}) from "(?P<path>\.\.?/[\w./]+\.mjs)";\n', re.M)
-EXPORT = re.compile(r"^export (?=(?:async )?(?:function|const|class|let) ([\w$]+))", re.M)
-
-
-def joined(first):
-    """The module of page/src of this name, after those that it imports, of that folder or of anywhere/machine."""
-    done, made, exports = {}, [], {}
-
-    def add(path):
-        """Adds a module, unless it is there already, and tells the name that it has here."""
-        name = f"{os.path.basename(path)[:-4]}_module"
-        assert done.setdefault(name, path) == path, f"two modules are called {os.path.basename(path)}: {done[name]}, {path}"
-        if any(it.startswith(f"const {name} = ") for it in made):
-            return name
-        code, names = text(path), ""
-        for found in IMPORT.finditer(code):
-            other = add(os.path.normpath(os.path.join(os.path.dirname(path), found["path"])))
-            wanted = [it.strip().replace(" as ", ": ") for it in (found["names"] or "").split(",") if it.strip()]
-            missing = {it.split(":")[0] for it in wanted} - exports[other]
-            assert not missing, f"{path}: {found['path']} has no {', '.join(sorted(missing))}"
-            names += f"const {found['all']} = {other};\n" if found["all"] else f"const {{ {', '.join(wanted)} }} = {other};\n"
-        body = EXPORT.sub("", IMPORT.sub("", code))
-        assert not re.search(r"^(import|export)\b", body, re.M), f"{path}: a form of import or export that isn't known here"
-        exports[name] = set(EXPORT.findall(code))
-        made.append(f"const {name} = (() => {{\n{names}{body}\nreturn {{ {', '.join(EXPORT.findall(code))} }};\n}})();\n")
-        return name
-
-    add(os.path.join(here, first))
-    return '"use strict";\n' + "".join(made)
 
 
 def heading(source):
@@ -101,7 +70,7 @@ page = text(os.path.join(here, "page.html"))
 sum_ = sources.sum_of(root, "--page")
 data = {
     "wasm": base64.b64encode(read(module)).decode(),
-    "worker": joined("worker.mjs"),
+    "worker": joining.joined(os.path.join(here, "worker.mjs")),
     "programs": {name: base64.b64encode(read(f"{root}/programs/bin/{name}")).decode() for name in PROGRAMS},
     "examples": examples(),
     "manual": smaller(manual.pages(root)),
@@ -114,7 +83,7 @@ sum_of_module = earlier or ("unproved" if note else sources.sum_of(root, "--modu
 parts = {
     "/*STYLE*/": text(os.path.join(here, "style.css")),
     "/*DATA*/": f"globalThis.PAGE_DATA = {packed(data)};",
-    "/*SCRIPT*/": joined("main.mjs").replace("</", "<\\/"),
+    "/*SCRIPT*/": joining.joined(os.path.join(here, "main.mjs")).replace("</", "<\\/"),
     "/*BUILT*/": f"{note}Built of the sources with the sum <code>{sum_[:16]}</code>; the module has {len(read(module)):,} bytes.<!-- module {sum_of_module} --><!-- module of 64 bits {sum_of_64_bits} --><!-- sources {'earlier' if earlier else sum_} -->",
 }
 for mark, value in parts.items():

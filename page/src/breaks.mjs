@@ -1,7 +1,7 @@
 // Break points: those at lines stand with their files, and the others, at labels, addresses, calls and stores, with the
 // work. Each belongs to a program, and counts while the machine has it. It has a switch, and may have a condition.
 import { $, app, ask, element, on, say, tell } from "./app.mjs";
-import { is_source } from "../../anywhere/machine/file_kinds.mjs";
+import { is_c, is_source } from "../../anywhere/machine/file_kinds.mjs";
 import { nearest } from "../../anywhere/machine/line_stops.mjs";
 import { start_of_line } from "../../anywhere/machine/source_places.mjs";
 import { all_calls, call_name, call_number } from "../../anywhere/machine/calls.mjs";
@@ -23,8 +23,9 @@ function address_of_line(booted, file, { line, text }) {
   const place = booted?.files.findIndex((it) => it.from === file) ?? -1, had = booted?.files[place]?.text;
   if (had === undefined) return null;
   const there = had === file.text ? line : nearest(had.split("\n"), text, line);
-  const address = booted.symbols[place].lines.find((it) => it.line === there)?.start;
-  return address === undefined ? null : { place, address };
+  const symbols = booted.symbols[place], line_in_c = () => start_of_line(symbols, `${file.name}:${there}`);
+  const address = symbols.lines.find((it) => it.line === there)?.start ?? line_in_c();
+  return address === null ? null : { place, address };
 }
 
 /**
@@ -56,7 +57,7 @@ function of_work(booted, it) {
 }
 
 const all = (booted) => [
-  ...app.files.filter(is_source).flatMap((file) => (file.stops ?? []).map((stop) => of_line(booted, file, stop))),
+  ...app.files.filter((it) => is_source(it) || is_c(it)).flatMap((file) => (file.stops ?? []).map((stop) => of_line(booted, file, stop))),
   ...app.work.breaks.map((it) => of_work(booted, it)),
 ];
 /** Those that count in a machine, as the worker takes them. */

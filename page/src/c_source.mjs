@@ -1,6 +1,6 @@
 // The source of a program in C: its text with the line that is next, break points beside the lines, the calls that led
 // there, and steps by lines.
-import { $, app, ask, element, on, program_name, say, write } from "./app.mjs";
+import { $, app, ask, element, on, program_name, say, tell, write } from "./app.mjs";
 import { function_at, line_at, name_at } from "../../anywhere/machine/source_places.mjs";
 import { program_of, symbols_of } from "./instruction.mjs";
 import { stops_in, toggle_stop } from "./breaks.mjs";
@@ -42,7 +42,7 @@ function show_file(symbols, file) {
       "button",
       {
         tabindex: -1, "aria-label": `Break point at line ${k + 1}`, disabled: !shown.coded.has(k + 1),
-        onclick: () => toggle_stop(`${shown.file}:${k + 1}`, program_name(shown.program)),
+        onclick: () => toggle(k + 1),
       },
       String(k + 1)
     ), element("span", {}, text || " ")));
@@ -55,8 +55,25 @@ function show_file(symbols, file) {
   show_stops();
 }
 
+/** The source of the list of which the program was compiled, if that is shown, and stands as it was then; or null. */
+function own_source() {
+  const { from, text, is_compiled } = app.booted?.files[shown.program] ?? {};
+  return is_compiled && from.name === shown.file && from.text === text ? from : null;
+}
+
+/** Sets a break point at a line, or takes it away: one of a source of the list stands with its text. */
+function toggle(line) {
+  const file = own_source();
+  if (!file) { toggle_stop(`${shown.file}:${line}`, program_name(shown.program)); return; }
+  const stops = file.stops ?? [], text = file.text.split("\n")[line - 1].trim();
+  const is_there = stops.some((it) => it.line === line);
+  file.stops = is_there ? stops.filter((it) => it.line !== line) : [...stops, { line, text }];
+  tell("stops", file);
+}
+
 function show_stops() {
   const stops = new Set(stops_in(program_name(shown.program)));
+  for (const { line } of own_source()?.stops ?? []) stops.add(`${shown.file}:${line}`);
   shown.rows.forEach((row, k) => row.classList.toggle("stop", stops.has(`${shown.file}:${k + 1}`)));
 }
 

@@ -3,7 +3,9 @@
 // source.
 import { $, app, ask, on, say, tell } from "./app.mjs";
 import { line_at, places_of } from "../../anywhere/machine/source_places.mjs";
-import { is_elf, is_source } from "../../anywhere/machine/file_kinds.mjs";
+import { is_c, is_c_program, is_elf, is_source } from "../../anywhere/machine/file_kinds.mjs";
+import { check } from "./c_programs.mjs";
+import { coloured_c, lines_in_comments } from "./c_colours.mjs";
 import { mistake_words } from "../../anywhere/machine/assembler_mistakes.mjs";
 import { changed_back, note } from "./undo.mjs";
 import { moved } from "../../anywhere/machine/line_stops.mjs";
@@ -84,9 +86,13 @@ function measure() {
  * Whether a line may have a break point. Which lines have instructions is known once the source is assembled: until
  * then it is left open.
  */
-const may_stop = (line) => is_source(state.file) && !state.mistakes.length && (state.coded === null || state.coded.has(line));
+const may_stop = (line) => (
+  (is_source(state.file) || is_c_program(state.file)) && state.mistakes.every((it) => it.is_warning)
+    && (state.coded === null || state.coded.has(line))
+);
 
-const is_bad = (line) => state.mistakes.some((it) => it.line === line);
+const is_here = (it) => (it.file ?? state.file.name) === state.file.name;
+const is_bad = (line) => state.mistakes.some((it) => it.line === line && is_here(it));
 const row_class = (line) => `row${line === state.pc ? " pc" : ""}${is_bad(line) ? " bad" : ""}`;
 
 function number_of(line, stops) {
@@ -109,10 +115,11 @@ function draw() {
   const stops = new Map(stops_of(file).map((it) => [it.line, it.off === true]));
   const { first, last } = lines_seen(), from = Math.max(0, first - UNSEEN), to = Math.min(lines.length, last + UNSEEN);
   const ink = box.querySelector(".ink"), gutter = box.querySelector(".gutter"), numbers = [];
-  const shown = is_source(file) ? coloured : escape;
+  const in_c = (line, k) => coloured_c(line, state.comments.has(k));
+  const shown = is_source(file) ? coloured : is_c(file) ? in_c : escape;
   let rows = "";
   for (let k = from; k < to; k++) {
-    if (!is_plain) rows += `<span class="${row_class(k + 1)}">${shown(lines[k]) || " "}</span>`;
+    if (!is_plain) rows += `<span class="${row_class(k + 1)}">${shown(lines[k], k) || " "}</span>`;
     numbers.push(number_of(k + 1, stops));
   }
   state.rows = { from, to };
@@ -149,7 +156,8 @@ function reveal(line) {
 
 function assemble() {
   const { file } = state;
-  state.asked++; // (what comes of a file that was open before is passed over)
+  const asked = ++state.asked; // (what comes of a file that was open before is passed over)
+  if (is_c(file)) { check(file, app.files).then((it) => { if (asked === state.asked) told_c(it); }); return; }
   if (!is_source(file)) { take_mistakes([]); said("", ""); return; }
   ask("assemble", { text: file.text, id: state.asked });
 }
@@ -165,7 +173,7 @@ function said(text, kind) {
 /** Takes the mistakes of the source, and lists them if the words of the first don't say all. */
 function take_mistakes(mistakes) {
   state.mistakes = [...mistakes].sort((one, other) => one.line - other.line);
-  const list = $("mistakes"), is_listed = mistakes.length > 1 || mistakes.some(({ written }) => written !== null);
+  const list = $("mistakes"), is_listed = mistakes.length > 1 || mistakes.some((it) => it.written !== null || it.words);
   list.hidden = !is_listed;
   list.replaceChildren(...(is_listed ? state.mistakes.map((it) => row_of_mistake(it, it === mistakes[0])) : []));
 }
@@ -182,13 +190,24 @@ function button_of(words, act) {
  * The row of a mistake: a button that goes to its line, what is wrong, if that isn't told above the list, and a button that
  * writes the line as it is meant.
  */
-function row_of_mistake({ line, kind, written }, is_told) {
+function row_of_mistake({ line, kind, written, words: of_c, file, is_warning }, is_told) {
   const row = document.createElement("li"), text = state.lines[line - 1];
+  if (of_c) return row_of_c(row, { line, words: of_c, file, is_warning });
   const [, words] = /^line \d+: (.*)$/s.exec(mistake_words({ line, kind }, state.lines.join("\n")));
   row.append(button_of(`line ${line}`, () => go_to(line)), is_told ? " " : ` ${words} `);
   if (written === null) return row;
   const write = () => { if (state.lines[line - 1] === text) write_line(line, written); };
   row.append(button_of(written.trim() ? `write ${written.trim()}` : "leave it out", write));
+  return row;
+}
+
+/** The row of what the compiler of C tells, perhaps of a header. */
+function row_of_c(row, { line, words, file, is_warning }) {
+  const is_own = is_here({ file }), there = app.files.find((it) => it.name === file);
+  const go = () => { if (!is_own && there) open(there); go_to(line); };
+  if (line) row.append(button_of(is_own ? `line ${line}` : `${file}, line ${line}`, go));
+  row.append(` ${words}`);
+  row.className = is_warning ? "warning" : "";
   return row;
 }
 
@@ -270,6 +289,7 @@ export function open(file) {
   source.readOnly = !is_text;
   state.ends = is_text && file.text.includes("\r\n") ? "\r\n" : "\n";
   state.lines = source.value.split("\n");
+  find_comments();
   $("editor").classList.toggle("is-binary", !is_text);
   state.pc = null;
   take_places(null);
@@ -278,7 +298,14 @@ export function open(file) {
   draw();
   clearTimeout(state.timer);
   assemble();
+  tell("shown", file);
 }
+
+/** Notes which lines of a source in C begin within a comment. */
+function find_comments() {
+  state.comments = is_c(state.file) ? lines_in_comments(state.lines) : new Set();
+}
+
 export const opened = () => state.file;
 
 /** Takes what was typed: the file's text, and where its break points stand now. */
@@ -288,6 +315,7 @@ function edited() {
   const { value } = source, is_first = !file.changed;
   if (!state.is_undone) note(file, before.join("\n"), value, performance.now());
   state.lines = value.split("\n");
+  find_comments();
   file.text = state.ends === "\n" ? value : value.replace(/\n/g, state.ends);
   file.changed = true;
   state.pc = null;
@@ -332,6 +360,20 @@ function words_of_mistakes({ line, kind, mistakes, more }) {
   return others ? `${words}. And ${others} more${more ? ", at least" : ""}` : words;
 }
 
+/** Shows what came of compiling the source. */
+function told_c({ mistakes, size, symbols }) {
+  const wrong = mistakes.filter((it) => !it.is_warning), [first] = wrong, others = mistakes.length - wrong.length;
+  take_mistakes(mistakes);
+  state.places = symbols;
+  const own = symbols?.table.lines.filter((it) => it.file === state.file.name);
+  state.coded = own ? new Set(own.map((it) => it.number)) : null;
+  const warned = others ? `, with ${others} warning${others > 1 ? "s" : ""}` : "";
+  if (first) said(wrong.length > 1 ? `${wrong.length} mistakes` : first.line ? "a mistake" : first.words, "bad");
+  else said(`compiles: ${size ? `${size} bytes` : "it has no main"}${warned}`, "good");
+  draw();
+  show_pc();
+}
+
 /** Shows what came of assembling the source. */
 function told(it) {
   if (it.id !== state.asked) return;
@@ -350,7 +392,8 @@ function line_of_pc() {
   const place = view.ended ? view.ended.program : view.processes.find((it) => it.pid === view.pid)?.program;
   const running = booted.files[place];
   if (!running || running.from !== file || running.text !== file.text) return null;
-  return line_at(places, view.registers[0])?.line ?? null;
+  const found = line_at(places, view.registers[0]);
+  return found && (found.file ?? file.name) === file.name ? found.line : null;
 }
 
 function show_pc() {

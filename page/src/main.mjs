@@ -15,6 +15,7 @@ import * as breaks from "./breaks.mjs";
 import * as processes from "./processes.mjs";
 import * as instruction from "./instruction.mjs";
 import * as c_source from "./c_source.mjs";
+import * as c_programs from "./c_programs.mjs";
 import * as pages from "./pages.mjs";
 import * as descriptors from "./descriptors.mjs";
 import * as why from "./why.mjs";
@@ -215,7 +216,7 @@ async function first_machine() {
 }
 
 const PARTS = {
-  messages, terminal, editor, works, time, breaks, processes, instruction, c_source, pages, descriptors, why, programs,
+  messages, terminal, editor, works, time, breaks, processes, instruction, c_source, c_programs, pages, descriptors, why, programs,
   sharing, lessons, session, happened, missing_stretches, translate, manual, slides, first_minute,
   your_runs, frame, pictures, beside,
 };

@@ -135,6 +135,7 @@ export function run_of(it) {
   const played = events(own(it, "events"), "the run"), byte = (key, what) => whole(key, what, 0, 255);
   return {
     built: text(own(it, "built"), "the sum of the run's page", MOST_NAME),
+    beside: if_there(own(it, "beside"), [], (all) => files(all, "the list of what sources in C include")),
     files: list(own(it, "files"), "the list of the run's files", MOST_FILES, file_of_run),
     frames: frames(own(it, "frames")),
     how: order(own(it, "how")),

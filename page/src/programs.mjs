@@ -4,7 +4,8 @@ import { $, app, ask, element, on, say, tell } from "./app.mjs";
 import { file_of_bytes, file_of_source, name_first } from "../../anywhere/machine/program_files.mjs";
 import { is_table } from "../../anywhere/machine/line_tables.mjs";
 import { shipped_source, shipped_table } from "./shipped_sources.mjs";
-import { is_elf, is_source } from "../../anywhere/machine/file_kinds.mjs";
+import { is_c, is_c_program, is_elf, is_source } from "../../anywhere/machine/file_kinds.mjs";
+import { c_texts, is_compiled, program_of } from "./c_programs.mjs";
 import { MOST_BYTES, boot_words, files_refused, too_large } from "../../anywhere/machine/file_refusals.mjs";
 import {
   add, bring_back, bytes_of_file, example_of, forget_work, is_changed, own_names, put, put_away, ship_anew, title_of,
@@ -17,6 +18,10 @@ import * as editor from "./editor.mjs";
 const DATA = globalThis.PAGE_DATA;
 const MOST_BYTES_OF_RECORD = 16 * MOST_BYTES; // a record, or a work that was saved, is no file of the machine
 const waiting = new Map(); // who waits for a source to be assembled
+const BEGINNINGS = {
+  ".s": "  li a0, 0\n  li a7, 2          # exit\n  ecall\n",
+  ".c": '#include "user.h"\n\nint main(int count, char *texts[])\n{\n    printf("hi\\n");\n    return 0;\n}\n',
+};
 const SETTINGS = ["frames", "order", "quantum", "keys"];
 
 // ---- the list of files
@@ -61,6 +66,15 @@ function show_files() {
       "button",
       { id: "save", title: "Save this file on your host", "aria-label": "Save this file", onclick: save_opened }, "Save"
     ),
+    ...(
+      is_c_program(editor.opened() ?? {}) ? [
+        element(
+          "button",
+          { id: "save-program", title: "Save the program that is compiled of this source", onclick: save_program },
+          "Save program"
+        ),
+      ] : []
+    ),
     element(
       "button", { title: "Program files, sources, texts, or the record of a run", onclick: ask_for_files },
       "Open file.."
@@ -88,13 +102,20 @@ async function take_asked() {
 function add_source() {
   let name = "prog.s";
   for (let k = 2; app.files.some((it) => it.name === name); k++) name = `prog${k}.s`;
-  const asked = prompt("Name of the source (a program's name and .s), or of a text", name)?.trim();
+  const asked = prompt("Name of the source (a program's name and .s, or .c), or of a text", name)?.trim();
   if (!asked) return;
   if (app.files.some((it) => it.name === asked)) {
     say(`There is a file ${asked} already: it stays as it is. Choose another name`);
     return;
   }
-  add_and_open({ name: asked, text: asked.endsWith(".s") ? "  li a0, 0\n  li a7, 2          # exit\n  ecall\n" : "" });
+  add_and_open({ name: asked, text: BEGINNINGS[/\.[sc]$/.exec(asked)?.[0]] ?? "" });
+}
+
+/** A program's source in C takes the program's place. */
+function change_source({ file, name, text }) {
+  put_away(file);
+  add_and_open({ name, text, changed: true });
+  say(`${name} takes the place of ${file.name}: the button ↶ ${file.name} brings it back`);
 }
 
 function add_and_open(file) {
@@ -131,6 +152,11 @@ export function save(name, content) {
 function save_opened() {
   const file = editor.opened();
   if (file) save(file.name, file.text ?? bytes_of_file(file));
+}
+
+async function save_program() {
+  const made = await made_of(editor.opened());
+  if (made.mistake) refuse(`${made.from.name}, ${made.mistake}`); else save(made.name, made.bytes);
 }
 
 // ---- works
@@ -240,14 +266,17 @@ const of_bytes = (name, bytes, from) => {
   const made = file_of_bytes(name, bytes, () => table_of(from), (file) => text_named(file) || shipped_source(file));
   return { ...made, from, text: from.text };
 };
-/** What belongs to a program and is no file of the machine: the table of its lines. */
-const stands_beside = (file) => file.name.endsWith(".lines") && is_table(file.text);
+/** What belongs to a program and is no file of the machine: the table of its lines, and sources in C without a main. */
+const stands_beside = (file) => (
+  (file.name.endsWith(".lines") && is_table(file.text)) || (is_c(file) && !is_c_program(file))
+);
 
 /**
  * The file of the machine that a file of the list is: {name, bytes, from, text, symbols}. `mistake`: what is wrong with
  * its source.
  */
-export async function made_of(file) {
+export async function made_of(file, list = app.files) {
+  if (is_compiled(file, list)) return program_of(file, list);
   if (file.text === undefined) return of_bytes(file.name, bytes_of_file(file), file);
   if (!is_source(file)) return of_bytes(file.name, new TextEncoder().encode(file.text), file);
   const { text } = file, made = await assembled(text);
@@ -303,9 +332,13 @@ function tell_wrong_rows({ from, symbols }) {
   problem(`${from.name}.lines: ${rows} none of a table of lines, and passed over.`);
 }
 
-/** The files of the machine, of those of the list; null if one is refused, which is told. */
-export async function made_of_all(list) {
-  const files = await Promise.all(list.filter((it) => !stands_beside(it)).map(made_of));
+/**
+ * The files of the machine, of those of the list; null if one is refused, which is told. `beside` has what sources in C
+ * may use besides.
+ */
+export async function made_of_all(list, beside = []) {
+  const all = [...list, ...beside];
+  const files = await Promise.all(list.filter((it) => !stands_beside(it)).map((it) => made_of(it, all)));
   const wrong = files.find((it) => it.mistake);
   if (wrong) {
     if (app.files.includes(wrong.from)) editor.open(wrong.from);
@@ -317,6 +350,7 @@ export async function made_of_all(list) {
   const told = name_first(files), words = files_refused(files);
   if (words) { refuse(`boot: ${words}`); return null; }
   if (told) say(told);
+  files.beside = files.some((it) => it.is_compiled) ? c_texts(all.filter(stands_beside)) : [];
   return files;
 }
 
@@ -394,6 +428,7 @@ export function start() {
   on("touched", show_works);
   on("marked", show_files);
   on("opened", (file) => { app.work.shown = file.name; });
+  on("change source", change_source);
   on("assembled", (it) => { const done = waiting.get(it.id); if (done) { waiting.delete(it.id); done(it); } });
   let depth = 0;
   const has_files = (event) => [...(event.dataTransfer?.types || [])].includes("Files");

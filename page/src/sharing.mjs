@@ -11,6 +11,7 @@ import { event_words } from "./time.mjs";
 import { open_manual } from "./manual.mjs";
 import { first_slide, listed_slides, note_slide, own_slides, take_slides, words_of_slides } from "./slides.mjs";
 import * as programs from "./programs.mjs";
+import { sum_for, sum_of_machine } from "./c_programs.mjs";
 
 const DATA = globalThis.PAGE_DATA;
 const BEGINNING = "nektavoly 1\n"; // of a file that has what a link has
@@ -34,7 +35,8 @@ export function run_now(is_whole = false) {
       : { name, file: packed_file(text !== undefined ? { name: from.name, text } : from) };
   });
   return {
-    built: DATA.built, files, frames: booted.config.frames, how: booted.how, events: events.all(), end: view.end,
+    built: DATA.built + sum_of_machine(booted.files), beside: booted.files.beside, files, frames: booted.config.frames,
+    how: booted.how, events: events.all(), end: view.end,
     stretches: view.stretches, at: view.at, keys: view.waiting_keys ?? [], futures: app.cut_off, plays: view.playing,
     marks: app.marks.text(is_whole ? MOST_MARKS : MARKS_OF_LINK),
   };
@@ -53,7 +55,7 @@ const files_of_run = (run) => run.files.map(({ name, place, file }) => (
 
 /** Says that a run differs from what came of it in the page that made it; false if it doesn't. */
 function tells_difference({ built, marks }) {
-  const is_other = built !== DATA.built, found = marks ? app.marks.difference(marks) : null;
+  const is_other = !built.startsWith(DATA.built), found = marks ? app.marks.difference(marks) : null;
   const of_other = "This run was made by another release of the page";
   if (found) {
     const { from, to } = found, here = event_words(from);
@@ -73,7 +75,9 @@ function tells_difference({ built, marks }) {
 export async function play_again(run) {
   const named = files_of_run(run);
   if (named.some((it) => !it.from)) return null;
-  const files = await programs.made_of_all(named.map((it) => it.from));
+  // By another compiler the run begins anew.
+  if (run.beside && run.built.slice(DATA.built.length) !== await sum_for(named)) return null;
+  const files = await programs.made_of_all(named.map((it) => it.from), run.beside);
   if (!files) return null;
   named.forEach((it, k) => { files[k].name = it.name; });
   const replayed = once("replayed", "refused"), spans = spans_of(run.events), config = { frames: run.frames, trace: 0 };

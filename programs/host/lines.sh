@@ -6,11 +6,10 @@
 #   programs/host/lines.sh [OPTION..] FILE..
 #
 # The options are those of the programs that run FILEs: they are passed over. The lines come from FILE.debug or FILE
-# by readelf (Debian: binutils). A FILE that has none gets no row, and so does assembler source: the programs
-# themselves know its lines.
+# by readelf (Debian: binutils), or from FILE.lines, which xv --cc leaves. A FILE that has none gets no row, and so
+# does assembler source: the programs themselves know its lines.
 set -u
-self=$(readlink -f -- "$0")
-here=${self%/*}
+here=$(dirname "$(readlink -f -- "$0")")
 . "$here/words.sh"
 
 # The first of the host's tools that knows the lines of a program; the last one tells none.
@@ -47,7 +46,9 @@ of_part() {
     [ "$1" = file ] || return 0
     case $2 in
         *.s) ;;
-        *) if [ -e "$2.debug" ]; then of_program "$place" "$2.debug"; else of_program "$place" "$2"; fi ;;
+        *) if [ -e "$2.debug" ]; then of_program "$place" "$2.debug"
+            elif [ -e "$2.lines" ]; then PLACE=$place awk -f "$here/lines.awk" "$2.lines"
+            else of_program "$place" "$2"; fi ;;
     esac
     place=$((place + 1))
 }

@@ -25,7 +25,7 @@ const NAME: &str = "xv_debugger";
 
 /// A conversation about a machine of the settings, which has got no event yet.
 fn begun<'a>(rt: &HostRuntime, settings: &'a Settings) -> Result<Conversation, Failure<'a>>
-    ensures { IfOk result (λ c. c.debugger.quantum ≡ settings.quantum) }
+    ensures { IfOk result (λ c. c.debugger.quantum ≡ settings.now.quantum) }
 {
     let files = settings.files.as_slice();
     let made = programs(rt, files)?;

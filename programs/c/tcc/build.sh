@@ -4,10 +4,12 @@
 #   programs/c/tcc/build.sh            fetches, builds, and leaves all in the folder out; it prints what lies there
 #   programs/c/tcc/build.sh FOLDER     the same into another folder
 #   programs/c/tcc/build.sh --version  which source package it is
+#   programs/c/tcc/build.sh --is-current   whether what lies in out is of the sources that stand here, told by their sum
 #
 # No line of TinyCC stands in this repository. insert.py adds to its source what the machine needs, in lines of our own. What lies
 # in out is a part of a release, and of no clone: tcc.wasm, the compiler as a module of WASI; lib/*.o and include, the library;
-# COPYING and NOTICE, whose compiler it is, and riscv64-tcc, the same compiler for this host, to compare with.
+# COPYING and NOTICE, whose compiler it is; SOURCES, the sum of what it was made of; and riscv64-tcc, which no release has: the
+# same compiler for this host, to compare with.
 #
 # It needs Debian 12's clang, lld, wasi-libc, libclang-rt-14-dev-wasm32, gcc, make, python3 and apt, and the network, and nobody has
 # to be root. The sources are fetched by apt with lists of its own; nothing of the system's settings is changed. They are used again
@@ -26,6 +28,11 @@ give_up() {
 
 need() {
     [ -n "$(command -v "$1" || ls -d "$1" 2>/dev/null)" ] || give_up "there is no $1; this mends it: apt-get install $2"
+}
+
+# The sum of what all is made of: this folder's files, the library's, and the name of the source package.
+sources_sum() {
+    (cd "$here/.." && find tcc lib -type f ! -path 'tcc/out/*' ! -name '*.md' | LC_ALL=C sort | xargs sha256sum | sha256sum | cut -d ' ' -f 1)
 }
 
 KEYS=/usr/share/keyrings/debian-archive-keyring.gpg
@@ -63,8 +70,10 @@ build_compilers() {
     (
         cd "$work/tcc"
         # shellcheck disable=SC2046
-        clang --target=wasm32-wasi -Oz -I"$here/wasi" -I. $(quoted) -D_WASI_EMULATED_SIGNAL -D_WASI_EMULATED_GETPID tcc.c \
-            "$here/wasi/semaphores.c" -o "$out/tcc.wasm" -lwasi-emulated-getpid -lwasi-emulated-signal -Wl,--strip-all
+        clang --target=wasm32-wasi -Oz -I"$here/wasi" -I. $(quoted) -D_WASI_EMULATED_SIGNAL -D_WASI_EMULATED_GETPID -c tcc.c \
+            "$here/wasi/semaphores.c"
+        # Linked without a word on optimizing: else clang runs wasm-opt, if the host has it, and the bytes are others.
+        clang --target=wasm32-wasi tcc.o semaphores.o -o "$out/tcc.wasm" -lwasi-emulated-getpid -lwasi-emulated-signal -Wl,--strip-all
         # shellcheck disable=SC2046
         gcc -O1 -I. $(quoted) tcc.c -o "$out/riscv64-tcc" -lm -ldl
     )
@@ -107,7 +116,11 @@ case ${1-} in
     echo "$PACKAGE $VERSION-1, $ARCHIVE, SHA-256 $SUM"
     exit
     ;;
--*) give_up "it takes a folder, or --version" ;;
+--is-current)
+    [ "$(cat "$here/out/SOURCES" 2>/dev/null)" = "$(sources_sum)" ] || give_up "there is no compiler in $here/out that is of these sources"
+    exit
+    ;;
+-*) give_up "it takes a folder, --version or --is-current" ;;
 esac
 need clang clang
 need wasm-ld lld
@@ -124,6 +137,7 @@ unpack
 build_compilers
 build_library
 tell_whose
+sources_sum >"$out/SOURCES"
 to=${1:-$here/out}
 rm -rf "$to"
 mkdir -p "$(dirname "$to")"
