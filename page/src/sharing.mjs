@@ -36,7 +36,7 @@ export function run_now(is_whole = false) {
   return {
     built: DATA.built, files, frames: booted.config.frames, how: booted.how, events: events.all(), end: view.end,
     stretches: view.stretches, at: view.at, keys: view.waiting_keys ?? [], futures: app.cut_off, plays: view.playing,
-    marks: app.marks.text(is_whole ? MOST_MARKS : MARKS_OF_LINK),
+    marks: app.marks.text(is_whole ? MOST_MARKS : MARKS_OF_LINK, view.end),
   };
 }
 
