@@ -85,16 +85,20 @@ export class RunMarks {
   }
 
   /**
-   * So many marks at most, as a text: how many stretches lie between two; then of each how far it lies, and its sum.
+   * So many marks at most of the events up to a place, as a text: how many stretches lie between two; then of each how
+   * far it lies, and its sum. (The worker tells stretches before the view that has their events.)
    */
-  text(most) {
+  text(most, to = this.end) {
     if (this.is_cut_short) return "";
     this.sum();
-    const step = Math.max(1, Math.ceil(this.length / most)), made = [words_of_number(step)];
-    for (let k = Math.min(step, this.length) - 1, from = 0; k >= 0 && k < this.length;) {
-      made.push(words_of_number(this.ends[k] - from), words_of_sum(this.sums[k]));
-      from = this.ends[k];
-      k = k === this.length - 1 ? this.length : Math.min(k + step, this.length - 1);
+    let count = this.length;
+    while (count > 0 && this.start_of(count - 1) >= to) count--;
+    const step = Math.max(1, Math.ceil(count / most)), made = [words_of_number(step)];
+    for (let k = Math.min(step, count) - 1, from = 0; k >= 0 && k < count;) {
+      const end = Math.min(this.ends[k], to);
+      made.push(words_of_number(end - from), words_of_sum(this.sum_to(k, end)));
+      from = end;
+      k = k === count - 1 ? count : Math.min(k + step, count - 1);
     }
     return made.join("");
   }

@@ -38,7 +38,7 @@ export function run_now(is_whole = false) {
     built: DATA.built + sum_of_machine(booted.files), beside: booted.files.beside, files, frames: booted.config.frames,
     how: booted.how, events: events.all(), end: view.end,
     stretches: view.stretches, at: view.at, keys: view.waiting_keys ?? [], futures: app.cut_off, plays: view.playing,
-    marks: app.marks.text(is_whole ? MOST_MARKS : MARKS_OF_LINK),
+    marks: app.marks.text(is_whole ? MOST_MARKS : MARKS_OF_LINK, view.end),
   };
 }
 
