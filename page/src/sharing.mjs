@@ -52,7 +52,8 @@ const files_of_run = (run) => run.files.map(({ name, place, file }) => (
 /** Plays a kept run again, on the files of the work that is open; false if it can't be played. */
 export async function play_again(run) {
   const named = files_of_run(run);
-  if (named.some((it) => !it.from) || run.built !== DATA.built + await sum_for(named)) return false;
+  if (named.some((it) => !it.from)) return false;
+  if (run.built !== DATA.built + await sum_for(named.map((it) => it.from))) return false;
   const files = await programs.made_of_all(named.map((it) => it.from), run.beside);
   if (!files) return false;
   named.forEach((it, k) => { files[k].name = it.name; });
