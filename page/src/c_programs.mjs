@@ -50,7 +50,7 @@ function tell_whose() {
 
 /** The sum of the compiler and its library, if one of these files is compiled; else nothing. */
 export async function sum_for(files) {
-  return files.some((it) => is_c_program(it.from ?? it)) ? `+${(await parts()).sum.slice(0, 16)}` : "";
+  return files.some((it) => is_compiled(it, files)) ? `+${(await parts()).sum.slice(0, 16)}` : "";
 }
 /** The same of files of a machine, which were compiled already. */
 export const sum_of_machine = (files) => (

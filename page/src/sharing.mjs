@@ -53,6 +53,9 @@ const files_of_run = (run) => run.files.map(({ name, place, file }) => (
   { name, from: file === undefined ? app.files[place] : same_file(file) }
 ));
 
+/** The sum of the compiler by which a run's sources in C were made; nothing if it has none. */
+const compiler_of = ({ built }) => built.slice(built.indexOf("+") >>> 0);
+
 /** Says that a run differs from what came of it in the page that made it; false if it doesn't. */
 function tells_difference({ built, marks }) {
   const is_other = !built.startsWith(DATA.built), found = marks ? app.marks.difference(marks) : null;
@@ -76,7 +79,8 @@ export async function play_again(run) {
   const named = files_of_run(run);
   if (named.some((it) => !it.from)) return null;
   // By another compiler the run begins anew.
-  if (run.beside && run.built.slice(DATA.built.length) !== await sum_for(named)) return null;
+  const compiler = await sum_for(named.map((it) => it.from));
+  if (compiler_of(run) !== compiler) return null;
   const files = await programs.made_of_all(named.map((it) => it.from), run.beside);
   if (!files) return null;
   named.forEach((it, k) => { files[k].name = it.name; });
