@@ -10,9 +10,9 @@ use Rattle.call_lines.specs.declared.asked.Asked.{Asked}
 use Rattle.kernel_calls.specs.Arguments.{kind_of}
 use Rattle.kernel_calls.specs.declared.argument.Argument.{Argument}
 use Rattle.kernel_calls.specs.declared.argument.ArgumentKind.{ArgumentKind}
-use Rattle.call_lines.specs.Line.{answer_shown, argument_here, argument_shown, buffer_length, stored_shown, value_at, value_shown, comma_unless, text_shown, texts_shown}
+use Rattle.call_lines.specs.Line.{answer_shown, reason_shown, argument_here, argument_shown, buffer_length, stored_shown, value_at, value_shown, comma_unless, text_shown, texts_shown}
 use Rattle.call_lines.specs.Memory.{address_at, bytes_from, read_at, text_from}
-use Rattle.debug_views.proofs.Texts.{shown_behind, three_shown}
+use Rattle.debug_views.proofs.Texts.{four_shown, shown_behind}
 
 -- ---- bytes
 
@@ -149,11 +149,11 @@ here_written r s p call asked answered place argument kind value bytes old mid n
 
 -- ---- an answer
 
--- the value was written, and what was stored behind it
-pub answer_written : {T E : Type 0} (r : Result T E) (s : State) (p : ℕ) (asked : Asked) (value seen : ℤ) (call : Option KernelCall) (old mid next new : List ℕ)
-    → seen ≡ value → call ≡ call_at asked.number → mid ≡ old ++ codes " = " → next ≡ mid ++ value_shown call seen → OnOk r (new ≡ next ++ stored_shown s p asked call seen)
-    → OnOk r (new ≡ old ++ answer_shown s p asked value)
-answer_written r s p asked value seen call old mid next new same is first second third =
+-- the value was written, and what was stored, and the reason behind it
+pub answer_written : {T E : Type 0} (r : Result T E) (s : State) (p : ℕ) (asked : Asked) (value seen : ℤ) (call : Option KernelCall) (old mid next last new : List ℕ)
+    → seen ≡ value → call ≡ call_at asked.number → mid ≡ old ++ codes " = " → next ≡ mid ++ value_shown call seen → last ≡ next ++ stored_shown s p asked call seen
+    → OnOk r (new ≡ last ++ reason_shown s p asked seen) → OnOk r (new ≡ old ++ answer_shown s p asked value)
+answer_written r s p asked value seen call old mid next last new same is first second third fourth =
     subst (λ (v : ℤ). OnOk r (new ≡ old ++ answer_shown s p asked v)) same
-    (subst (λ (k : Option KernelCall). OnOk r (new ≡ old ++ (codes " = " ++ value_shown k seen ++ stored_shown s p asked k seen))) is
-    (three_shown r old mid next new (codes " = ") (value_shown call seen) (stored_shown s p asked call seen) first second third))
+    (subst (λ (k : Option KernelCall). OnOk r (new ≡ old ++ (codes " = " ++ value_shown k seen ++ stored_shown s p asked k seen ++ reason_shown s p asked seen))) is
+    (four_shown r old mid next last new (codes " = ") (value_shown call seen) (stored_shown s p asked call seen) (reason_shown s p asked seen) first second third fourth))

@@ -1,5 +1,5 @@
 -- Worked cases of strings and lines.
-use Rattle.std.proofs.Common.{◌≡◌, [], ◌∷◌, ◌++◌, codes, None, Some, refl, replicate, true, false, arith, slice_index}
+use Rattle.std.proofs.Common.{◌≡◌, [], ◌∷◌, ◌++◌, codes, Option, None, Some, refl, sym, ap, replicate, true, false, arith, slice_index}
 use Rattle.std.specs.FinMap.{empty, get, get-empty}
 use Rattle.std.specs.Ordering.{nat_cmp}
 use Rattle.std.specs.Prelude.{pos, negsuc}
@@ -9,8 +9,13 @@ use Rattle.xk_base.specs.Access.{data_rights}
 use Rattle.xk_base.specs.declared.access.Rights.{Rights}
 use Rattle.kernel_calls.specs.Table.{call_at}
 use Rattle.kernel_spec.specs.views.State.{State}
-use Rattle.call_lines.specs.Line.{answer_shown, call_shown, whole_or_place}
+use Rattle.call_reasons.specs.Shown.{reason_in}
+use Rattle.call_reasons.specs.declared.reason.Reason.{Reason}
+use Rattle.call_reasons.specs.declared.reason.Reason.TheVariants.{NotOpen}
+use Rattle.call_reasons.proofs.ByCall.{none_of_other}
+use Rattle.call_lines.specs.Line.{answer_shown, call_asked, call_shown, reason_text, whole_or_place}
 use Rattle.call_lines.specs.Memory.{read_of}
+use Rattle.call_lines.specs.declared.asked.Asked.{Asked}
 use Rattle.call_lines.specs.Strings.{c_string, ending, escaped}
 
 -- ---- strings
@@ -89,14 +94,25 @@ module _ (s : State) where
   unfolding digits call_at
   unknown = refl
 
-  grown : answer_shown s 3 (record { number = pos 12; a0 = 4096; a1 = 0; a2 = 0 }) (pos 20480) ≡ codes " = 0x5000"
-  unfolding digits call_at
-  grown = refl
+  -- an answer that is no refusal has no reason
+  abbrev more : Asked
+  more = record { number = pos 12; a0 = 4096; a1 = 0; a2 = 0 }
 
-  refused : answer_shown s 3 (record { number = pos 12; a0 = 4096; a1 = 0; a2 = 0 }) (negsuc 0) ≡ codes " = -1"
+  grown : answer_shown s 3 more (pos 20480) ≡ codes " = 0x5000"
   unfolding digits call_at
-  refused = refl
+  grown = ap (λ o. codes " = 0x5000" ++ reason_text o) (sym (none_of_other s 3 (call_asked more) (pos 20480) refl))
 
-  nowhere_stored : answer_shown s 3 (record { number = pos 3; a0 = 0; a1 = 0; a2 = 0 }) (pos 4) ≡ codes " = 4"
+  refused : (reason : Option Reason) → reason_in s 3 (call_asked more) (negsuc 0) ≡ reason → answer_shown s 3 more (negsuc 0) ≡ codes " = -1" ++ reason_text reason
   unfolding digits call_at
-  nowhere_stored = refl
+  refused reason is = ap (λ o. codes " = -1" ++ reason_text o) is
+
+  abbrev waited : Asked
+  waited = record { number = pos 3; a0 = 0; a1 = 0; a2 = 0 }
+
+  nowhere_stored : answer_shown s 3 waited (pos 4) ≡ codes " = 4"
+  unfolding digits call_at
+  nowhere_stored = ap (λ o. codes " = 4" ++ reason_text o) (sym (none_of_other s 3 (call_asked waited) (pos 4) refl))
+
+in_brackets : reason_text (Some (NotOpen (pos 7))) ≡ codes " (descriptor 7 isn't open)"
+unfolding digits
+in_brackets = refl

@@ -352,7 +352,9 @@ module _ (c : Call) (v : View) where
 
   sbrklazy_fits : Fits c v (sbrklazy c v) (tests Sbrklazy c (facts_of v) (is_short Sbrklazy c v))
   unfolding sbrklazy tests is_short
-  sbrklazy_fits = by_natural (c_int c.a0) _ _ (λ z. (BadSize, is_bad_size (size_after v.image.size z)) ∷ []) (λ n. by_when BadSize (nat_lt SIZE_LIMIT (v.image.size + n)) [] _ (answers_well _ v.image.size refl))
+  sbrklazy_fits =
+      by_natural (c_int c.a0) _ _ (λ z. (BadSize, is_bad_size (size_after v.image.size z)) ∷ [])
+      (λ n. by_when BadSize (nat_lt SIZE_LIMIT (v.image.size + n)) [] _ (answers_well _ v.image.size refl))
 
   exit_fits : Fits c v (exit c v) []
   unfolding Fits

@@ -16,7 +16,8 @@ returns-in_default c =
 pub returns-in-Fork : goal.returns-in-Fork
 returns-in-Fork c =
     let f = facts_in c.args.self.now.machine.now.world.state c.args.self.now.pid in
-    reason_at c.args.self.now.call.now f (Some calls.Fork) _ (ap Some (sym c.in-Fork.is) ∙ sym c.in-Some.is ∙ c.call_of.ensures) (fork_told c.args.self.now.call.now f _ (ap (λ n. Some (NoRoom n)) c.free_frames.ensures))
+    reason_at c.args.self.now.call.now f (Some calls.Fork) _
+    (ap Some (sym c.in-Fork.is) ∙ sym c.in-Some.is ∙ c.call_of.ensures) (fork_told c.args.self.now.call.now f _ (ap (λ n. Some (NoRoom n)) c.free_frames.ensures))
 
 pub returns-in-Wait : goal.returns-in-Wait
 returns-in-Wait c =
@@ -61,7 +62,8 @@ returns-in-Close c =
 pub returns-in-Sbrklazy : goal.returns-in-Sbrklazy
 returns-in-Sbrklazy c =
     let f = facts_in c.args.self.now.machine.now.world.state c.args.self.now.pid in
-    reason_at c.args.self.now.call.now f (Some calls.Sbrklazy) _ (ap Some (sym c.in-Sbrklazy.is) ∙ sym c.in-Some.is ∙ c.call_of.ensures) (sbrklazy_told c.args.self.now.call.now f _ c.of_sbrklazy.ensures)
+    reason_at c.args.self.now.call.now f (Some calls.Sbrklazy) _
+    (ap Some (sym c.in-Sbrklazy.is) ∙ sym c.in-Some.is ∙ c.call_of.ensures) (sbrklazy_told c.args.self.now.call.now f _ c.of_sbrklazy.ensures)
 
 pub returns-in-Exit : goal.returns-in-Exit
 returns-in-Exit c =
