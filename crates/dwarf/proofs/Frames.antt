@@ -35,7 +35,7 @@ unfolding frames_from
 frames-go_on c bytes common front count i at state kept after s total lt more done so_far =
     let k : count - i ≡ suc (count - (i + 1)) = omega arith in
     let one : in_front front (frames_from c bytes common (count - i) at state kept)
-        ≡ in_front (front ++ option_to_list s.row) (frames_from c bytes common (count - (i + 1)) s.next s.state after) =
+    ≡ in_front (front ++ option_to_list s.row) (frames_from c bytes common (count - (i + 1)) s.next s.state after) =
     rw (k, more, done) (in_front-append front (option_to_list s.row) (frames_from c bytes common (count - (i + 1)) s.next s.state after)) in
     sym one ∙ so_far
 

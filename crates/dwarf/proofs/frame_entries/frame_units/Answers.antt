@@ -13,8 +13,12 @@ pub returns-in_err-unit : goal.returns-in_err-unit
 returns-in_err-unit c =
     let section = c.args.section.now in
     let p = err_from_is_err_and c.from_residual.result c.from_residual.ensures.1 in
-    rw (p.1, p.2, items-fail (leb (length section)) (frame_unit section) unit_end c.loop.found.items (length section) c.loop.counter c.loop.at c.in_err-unit.field-0.0 _
-    c.loop-test.true (lt-leb _ _ (omega arith)) (sym c.in_err-unit.ensures.value) c.loop.invariant) refl
+    rw (
+      p.1,
+      p.2,
+      items-fail (leb (length section)) (frame_unit section) unit_end c.loop.found.items (length section) c.loop.counter c.loop.at c.in_err-unit.field-0.0 _
+          c.loop-test.true (lt-leb _ _ (omega arith)) (sym c.in_err-unit.ensures.value) c.loop.invariant,
+    ) refl
 
 pub loop-preserved : goal.loop-preserved
 loop-preserved c =
