@@ -31,8 +31,8 @@ function number_in(word, most, line) {
 }
 
 /**
- * What a record says: {frames, programs: [{sum, name}], spans, is_cut}. One that is cut off is read up to its last whole
- * line, if it comes to its events. It throws what is wrong with which line.
+ * What a record says: {frames, programs: [{sum, name}], spans, is_cut}. One that is cut off is read up to its last
+ * whole line, if it comes to its events. It throws what is wrong with which line.
  */
 export function read_record(text) {
   const lines = text.split(/\r?\n/), said = { frames: 0, programs: [], spans: [], is_cut: false };

@@ -1,5 +1,6 @@
 -- Programs of call frames, as a loop runs them.
-use Rattle.dwarf.proofs.Prelude.{[], ℕ, ◌++◌, ◌+◌, ◌-◌, ◌<◌, ◌>>=◌, ◌∙◌, ◌∷◌, ◌≡◌, ◌≤◌, ap, arith, Err, false, Fault, in_front, leb, length, List, None, Ok, Option, option_to_list, refl, Result, Some, suc, sym, true}
+use Rattle.dwarf.proofs.Prelude.{[], ℕ, ◌++◌, ◌+◌, ◌-◌, ◌<◌, ◌>>=◌, ◌∙◌, ◌∷◌, ◌≡◌, ◌≤◌}
+use Rattle.dwarf.proofs.Prelude.{ap, arith, Err, false, Fault, in_front, leb, length, List, None, Ok, Option, option_to_list, refl, Result, Some, suc, sym, true}
 use Rattle.dwarf.proofs.Items.{in_front-append, in_front-end}
 use Rattle.dwarf.specs.Frames.{frame_step, frames_from, split_last, taken_back}
 use Rattle.std.specs.Prelude.{MatchOption, option_map}

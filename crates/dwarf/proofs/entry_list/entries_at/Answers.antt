@@ -11,7 +11,8 @@ returns-in_err-entry c =
 
 pub loop-preserved : goal.loop-preserved
 loop-preserved c =
-    rw c.in_ok-push.ensures.items (items-go_on never (entry c.args.bytes.now c.args.is_wide c.args.fields.now) entry_next c.loop.entries.items c.args.count c.loop.counter c.loop.next c.in_ok-entry.entry _
+    let item = entry c.args.bytes.now c.args.is_wide c.args.fields.now in
+    rw c.in_ok-push.ensures.items (items-go_on never item entry_next c.loop.entries.items c.args.count c.loop.counter c.loop.next c.in_ok-entry.entry _
     c.loop-test.true refl (sym c.in_ok-entry.ensures) c.loop.invariant)
 
 pub returns : goal.returns
