@@ -53,7 +53,9 @@ async function links(page) {
   holds((await page.eval("page.app.booted.work")).startsWith("fork"), "and what is good of it is followed");
   await page.key("Escape");
   await page.key("x");
-  await page.eval("document.getElementById('share').click(); document.getElementById('dialog').close()");
+  await page.eval("document.getElementById('share').click()");
+  holds(await comes(page, "document.getElementById('dialog').open", 15000), "Share opens");
+  await page.eval("document.getElementById('dialog').close()");
   holds((await problems(page)).length === words.length, "no later message, key or click wipes them");
   await page.picture(`${folder}/outside-messages.png`);
 }
