@@ -2,9 +2,9 @@
 
     python3 -B checks/calls.py [--write]
 
-The numbers and names of programs/c/lib/calls.S, of the prototypes in unistd.h beside it, and of the table in the manual's
-docs/manual/machine.md are to be those of the table, with as many arguments. --write writes the lines of calls.S. The status is 1
-if something differs.
+The numbers and names of programs/c/lib/calls.S, of kernel/syscall.h and of the prototypes in unistd.h beside it, and of the
+table in the manual's docs/manual/machine.md are to be those of the table, with as many arguments. --write writes the lines of
+calls.S and syscall.h. The status is 1 if something differs.
 """
 import pathlib
 import re
@@ -13,6 +13,7 @@ import sys
 TOP = pathlib.Path(__file__).resolve().parents[1]
 TABLE, NUMBERS = TOP / "crates/kernel_calls/src/call.rt", TOP / "crates/kernel_calls/src/numbers.rt"
 CODE, HEADER = TOP / "programs/c/lib/calls.S", TOP / "programs/c/lib/unistd.h"
+NAMES = TOP / "programs/c/lib/kernel/syscall.h"
 MANUAL = TOP / "docs/manual/machine.md"
 
 
@@ -26,9 +27,16 @@ def calls():
     return sorted((int(numbers[number[9:]]), name.strip('"'), arguments[word]) for word, (number, name, *_) in arms.items())
 
 
-def code_of(table):
-    """The lines of calls.S that name the calls."""
-    return "".join(f"    kernel_function {name}, {number}\n" for number, name, _ in table)
+def lines_of(table, form):
+    """A line for each call, in this form."""
+    return "".join(form.format(number=number, name=name) for number, name, _ in table)
+
+
+# The files that have a line for each call, what such lines look like, and the form of one.
+WRITTEN = (
+    (CODE, re.compile(r"(?: +kernel_function \w+, \d+\n)+"), "    kernel_function {name}, {number}\n"),
+    (NAMES, re.compile(r"(?:#define SYS_\w+ \d+\n)+"), "#define SYS_{name} {number}\n"),
+)
 
 
 def told_in_manual():
@@ -48,13 +56,13 @@ def main(words):
         print("usage: checks/calls.py [--write]", file=sys.stderr)
         return 2
     table, wrong = calls(), []
-    code = CODE.read_text(encoding="utf-8")
-    lines = re.compile(r"(?: +kernel_function \w+, \d+\n)+")
-    written = lines.sub(lambda _: code_of(table), code, count=1)
-    if words:
-        CODE.write_text(written, encoding="utf-8")
-    elif written != code:
-        wrong.append("calls.S has other numbers or names: checks/calls.py --write")
+    for path, lines, form in WRITTEN:
+        text = path.read_text(encoding="utf-8")
+        written = lines.sub(lines_of(table, form), text, count=1)
+        if words:
+            path.write_text(written, encoding="utf-8")
+        elif written != text:
+            wrong.append(f"{path.name} has other numbers or names: checks/calls.py --write")
     if told_in_manual() != table:
         wrong.append(f"docs/manual/machine.md has another table: {sorted(set(told_in_manual()) ^ set(table))}")
     of_header = prototypes()

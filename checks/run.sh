@@ -1,8 +1,8 @@
 #!/bin/sh
 # The checks beside the proofs: checks/run.sh gives the programs the words that are stored, plays the sessions, also those
 # at a terminal and of the debugger, the stored runs, random programs and random words in rows and by single events, the
-# reports and the conversations with GDB by the programs that are built, reads the lines of all sources a second time, lets
-# the debugger show words as others' disassemblers do, grades submissions, runs the commands that the pages show, looks at
+# reports and the conversations with GDB by the programs that are built, reads the lines of all sources a second time, compares
+# why calls are refused with a table of its own, lets the debugger show words as others' disassemblers do, grades submissions, runs the commands that the pages show, looks at
 # their links, at the cases by name and at the numbers of calls, counts what the proofs can do without, what stands twice, the
 # launcher's lines and what has to be believed, hands in answers of labs and compares their signs with labs/NOTATION.md, and
 # tells of which state the modules and page/nektavoly.html are, in some 40 seconds. The gate does the same after `rt ci`.
@@ -46,6 +46,7 @@ tell_others() {
     tell tcc/run.sh 'tcc/run.sh' "programs by the C compiler of programs/c/tcc do what gcc's do: a minute; needs programs/c/tcc/build.sh and nodejs"
     tell tcc/torture.mjs 'tcc/torture.mjs FOLDER' "gcc's own tests by that compiler: some minutes; needs the same, and the tests of outside.sh torture"
     tell back-to/run.sh 'back-to/run.sh [N]' 'the stored runs, played back to 20 places each: slow; needs rt'
+    tell reasons.py 'reasons.py --refused 20000' "20,000 refused calls have the reasons of a table of its own: some minutes"
     tell release.sh 'release.sh FOLDER' 'a release, tried in a bare Debian 12, natively and by Node: some minutes; needs root, debootstrap and the network'
     tell imports.py 'imports.py [--tell] CRATE..' 'writes the heads of the proofs, and the module that hands on their words: a second'
     tell html-links.py 'html-links.py FOLDER' 'the links of a release that was untarred'
@@ -98,7 +99,7 @@ begin_node() {
 
 # What needs a program: the quick ones first.
 quick='checks/words/run.sh checks/refusals/run.sh checks/sessions/run.sh checks/rows/wild.sh'
-longer='checks/stored-runs/run.sh checks/rows/run.sh checks/why/run.sh checks/c-programs/run.sh checks/gdb/run.sh checks/terminal/run.sh checks/debugger/run.sh checks/debugger/typed.py checks/lines.py checks/beside-disassemblers/sample.py checks/grading/run.sh'
+longer='checks/stored-runs/run.sh checks/rows/run.sh checks/why/run.sh checks/c-programs/run.sh checks/gdb/run.sh checks/terminal/run.sh checks/terminal/kept.py checks/debugger/run.sh checks/debugger/typed.py checks/lines.py checks/reasons.py checks/beside-disassemblers/sample.py checks/grading/run.sh'
 
 # shellcheck disable=SC2086
 case "$*" in

@@ -1,9 +1,9 @@
 #!/bin/bash
 # check.sh [PAGE.html]: looks whether what runs a machine stands alone (anywhere/machine), and how records that are cut off are
 # read; plays the stored runs and the sessions of the repository by the module of the page, in Node, and compares; then goes to and
-# fro in a run and compares with the proved `back_to`, makes a long record again, gives the module bad input, looks back in a run
-# for stores and stops, and compares the reports of faults and sleepers with those of xv_why. It needs node (Debian's nodejs) and
-# python3. The status is 1 if something differs.
+# fro in a run and compares with the proved `back_to`, makes a long record again, brings back runs that keys have cut off, gives the
+# module bad input, looks back in a run for stores and stops, and compares the reports of faults and sleepers with those of xv_why.
+# It needs node (Debian's nodejs) and python3. The status is 1 if something differs.
 set -euo pipefail
 cd "$(dirname "$(readlink -f "$0")")"
 command -v node >/dev/null || { echo "check.sh: there is no node: apt-get install nodejs" >&2; exit 1; }
@@ -24,6 +24,7 @@ XV_RUN=$work/xv_run ../checks/sessions/run.sh | grep -v '^ok ' || failed=1
 python3 -B ../checks/stored-runs/run.py "$work/xv_run" | tail -1 || failed=1
 node try/back.mjs "$work/page.wasm" ../programs/bin || failed=1
 node try/again.mjs "$work/page.wasm" ../programs/bin || failed=1
+node try/futures.mjs "$work/page.wasm" ../programs/bin || failed=1
 node try/bad.mjs "$work/page.wasm" ../programs/bin || failed=1
 node try/seek.mjs "$work/page.wasm" ../programs/bin || failed=1
 node try/why.mjs "$work/page.wasm" ../programs/bin ../checks/why || failed=1

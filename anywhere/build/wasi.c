@@ -19,6 +19,7 @@ WASI(fd_write) int fd_write(u32 fd, u32 parts, u32 count, u32 got);
 WASI(fd_close) int fd_close(u32 fd);
 WASI(fd_seek) int fd_seek(u32 fd, i64 offset, u32 whence, u32 at);
 WASI(fd_filestat_get) int fd_filestat_get(u32 fd, u32 stat);
+WASI(fd_filestat_set_size) int fd_filestat_set_size(u32 fd, i64 bytes);
 WASI(fd_prestat_get) int fd_prestat_get(u32 fd, u32 stat);
 WASI(fd_prestat_dir_name) int fd_prestat_dir_name(u32 fd, u32 name, u32 bytes);
 WASI(path_filestat_get) int path_filestat_get(u32 fd, u32 look, u32 path, u32 bytes, u32 stat);
@@ -44,7 +45,7 @@ static const u8 on_linux[] = {
     115, 4, 22, 5, 106, 21, 40, 24, 31, 90, 72, 36, 100, 102, 101, 23, 105, 19, 2, 8, 37, 67, 12, 42, 92, 28,
     38, 107, 20, 39, 131, 88, 95, 25, 6, 75, 130, 1, 32, 71, 93, 91, 34, 30, 29, 3, 116, 110, 26, 18, 76,
 };
-enum { NO_ENTRY = 2, INPUT_OUTPUT = 5, TOO_LONG = 36 };
+enum { NO_ENTRY = 2, INPUT_OUTPUT = 5, TOO_LONG = 36, NO_CALL = 38 };
 static int last_error;
 
 int rattle_errno(void) {
@@ -208,7 +209,7 @@ static u32 folder_of(const Path *path, const u8 **rest) {
 
 // Files. The flags are those of open(2) on Linux.
 enum { WRITE_ONLY = 1, READ_WRITE = 2, CREATE = 0100, EXCLUSIVE = 0200, TRUNCATE = 01000, APPEND = 02000 };
-enum { TO_READ = 1 << 1, TO_SEEK = 1 << 2, TO_WRITE = 1 << 6, TO_STAT = 1 << 21 };
+enum { TO_READ = 1 << 1, TO_SEEK = 1 << 2, TO_WRITE = 1 << 6, TO_STAT = 1 << 21, TO_CUT = 1 << 22 };
 typedef struct {
     u32 at, bytes;
 } Part;
@@ -240,7 +241,7 @@ int open(const u8 *path, int flags, ...) {
     Place place = {0, 0, 0};
     if (!find_place(&place, path)) return -1;
     u32 how = (flags & CREATE ? 1 : 0) | (flags & EXCLUSIVE ? 4 : 0) | (flags & TRUNCATE ? 8 : 0);
-    u64 rights = TO_SEEK | TO_STAT | (flags & WRITE_ONLY ? TO_WRITE : flags & READ_WRITE ? TO_READ | TO_WRITE : TO_READ);
+    u64 rights = TO_SEEK | TO_STAT | (flags & WRITE_ONLY ? TO_WRITE | TO_CUT : flags & READ_WRITE ? TO_READ | TO_WRITE | TO_CUT : TO_READ);
     u32 fd = 0;
     int error = path_open(place.folder, 1, low(place.rest), place.bytes, how, rights, 0, flags & APPEND ? 1 : 0, low(&fd));
     return (int)answer(error, fd);
@@ -272,6 +273,36 @@ i64 lseek(int fd, i64 offset, int whence) {
     i64 at = 0;
     int error = fd_seek((u32)fd, offset, (u32)whence, low(&at));
     return answer(error, at);
+}
+
+int ftruncate(int fd, i64 bytes) {
+    return (int)answer(fd_filestat_set_size((u32)fd, bytes), 0);
+}
+
+// What else std's function asks for that cuts a file. No program does.
+static int no_call(void) {
+    last_error = NO_CALL;
+    return -1;
+}
+
+int fchmod(int fd, u32 mode) {
+    (void)fd, (void)mode;
+    return no_call();
+}
+
+int fsync(int fd) {
+    (void)fd;
+    return no_call();
+}
+
+int fdatasync(int fd) {
+    (void)fd;
+    return no_call();
+}
+
+int flock(int fd, int how) {
+    (void)fd, (void)how;
+    return no_call();
 }
 
 // statx(2): what a file is, its length, and that its owner may read and write it.

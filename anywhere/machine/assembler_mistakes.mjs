@@ -48,9 +48,12 @@ const SWAPS = {
   bgtu: "turn the registers round: `bltu b, a, label`",
   bleu: "turn the registers round: `bgeu b, a, label`",
   neg: "write `sub rd, x0, rs`",
+  negw: "write `subw rd, x0, rs`",
   not: "write `xori rd, rs, -1`",
   seqz: "write `sltiu rd, rs, 1`",
   snez: "write `sltu rd, x0, rs`",
+  sltz: "write `slt rd, rs, x0`",
+  sgtz: "write `slt rd, x0, rs`",
   jr: "write `jalr x0, 0(rs)`",
   tail: "write `j label`",
   lla: "write `la rd, label`",
@@ -60,16 +63,24 @@ const SWAPS = {
   div: "there is no division: the machine has RV64I alone",
   divu: "there is no division",
   rem: "there is no remainder: the machine has RV64I alone",
+  remu: "there is no remainder",
   ".globl": "leave it out: `_start:` is found by its name",
   ".global": "leave it out: `_start:` is found by its name",
   ".section": "write `.text` or `.data`",
   ".string": "write `.asciz \"text\"`",
   ".ascii": "write `.asciz \"text\"`, which adds a zero byte",
   ".zero": "write `.space n`",
+  ".skip": "write `.space n`",
+  ".bss": "write `.data`",
   ".half": "there are `.byte`, `.word` and `.dword`",
+  ".2byte": "there are `.byte`, `.word` and `.dword`",
   ".align": "nothing is aligned: put the widest numbers first",
+  ".balign": "nothing is aligned: put the widest numbers first",
+  ".p2align": "nothing is aligned: put the widest numbers first",
   ".quad": "write `.dword`",
+  ".8byte": "write `.dword`",
   ".long": "write `.word`",
+  ".4byte": "write `.word`",
 };
 
 const HAS_AN_OFFSET = /^(lb|lh|lw|ld|lbu|lhu|lwu|sb|sh|sw|sd|jalr)$/;
@@ -179,7 +190,8 @@ function hint(kind, line, what) {
 
 /** Words of other assemblers that have another name here, with the same operands. */
 const OTHER_NAMES = {
-  tail: "j", lla: "la", ".string": ".asciz", ".ascii": ".asciz", ".zero": ".space", ".quad": ".dword", ".long": ".word",
+  tail: "j", lla: "la", ".string": ".asciz", ".ascii": ".asciz", ".zero": ".space", ".skip": ".space", ".bss": ".data",
+  ".quad": ".dword", ".8byte": ".dword", ".long": ".word", ".4byte": ".word",
 };
 /** Words of other assemblers that are left out here. */
 const LEFT_OUT = new Set([".globl", ".global"]);
@@ -197,7 +209,7 @@ const FORMS = [
 
 /** The instruction in place of one that other assemblers know, with the same operands; null if none can be told. */
 function instruction_for(word, operands) {
-  if (Object.hasOwn(OTHER_NAMES, word)) return `${OTHER_NAMES[word]} ${operands}`;
+  if (Object.hasOwn(OTHER_NAMES, word)) return `${OTHER_NAMES[word]} ${operands}`.trimEnd();
   if (LEFT_OUT.has(word)) return "";
   if (word === ".section") return SECTIONS.find(([it]) => it.test(operands))?.[1] ?? null;
   if (!Object.hasOwn(SWAPS, word)) return null;

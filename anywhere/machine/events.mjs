@@ -4,7 +4,9 @@
 import { EVENT } from "./machine.mjs";
 
 /** How many texts of events that keys have cut off are held, and kept with a run. */
-export const MOST_FUTURES = 8;
+export const MOST_FUTURES = 50;
+/** How many letters these texts have at most, but for the last. */
+export const MOST_CUT_OFF = 1 << 24;
 
 const LETTERS = { [EVENT.RUN]: "R", [EVENT.TICK]: "T", [EVENT.KEY]: "K", [EVENT.SEND]: "S" };
 const EVENTS = Object.fromEntries(Object.entries(LETTERS).map(([event, letter]) => [letter, Number(event)]));
@@ -30,6 +32,17 @@ export function spans_of(text) {
 
 /** The keys among the events of a run, by their text. */
 export const keys_in = (text) => [...text.matchAll(/K([0-9a-z]+)/g)].map(([, digits]) => parseInt(digits, 36));
+
+/** The text of the first events of a run, so many at most. */
+export function beginning_of(text, most) {
+  let left = most;
+  for (const { 1: letter, 2: digits, index } of text.matchAll(/([RTKS])([0-9a-z]*)/g)) {
+    const count = letter === "K" || !digits ? 1 : parseInt(digits, 36);
+    if (count > left) return text.slice(0, index) + (left ? text_of({ event: EVENTS[letter], count: left }) : "");
+    left -= count;
+  }
+  return text;
+}
 
 /** Bytes with room for so many more. */
 export function with_room(bytes, length, more) {

@@ -1,4 +1,4 @@
-// What stands beside a program of C for readers of its source, as programs/c/table.sh writes it: its functions, the
+// What stands beside a program of C for readers of its source, as xv_lines writes it: its functions, the
 // lines of its source, and how its calls lie on the stack.
 
 export const FUNCTION = 2; // of an ELF file: STT_FUNC

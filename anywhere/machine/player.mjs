@@ -2,7 +2,7 @@
 // typed in the past cuts off what came after it: that is a future, and can be taken back.
 import { EVENT } from "./machine.mjs";
 import { BreakPoints } from "./break_points.mjs";
-import { MOST_FUTURES, spans_of } from "./events.mjs";
+import { MOST_CUT_OFF, MOST_FUTURES, beginning_of, spans_of } from "./events.mjs";
 import { GONE, MOST_SOUGHT, Plan } from "./plan.mjs";
 import { step_back, step_forward } from "./steps.mjs";
 
@@ -10,12 +10,21 @@ const MOST_TO_STOP = 100000; // Runs of a piece of play, if each instruction is 
 const MOST_TO_END = 40 * MOST_SOUGHT; // events up to the end of a run
 const AT_CALL = "at a kernel call";
 
+/** Of futures the last ones, as many as are held. */
+function lasting(futures) {
+  let letters = 0;
+  const is_beyond = ({ text }, k) => (letters += text.length) > MOST_CUT_OFF && k < futures.length - 1;
+  return futures.slice(futures.findLastIndex(is_beyond) + 1).slice(-MOST_FUTURES);
+}
+
 export class Player {
   constructor(run) {
     this.run = run;
     this.plan = null;
     this.breaks = new BreakPoints(run);
-    this.futures = []; // {at, end, text}, in the order of their cuts; `text`: the events from there on
+    // Runs that this one has had: {at, end, from, text}, in the order in which they come back, the last one first. One
+    // is cut off at `at`, and goes to `end`; its events are this run's up to `from`, and `text` from there on.
+    this.futures = [];
   }
 
   /** Boots a machine of which nothing was played. Null, or the refusal: then the machine before stays. */
@@ -105,31 +114,40 @@ export class Player {
 
   /** The events from a place on, as they can be kept. */
   future_from(place) {
-    return { at: place, end: this.run.end, text: this.run.events.text_from(place) };
+    return { at: place, end: this.run.end, from: place, text: this.run.events.text_from(place) };
+  }
+
+  /** The futures, as they have to be kept if this run is about to change from a place on. */
+  futures_beside(place) {
+    const own = this.run.events.text_from(place);
+    const with_own = (it) => ({ ...it, from: place, text: beginning_of(own, it.from - place) + it.text });
+    return this.futures.map((it) => (it.from > place ? with_own(it) : it));
   }
 
   /** Cuts off what the record has beyond this place. */
   cut_off() {
-    this.futures = [...this.futures.slice(1 - MOST_FUTURES), this.future_from(this.run.at)];
+    const { at } = this.run;
+    this.futures = lasting([...this.futures_beside(at), this.future_from(at)]);
     this.run.cut();
     this.plan.find();
   }
 
   /**
-   * Takes the last cut back: the record goes on as it did, and the machine stands where it was cut. What came of the
-   * cut is a future in its place. False if there is no cut.
+   * Brings the last future back: the record goes on as it did, and the machine stands where it was cut. What was here
+   * comes back after all others. False if there is no future.
    */
   take_back() {
     const { run, plan } = this, future = this.futures.at(-1);
     if (!future) return false;
-    const typed = run.end > future.at ? [this.future_from(future.at)] : [];
+    const { at, from, text } = future, others = this.futures_beside(from).slice(0, -1);
+    const left = run.end > from ? [{ ...this.future_from(from), at: Math.min(at, run.end) }] : [];
     plan.keys = [];
-    run.go(future.at);
+    run.go(from);
     run.cut();
-    run.send_spans(spans_of(future.text));
-    this.futures = [...this.futures.slice(0, -1), ...typed];
+    run.send_spans(spans_of(text));
+    this.futures = [...left, ...others];
     plan.find();
-    run.go(future.at);
+    run.go(at);
     return true;
   }
 }

@@ -70,7 +70,7 @@ function row_of({ sp, s0, ra_at, s0_at }) {
 
 /**
  * The rows of a function whose instructions are `size` bytes from a place of a section on: {offset, row}, where they
- * change, as programs/c/table.sh tells them.
+ * change, as xv_lines tells them.
  */
 export function frames_of(bytes, from, size) {
   const view = new DataView(bytes.buffer, bytes.byteOffset + from, size), states = new Map([[0, BEGIN]]), waiting = [0];

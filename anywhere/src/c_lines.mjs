@@ -1,4 +1,4 @@
-// The table of lines of a program that c_linker.mjs has linked, in the form that programs/c/table.sh writes: functions
+// The table of lines of a program that c_linker.mjs has linked, in the form that xv_lines writes: functions
 // and labels, the lines of the sources, and how calls lie on the stack. The compiler tells lines in stabs (GDB, "The
 // stabs representation"), from which they are read here; one that writes DWARF has the same in .debug_line.
 import { FUNCTION } from "../machine/line_tables.mjs";

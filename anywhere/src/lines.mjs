@@ -1,66 +1,35 @@
-// The lines of programs in C, for the programs that take --lines: from what the compiler left, by the host's readelf. A
-// FILE that has none, or that can't be read, gets none. Of assembler sources the programs themselves know the lines.
-import { spawnSync } from "node:child_process";
+// The lines of programs in C, for the programs that take --lines: of what the compiler left, by xv_lines, or of the table
+// that `xv --cc` leaves beside a program. A FILE that has none, or that can't be read, gets none. Of assembler sources
+// the programs themselves know the lines.
 import { existsSync, readFileSync, statSync } from "node:fs";
-import { rows_beside } from "./c_tables.mjs";
+import { read_table } from "../machine/line_tables.mjs";
+import { module_of, run } from "./program.mjs";
+import { HeldFile } from "./wasi.mjs";
 import { files_of } from "./words.mjs";
 
-const TOOLS = ["riscv64-unknown-elf-readelf", "riscv64-linux-gnu-readelf", "readelf"];
-const TABLE = "dev/lines";
-const MOST_TOLD = 1 << 30;
+const NAME = "xv_lines", TABLE = "dev/lines";
+const MOST_READ = 1 << 26;
 
-/** Whether a file has a section of lines, so that it is worth to ask readelf. */
-function has_lines(path) {
+/** The table of an ELF file's functions, lines and frames; nothing of a file that is none, or whose tables are damaged. */
+function told_of(path) {
+  const about = statSync(path), told = [];
+  if (!about.isFile() || about.size > MOST_READ) return "";
+  const streams = { input: new HeldFile(readFileSync(path)), output: (bytes) => told.push(bytes), errors: () => {} };
+  return run(module_of(NAME), NAME, [], streams) === 0 ? Buffer.concat(told).toString() : "";
+}
+
+/** What is known of a program, as `read_table` gives it: of its file for debuggers, of the table beside it, or of itself. */
+function table_beside(path) {
   try {
-    const about = statSync(path);
-    return about.isFile() && about.size <= MOST_TOLD && readFileSync(path).includes(".debug_line");
+    if (existsSync(`${path}.debug`)) return read_table(told_of(`${path}.debug`));
+    return read_table(existsSync(`${path}.lines`) ? readFileSync(`${path}.lines`, "utf8") : told_of(path));
   } catch {
-    return false;
+    return read_table("");
   }
 }
 
-/** The file that has what the compiler tells debuggers of a program. */
-const from = (path) => (existsSync(`${path}.debug`) ? `${path}.debug` : path);
-
-let tool;
-
-/** What readelf tells of a file, asked by these words; nothing if there is none. */
-function told_by_readelf(...words) {
-  for (const name of tool ? [tool] : TOOLS) {
-    const { error, stdout } = spawnSync(name, ["-W", ...words], {
-      maxBuffer: MOST_TOLD, stdio: ["ignore", "pipe", "ignore"],
-    });
-    if (error) continue;
-    tool = name;
-    return stdout.toString();
-  }
-  return "";
-}
-
-/** The names of the functions of an ELF file. */
-export function read_symbols(path) {
-  return told_by_readelf("--symbols", from(path)).split("\n").flatMap((row) => / FUNC .* (\S+)$/.exec(row)?.[1] ?? []);
-}
-
-/**
- * The rows of an ELF file: {address, line}. The sequences that readelf tells end by a row with -; one that begins at 0
- * behind the first is of a function that the linker left out.
- */
-function of_program(path) {
-  if (!has_lines(from(path))) return rows_beside(path);
-  const rows = [];
-  let sequence = [];
-  for (const told of told_by_readelf("--debug-dump=decodedline", from(path)).split("\n")) {
-    const [file, line, place] = told.trim().split(/\s+/);
-    if (!/^(\d+|-)$/.test(line) || !/^(0x[0-9a-f]+|0)$/.test(place)) continue;
-    const address = Number(place);
-    sequence.push({ address, line: line === "-" ? "" : `${file}:${line}` });
-    if (line !== "-") continue;
-    if (address > sequence[0].address && (sequence[0].address > 0 || rows.length === 0)) rows.push(...sequence);
-    sequence = [];
-  }
-  return rows;
-}
+/** The names of the functions of a program. */
+export const read_symbols = (path) => table_beside(path).names.filter((it) => !it.is_label).map((it) => it.name);
 
 /**
  * The table of the lines of the FILEs among the words: a row PLACE ADDRESS LINE for each address from which on
@@ -68,7 +37,7 @@ function of_program(path) {
  */
 function table_of(words) {
   const texts = files_of(words).map(String).flatMap((file, place) =>
-    (file.endsWith(".s") ? [] : of_program(file)).map(({ address, line }) => `${place} ${address} ${line}\n`));
+    (file.endsWith(".s") ? [] : table_beside(file).lines).map(({ address, line }) => `${place} ${address} ${line}\n`));
   return Buffer.from(texts.join(""));
 }
 

@@ -2,13 +2,13 @@
 // this process.
 import { setFlagsFromString } from "node:v8";
 import {
-  closeSync, constants, existsSync, fstatSync, lstatSync, openSync, readFileSync, realpathSync,
+  closeSync, constants, existsSync, fstatSync, ftruncateSync, lstatSync, openSync, readFileSync, realpathSync,
 } from "node:fs";
 import { join, resolve } from "node:path";
 import { fileURLToPath } from "node:url";
 import { isMainThread } from "node:worker_threads";
 import { read_into, rest, write_all } from "./streams.mjs";
-import { CHARACTERS, FOLDER, HeldFile, LINK, REGULAR_FILE, SOCKET, is_trap, run_module } from "./wasi.mjs";
+import { CHARACTERS, FOLDER, HeldFile, LINK, PlacedFile, REGULAR_FILE, SOCKET, is_trap, run_module } from "./wasi.mjs";
 
 const ANYWHERE = fileURLToPath(new URL("..", import.meta.url));
 const IS_WINDOWS = process.platform === "win32";
@@ -73,22 +73,29 @@ function told(about) {
   return { kind, size: about.size };
 }
 
-/** An open file of this host. */
-class HostFile {
+/** An open file of this host. In a plain one, `at` is the place that is read or written next. */
+class HostFile extends PlacedFile {
   constructor(path, { creates, excludes, empties, appends, reads, writes }) {
+    super();
     const { O_RDONLY, O_WRONLY, O_RDWR, O_CREAT, O_EXCL, O_TRUNC, O_APPEND } = constants;
     const way = writes ? (reads ? O_RDWR : O_WRONLY) : O_RDONLY;
     const flags = (creates && O_CREAT) | (excludes && O_EXCL) | (empties && O_TRUNC) | (appends && O_APPEND);
     this.fd = openSync(path, way | flags);
     Object.assign(this, told(fstatSync(this.fd)));
+    this.at = this.kind === REGULAR_FILE && !appends ? 0 : null;
   }
 
   read(room) {
-    return read_into(this.fd, room);
+    return this.passed(read_into(this.fd, room, this.at));
   }
 
   write(bytes) {
-    write_all(this.fd, bytes);
+    write_all(this.fd, bytes, this.at);
+    this.passed(bytes.length);
+  }
+
+  cut(size) {
+    ftruncateSync(this.fd, this.size = size);
   }
 
   close() {

@@ -21,16 +21,16 @@ function patiently(call) {
   }
 }
 
-/** Writes all bytes, or all of a text. */
-export function write_all(fd, what) {
-  const bytes = Buffer.from(what);
-  for (let at = 0; at < bytes.length; ) at += patiently(() => writeSync(fd, bytes, at));
+/** Writes all bytes, or all of a text, where the file stands, or from a place of it on. */
+export function write_all(fd, what, from = null) {
+  const bytes = Buffer.from(what), place = (at) => (from === null ? null : from + at);
+  for (let at = 0; at < bytes.length; ) at += patiently(() => writeSync(fd, bytes, at, bytes.length - at, place(at)));
 }
 
-/** Reads what is there, as far as there is room, and gives the number of bytes; 0 at the end. */
-export function read_into(fd, room) {
+/** Reads what is there, or from a place on, as far as there is room, and gives the number of bytes; 0 at the end. */
+export function read_into(fd, room, from = null) {
   try {
-    return patiently(() => readSync(fd, room, 0, room.length, null));
+    return patiently(() => readSync(fd, room, 0, room.length, from));
   } catch (error) {
     if (error.code === "EOF") return 0; // so Windows tells the end of a pipe
     throw error;

@@ -10,7 +10,7 @@ import { Keys } from "./keys.mjs";
 import { lines_of } from "./lines.mjs";
 import { module_of, run } from "./program.mjs";
 import { read_into, write_all } from "./streams.mjs";
-import { said, value_of } from "./words.mjs";
+import { options_of, parts_of, said, value_of } from "./words.mjs";
 
 const NAME = "xv_terminal";
 const ITSELF = fileURLToPath(new URL("../../xv.mjs", import.meta.url));
@@ -104,13 +104,15 @@ function attend(module, words, files) {
   });
 }
 
-/** Whether the record may be written: one that is there is written over only if the person at the terminal says so. */
-function may_record(words) {
-  const record = value_of(words, "--record");
-  if (!record || !existsSync(record) || statSync(record).size === 0) return true;
+/** The words; with --overwrite, if the person at the terminal says that a record may be written over. */
+function with_record(words) {
+  const record = value_of(words, "--record"), may = ({ name }) => name === "--overwrite";
+  if (!record || options_of(parts_of(words)).some(may)) return words;
+  if (!existsSync(record) || statSync(record).size === 0) return words;
   write_all(2, `${said("record-there", record).text} `);
-  const answer = Buffer.alloc(80);
-  return ["y", "yes"].includes(answer.subarray(0, read_into(0, answer)).toString().trim());
+  const answer = Buffer.alloc(80), count = read_into(0, answer);
+  if (["y", "yes"].includes(answer.subarray(0, count).toString().trim())) return ["--overwrite", ...words];
+  throw new Error(said("record-kept").text);
 }
 
 /** Runs the words at a terminal, and gives the exit status. Without one they are run as they are. */
@@ -118,9 +120,8 @@ export function at_terminal(words) {
   const module = module_of(NAME);
   const apart = isatty(1) && isatty(2) ? [] : ["--apart"];
   if (!isatty(0)) return run(module, NAME, [...apart, ...words]);
-  if (!may_record(words)) throw new Error(said("record-kept").text);
-  const { option, files } = lines_of(words);
-  return attend(module, ["--terminal", "--woken", ...option, ...apart, ...words], files);
+  const all = with_record(words), { option, files } = lines_of(words);
+  return attend(module, ["--terminal", "--woken", ...option, ...apart, ...all], files);
 }
 
 /**

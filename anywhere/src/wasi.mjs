@@ -41,13 +41,28 @@ class End {
 /** An error of a call, by the name that Node gives it. */
 const failure = (code) => Object.assign(new Error(code), { code, syscall: "wasi" });
 
+/** A file with a place, `at`, which is read or written next; null if its host keeps it. */
+export class PlacedFile {
+  seek(offset, whence) {
+    this.at = [0, this.at, this.size][whence] + offset;
+    return this.at;
+  }
+
+  /** So many bytes were read or written there. */
+  passed(count) {
+    if (this.at !== null) this.size = Math.max(this.size, this.at += count);
+    return count;
+  }
+}
+
 /**
  * A file that is held in memory. Its size is that of its bytes, if none is given. (Any file has `read(room)`, which
- * fills bytes and gives how many, `write(bytes)`, which takes all, its `kind` and `size`, and perhaps `seek` and
+ * fills bytes and gives how many, `write(bytes)`, which takes all, its `kind` and `size`, and perhaps `seek`, `cut` and
  * `close`.)
  */
-export class HeldFile {
+export class HeldFile extends PlacedFile {
   constructor(bytes = NOTHING, size = bytes.length) {
+    super();
     Object.assign(this, { kind: REGULAR_FILE, room: bytes, size, at: 0 });
   }
 
@@ -58,8 +73,7 @@ export class HeldFile {
   read(room) {
     const part = this.bytes.subarray(this.at, this.at + room.length);
     room.set(part);
-    this.at += part.length;
-    return part.length;
+    return this.passed(part.length);
   }
 
   write(bytes) {
@@ -70,13 +84,11 @@ export class HeldFile {
       this.room = more;
     }
     this.room.set(bytes, this.at);
-    this.at = end;
-    this.size = Math.max(this.size, end);
+    this.passed(bytes.length);
   }
 
-  seek(offset, whence) {
-    this.at = [0, this.at, this.size][whence] + offset;
-    return this.at;
+  cut(size) {
+    this.size = size;
   }
 }
 
@@ -206,9 +218,10 @@ class Host {
     this.put(got, parts.reduce((sum, bytes) => sum + bytes.length, 0));
   }
   fd_seek(fd, offset, whence, at) {
-    if (!this.file(fd).seek) return NO_SEEK;
+    if (!this.file(fd).seek || this.file(fd).at === null) return NO_SEEK;
     this.put_long(at, this.file(fd).seek(Number(offset), whence));
   }
+  fd_filestat_set_size(fd, size) { this.file(fd, "cut").cut(Number(size)); }
   fd_close(fd) {
     this.file(fd).close?.();
     if (fd >= FIRST_FOLDER + this.files.names.length) this.opened[fd] = null;

@@ -46,7 +46,7 @@ refused() {
 }
 
 tell_small() {
-    for name in sleep pingpong primes xargs modes; do
+    for name in sleep pingpong primes xargs modes pages; do
         "$root/programs/c/build.sh" $name.c || echo "$name isn't built"
     done
     run sleep 'sleep 3; sleep'
@@ -56,6 +56,12 @@ tell_small() {
     run xargs 'echo one two | xargs echo said'
     run xargs xargs
     run modes 'modes one; modes'
+    run pages pages
+    mv pages pages.first
+    "$root/programs/c/xvcc" -O1 -g pages.c -o pages || echo "pages isn't built"
+    run pages pages
+    "$root/programs/c/xvcc" -Os -c pages.c && "$root/programs/c/xvcc" --xv6 pages.o -o pages || echo "pages isn't built"
+    run pages pages
     refused "$root/programs/c/build.sh" find.c
     refused "$root/programs/c/build.sh" shapes.cpp
 }

@@ -7,9 +7,8 @@
 # PROGRAM is the debugger under its name, xv_debugger: without it, the one that is proved and built, or by XV_NODE=yes the
 # one that `node xv.mjs --debug` starts. --store writes the outputs anew: look at each line that changes.
 #
-# NAME.needs names a command of the host without which a session is left out, and the verdict says so: the lines of a
-# program in C come by readelf. data/letters has such a program, and its names and lines as programs/c/build.sh leaves
-# them (with CFLAGS='-g1', and prefix maps, so that no path of a host is in them).
+# data/letters has a program in C, and its names and lines as programs/c/build.sh leaves them (with CFLAGS='-g1', and prefix
+# maps, so that no path of a host is in them).
 set -u
 cd "$(dirname "$0")/../.." || exit 2
 . checks/programs.sh
@@ -29,13 +28,8 @@ scratch=$(mktemp -d) || exit 2
 trap 'rm -rf "$scratch"' EXIT
 count=0
 others=0
-without=
 for words in checks/debugger/*.words; do
     name=${words%.words}
-    if [ -e "$name.needs" ] && ! command -v "$(cat "$name.needs")" >/dev/null; then
-        without="$without ${name##*/} without $(cat "$name.needs");"
-        continue
-    fi
     # The words of the file are the program's.
     # shellcheck disable=SC2046
     debug $(cat "$name.args") <"$words" >"$scratch/out" 2>&1
@@ -49,7 +43,6 @@ for words in checks/debugger/*.words; do
         others=$((others + 1))
     fi
 done
-[ -z "$without" ] || echo "left out:$without"
 [ "$others" = 0 ] && echo "all $count sessions of the debugger are as they should be" && exit 0
 echo "$others of $count sessions of the debugger are others"
 exit 1

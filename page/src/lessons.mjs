@@ -395,11 +395,10 @@ function note_solved(lesson, question) {
 }
 
 /** Another tab has solved something too: both count. */
-function join_solved(name) {
+function join_solved(name, own) {
   if (name !== SOLVED) return;
-  const own = solved.size;
-  take_solved(kept(SOLVED));
-  if (own) keep(SOLVED, [...solved]);
+  for (const it of [kept(SOLVED), own]) take_solved(it);
+  keep(SOLVED, [...solved]);
 }
 
 /** The questions of a lesson that were solved, by their numbers. */

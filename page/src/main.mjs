@@ -88,6 +88,7 @@ function take_view(view) {
 
 /** Another machine: nothing of the one before is drawn any more. */
 function take_boot({ id, took }) {
+  if (app.view) tell("left");
   app.booted = { ...programs.booting(id), id, took };
   Object.assign(app, {
     view: null, line: new ThinnedRecord(), marks: new RunMarks(), events: new EventsText(), names: new LastNames(),
@@ -122,7 +123,7 @@ function heard({ data }) {
 
 /** The worker has failed at something: whoever waits for a machine hears of it too. */
 function worker_failed({ message, error }) {
-  programs.refuse(message);
+  programs.fail(message);
   problem(`The machine's worker has failed: ${message}`);
   console.error(error);
   tell("refused", message);
@@ -227,7 +228,7 @@ function begin() {
   if (is_embedded()) document.documentElement.dataset.embed = "yes";
   app.worker = new Worker(URL.createObjectURL(new Blob([DATA.worker], { type: "text/javascript" })));
   app.worker.onmessage = heard;
-  app.worker.onerror = (event) => { programs.refuse(event.message); console.error(event.message); };
+  app.worker.onerror = (event) => { programs.fail(event.message); console.error(event.message); };
   for (const [name, part] of Object.entries(PARTS)) start_part(name, part.start);
   kept_is_read = session.begin();
   tabs();

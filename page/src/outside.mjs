@@ -121,7 +121,8 @@ function file_of_run(it, what) {
 function future(it, what) {
   const { text: letters, count } = events(own(it, "text"), `${what} its events`);
   const at = whole(own(it, "at"), `${what} its place`, 0, MOST_EVENTS);
-  return { at, end: at + count, text: letters };
+  const from = if_there(own(it, "from"), at, (place) => whole(place, `${what} its beginning`, 0, at));
+  return { at: Math.min(at, from + count), end: from + count, from, text: letters };
 }
 
 /** The marks of a run, by which it is told where it differs. */

@@ -154,7 +154,7 @@ export function seen_now() {
  */
 export function short_place() {
   const { work, booted, view } = app, { example, machine } = work;
-  const name = example ?? Object.keys(DATA.examples).find((it) => work.name === `${it}, as a link has it`);
+  const name = example ?? Object.keys(DATA.examples).find((it) => work.name.startsWith(`${it}, as a link has it`));
   if (!name || !booted?.how.rounds || booted.work !== work.name || !view) return null;
   const shipped = shipped_files(name);
   const is_same = (it, own) => it.name === own.name && (it.text === undefined ? own.built_in : it.text === own.text);

@@ -8,8 +8,8 @@ import { is_c, is_c_program, is_elf, is_source } from "../../anywhere/machine/fi
 import { c_texts, is_compiled, program_of } from "./c_programs.mjs";
 import { MOST_BYTES, boot_words, files_refused, too_large } from "../../anywhere/machine/file_refusals.mjs";
 import {
-  add, bring_back, bytes_of_file, example_of, forget_work, is_changed, own_names, put, put_away, ship_anew, title_of,
-  touch, work_of,
+  add, bring_back, bytes_of_file, example_of, forget_work, is_changed, own_names, put_away, put_beside, ship_anew,
+  title_of, touch, work_of,
 } from "./works.mjs";
 import { counting } from "./breaks.mjs";
 import { problem } from "./messages.mjs";
@@ -196,9 +196,9 @@ export function open_again(work) {
   show_work();
 }
 
-/** Opens files that are no example, as a work of their own. */
-export function set_files(files, how = {}, name = "own") {
-  app.work = put(name, { files, how });
+/** Opens files that are no example, as a work of their own: one that has its name, and was changed, stays beside it. */
+export function set_files(files, how = {}, name = "own", breaks = []) {
+  app.work = put_beside(name, { files, how, breaks });
   show_work();
 }
 
@@ -283,6 +283,19 @@ export async function made_of(file, list = app.files) {
   return { ...file_of_source(file.name, text, made), from: file, text };
 }
 
+/** Keys go to the machine that was asked for last. */
+export function send_keys(bytes) {
+  const { sent } = [...bootings.values()].at(-1) ?? app.booted;
+  for (const it of bytes) sent.keys.push(it);
+  ask("keys", { bytes: [...bytes] });
+}
+
+/** The keys that the machine hasn't got yet: those that wait for room, and those that are on their way. */
+export function keys_that_wait() {
+  const { keys, given } = app.booted.sent, { waits, typed } = app.view;
+  return keys.slice(Math.max(0, given + typed - waits));
+}
+
 let boots = 0;
 const bootings = new Map(); // machines that are to be booted, by the numbers of their boots
 export function booting(id) {
@@ -298,20 +311,41 @@ export function refuse(words) {
   $("mistake").className = "bad";
 }
 
-/** Asks for a machine of files: to boot it, or to play a record of it. */
+/** Asks for a machine of files, to boot it, or to play a record of it; tells the number of this boot. */
 export function begin(what, { files, config, how, ...more }) {
   const id = ++boots;
-  const booted = { files, config, how, work: app.work.name, symbols: files.map((it) => it.symbols) };
+  const keys = more.keys ?? [], sent = { keys: [...keys], given: keys.length };
+  const booted = { files, config, how, work: app.work.name, symbols: files.map((it) => it.symbols), sent };
   bootings.set(id, booted);
   ask(what, {
     id, config, how, files: files.map(({ name, bytes }) => ({ name, bytes })), breaks: counting(booted), ...more,
   });
+  return id;
+}
+
+const replays = new Map(); // who waits for a record to be played, by the numbers of the boots
+
+/** Plays a record; tells the number of its boot, or null if it isn't played. */
+export const replay = (asked) => new Promise((done) => { replays.set(begin("replay", asked), done); });
+
+function replay_is_over(id, told) {
+  replays.get(id)?.(told);
+  replays.delete(id);
+}
+
+/** The worker has failed: no record that somebody waits for is played any more. */
+export function fail(words) {
+  refuse(words);
+  for (const id of [...replays.keys()]) replay_is_over(id, null);
 }
 
 /** A boot that the kernel refuses: the machine before stays. */
 export function refused({ id, refusal }) {
-  const { config } = booting(id), words = boot_words(refusal, config);
+  const { config, sent } = booting(id), words = boot_words(refusal, config);
+  // What was typed since goes to the machine that stays.
+  app.booted?.sent.keys.push(...sent.keys.slice(sent.given));
   refuse(`boot: ${words}`);
+  replay_is_over(id, null);
   tell("refused", words);
 }
 
@@ -359,7 +393,6 @@ export async function made_of_all(list, beside = []) {
  */
 export async function boot({ play = true, files = app.files, machine = app.work.machine } = {}) {
   const made = await made_of_all(files);
-  if (made) tell("leave");
   if (made) begin("boot", { files: made, ...meant(machine), play });
   else tell("refused", $("mistake").textContent);
   return made !== null;
@@ -427,6 +460,7 @@ export function start() {
   }
   on("touched", show_works);
   on("marked", show_files);
+  on("replayed", ({ id }) => replay_is_over(id, id));
   on("opened", (file) => { app.work.shown = file.name; });
   on("change source", change_source);
   on("assembled", (it) => { const done = waiting.get(it.id); if (done) { waiting.delete(it.id); done(it); } });

@@ -5,7 +5,8 @@
 import { $, app, ask, on, say, tell } from "./app.mjs";
 import { grouped } from "../../anywhere/machine/number_words.mjs";
 import {
-  all_runs, change_run, delete_run, keep_here, keep_run, kept_here, kept_state, load, new_id, on_state,
+  all_runs, change_run, delete_run, keep_here, keep_run, kept_here, kept_state, lay_aside, load, new_id, on_again,
+  on_state, owner, take_run,
 } from "./browser_storage.mjs";
 import { flush, title_of, unpacked_file } from "./works.mjs";
 import { keys_in } from "../../anywhere/machine/events.mjs";
@@ -17,18 +18,18 @@ import * as programs from "./programs.mjs";
 import { is_booted, is_slide } from "./place_links.mjs";
 import { KIND } from "../../anywhere/machine/machine.mjs";
 import { problem } from "./messages.mjs";
-import { shown_of } from "./outside.mjs";
+import { MOST_EVENTS, shown_of } from "./outside.mjs";
 
 const SETTLE = 600; // ms after a change, until it is kept
-const MOST_HERE = 1 << 20; // letters that a tab keeps for itself as it goes
+const LATEST = 10000; // ms after a change, until it is kept while the machine computes
 const TABS = [
   "tab-programs", "tab-lessons", "tab-instruction", "tab-pages", "tab-translate", "tab-opened", "tab-happened",
   "tab-why",
 ];
-const owner = new_id(); // of the runs that this tab goes on with
 // The run that is shown; is_own: something was typed in it; of_link: a link has led to it.
 let current = { id: new_id(), is_own: false, of_link: false };
-let timer = 0, is_restored = false, is_opening = false;
+let timer = 0, is_restored = false;
+let openings = 0; // runs that are being opened
 
 /** What is shown, as it is kept: `run` is null if it is too long to be played again; then `length` tells its length. */
 function shown_now() {
@@ -52,8 +53,12 @@ function picture_now() {
   return { ran, faults: [...new Set(faults.map((it) => Math.floor((it.at * COLUMNS) / end)))].slice(0, COLUMNS) };
 }
 
+/** Whether something was typed into the machine since it was booted, or since its run was taken away. */
+const is_typed = () => app.booted.sent.keys.length > Math.max(app.booted.sent.given, current.from ?? 0);
+
 /** The record of the run that is shown. */
 function record_now() {
+  current.is_own ||= is_typed();
   const { id, is_own, of_link } = current;
   return { ...shown_now(), id, owner, is_own, of_link, when: Date.now() };
 }
@@ -63,37 +68,45 @@ let keeping = Promise.resolve(); // what is kept is kept one after another
 /** Keeps it as it is now. */
 function keep_now() {
   clearTimeout(timer);
-  timer = 0;
-  if (!is_restored || !app.view || is_slide()) return keeping;
+  timer = changed_at = 0;
+  if (is_slide()) return keeping;
   flush();
-  if (is_opening) { keep_soon(); return keeping; }
+  if (openings) keep_soon(); else keep_shown();
+  return keeping;
+}
+
+/** Keeps the run that is shown. */
+function keep_shown() {
+  if (!is_restored || !app.view || is_slide()) return;
   const run = current, record = record_now();
   keeping = keeping.then(() => keep_record(run, record));
-  return keeping;
 }
 
 /** Keeps a record of a run. If another tab has gone on with the run, what is here is a run of its own from now on. */
 async function keep_record(run, record) {
   const { id } = run, kept_as = await keep_run({ ...record, id });
   run.id = kept_as;
-  if (run === current) keep_here("run", { id: kept_as });
+  if (run === current) keep_here("run", { id: kept_as, owner });
   if (kept_as !== id) say("Another tab goes on with this run too: each tab keeps its own from here on.");
 }
 
-/** The page goes: what the database may have no time for any more, the tab keeps for itself. */
+/** The page goes: what the database may have no time for any more is laid aside. */
 function keep_as_it_goes() {
   keep_now();
-  if (!is_restored || !app.view || is_slide() || is_opening) return;
-  const record = record_now(), is_short = (record.run?.events.length ?? 0) < MOST_HERE;
-  keep_here("last", is_short ? record : null);
+  const is_shown = is_restored && app.view && !is_slide() && !openings;
+  lay_aside(is_shown ? record_now() : null);
 }
 
-/** Keeps it soon: when the machine waits or stands, since a long record takes some milliseconds. */
+let changed_at = 0; // when something was changed that isn't kept yet
+
+/** Keeps it soon: when the machine waits or stands, as a long record takes some milliseconds; or some seconds later. */
 function keep_soon() {
   if (timer) return;
+  changed_at ||= Date.now();
   timer = setTimeout(() => {
     timer = 0;
-    if (app.view?.playing && app.view.facts.current) keep_soon(); else keep_now();
+    const computes = app.view?.playing && app.view.facts.current;
+    if (computes && Date.now() - changed_at < LATEST) keep_soon(); else keep_now();
   }, SETTLE);
 }
 
@@ -110,15 +123,14 @@ export async function begin() {
   not_kept_since = await load();
   tell("read");
   on_state(show_state);
+  on_again(keep_soon);
   show_state(kept_state());
 }
 
 /** The records of which one may be shown, in this order: after a reload this tab's own, else the last shown. */
 async function candidates() {
-  const here = kept_here("run")?.id, last = kept_here("last"), all = await all_runs();
-  const newest = all.map((it) => (last && last.id === it.id && last.when > it.when ? last : it));
-  if (last && !all.some((it) => it.id === last.id)) newest.push(last);
-  const own = newest.filter((it) => it.id === here), shown = newest.filter((it) => it.is_own || !it.of_link);
+  const here = kept_here("run")?.id, all = await all_runs();
+  const own = all.filter((it) => it.id === here), shown = all.filter((it) => it.is_own || !it.of_link);
   const is_reload = performance.getEntriesByType("navigation")[0]?.type !== "navigate";
   return is_reload ? [...own, ...shown] : [...shown, ...own];
 }
@@ -151,18 +163,20 @@ async function open_record(record, is_first) {
     show_tabs(told.tabs);
     lessons.open_kept(told.lesson);
   }
-  is_opening = true;
+  openings++;
   try {
     const played = run && (await play_again(run));
+    if (played?.is_left) return true;
     if (played) {
       if (played.differs) go_on_anew(record); else go_on_with(record);
       if (told.beside) show_beside(told.beside.pids, told.beside.memory);
+      tell_beginning(told);
       say(`Here is ${not_kept_since ? "what was kept" : "what you had"}: ${words_of_place(run)}.`);
       tell_lost();
       return true;
     }
   } finally {
-    is_opening = false;
+    openings--;
   }
   if (!is_first) return false;
   if (!(await is_booted(() => programs.boot()))) return false;
@@ -171,16 +185,26 @@ async function open_record(record, is_first) {
 }
 
 /** What is typed from now on is of this record's run. */
-function go_on_with({ id, is_own, of_link }) {
-  current = { id, is_own: is_own === true, of_link: of_link === true };
-  keep_here("run", { id });
-  change_run(id, { owner });
+function go_on_with(record) {
+  const { id, is_own, of_link } = record, run = { id, is_own: is_own === true, of_link: of_link === true };
+  current = run;
+  keep_here("run", { id, owner });
+  keeping = keeping.then(async () => {
+    run.id = await take_run(record);
+    if (run === current) keep_here("run", { id: run.id, owner });
+  });
 }
 
 /** A run that differs here is one of its own from now on: that which was kept stays as it is. */
-function go_on_anew({ is_own, of_link }) {
-  current = { id: new_id(), is_own: is_own === true, of_link: of_link === true };
-  keep_here("run", { id: current.id });
+function go_on_anew(record) {
+  go_on_with({ ...record, id: new_id() });
+}
+
+/** Of a run that is too long to be played again the beginning is here, which is said. */
+function tell_beginning({ run, length }) {
+  if (run.end < MOST_EVENTS || length <= run.end) return;
+  const here = `here is its beginning, ${grouped(run.end)} events`;
+  problem(`The run has ${grouped(length)} events, more than are kept: ${here}.`);
 }
 
 /** If not all of the last time was kept, that is said. */
@@ -206,10 +230,15 @@ const MARKS = {
   false: ["⚠ not kept", "Not all is kept: a click says what to do"],
 };
 
+/** Whoever leaves while not all is kept is asked first. */
+const ask_first = (event) => { if (!is_slide()) event.preventDefault(); };
+
 /** The lasting mark. */
 function show_state({ is_kept, why, since }) {
   const [words, title] = MARKS[is_kept], mark = $("kept");
   if (mark.textContent === words) return;
+  // (While it isn't needed it is away: some browsers hold no page for the way back that has it.)
+  if (is_kept) removeEventListener("beforeunload", ask_first); else addEventListener("beforeunload", ask_first);
   Object.assign(mark, { textContent: words, title });
   mark.classList.toggle("not-kept", !is_kept);
   if (is_kept) return;
@@ -227,8 +256,6 @@ export const is_current = ({ id }) => id === current.id;
 
 /** Opens a run of the list; that which is left stays in it. */
 export async function open_run(record) {
-  await keep_now();
-  leave();
   const before = app.work;
   let why = "a file of it is gone, or is refused here";
   try { if (await open_record(record, false)) return true; } catch (error) { why = error.message; }
@@ -237,29 +264,39 @@ export async function open_run(record) {
   return false;
 }
 
-export const name_run = (record, name) => change_run(record.id, { name });
+/** A run that has a name is kept as one in which something was typed: no other takes its place. */
+export function name_run(record, name) {
+  if (is_current(record)) current.is_own = true;
+  return change_run(record.id, { name, is_own: true });
+}
 
 /** Takes a run away for good. */
 export async function take_run_away(record) {
-  await delete_run(record.id);
-  if (is_current(record)) current = { id: new_id(), is_own: false, of_link: current.of_link };
+  await delete_run(record);
+  const from = app.booted?.sent.keys.length;
+  if (is_current(record)) current = { id: new_id(), is_own: false, of_link: current.of_link, from };
   keep_soon();
 }
 
-/** A machine was booted: a run begins, unless one was opened. A run in which nothing was typed makes room for it. */
+/** Another machine is booted: all of the run that is left is kept, with the keys that came last. */
+function leave() {
+  keep_shown();
+  note_run_before();
+}
+
+/** A machine was booted: a run begins. A run in which nothing was typed makes room for it, unless one is opened. */
 function new_run() {
-  if (is_opening) return;
-  const of_link = document.documentElement.dataset.place === "coming";
-  current = { id: current.is_own ? new_id() : current.id, is_own: false, of_link };
+  const of_link = document.documentElement.dataset.place === "coming", is_over = current.is_own || openings > 0;
+  current = { id: is_over ? new_id() : current.id, is_own: false, of_link };
 }
 
 // ---- the run before
 
 let before = null; // the run that the last boot has ended, if keys were typed in it: {work, run}
 
-/** Notes the run that is left: what was typed in it isn't lost. */
-function leave() {
-  if (!keys_in(app.events.all()).length) return;
+/** Notes the run that is left, if something was typed in it. */
+function note_run_before() {
+  if (!is_typed() && !keys_in(app.events.all()).length) return;
   const run = run_now(true);
   if (run) before = { work: app.booted.work, run: { ...run, plays: false }, record: current };
   offer();
@@ -274,21 +311,19 @@ function offer() {
 /** Goes back to the run before; that which is left is the run before then. */
 async function back_to_run_before() {
   const { work, run, record } = before;
-  before = null;
-  leave();
   programs.open_work(work);
-  is_opening = true;
+  openings++;
   const played = await play_again(run);
-  is_opening = false;
+  openings--;
+  if (played?.is_left) return;
   if (played) go_on_with(record); else say("The run before can't be played again.");
-  offer();
 }
 
 export function start() {
   $("run-before").addEventListener("click", back_to_run_before);
-  on("leave", () => { keep_now(); leave(); });
+  on("left", leave);
   on("booted", new_run);
-  on("typed", () => { current.is_own = true; });
+  on("renamed", ({ from, to }) => { if (before?.work === from) before.work = to; });
   on("view", () => { is_restored = true; });
   const changes = ["booted", "typed", "stops", "work", "tab", "touched", "edited", "opened", "lesson"];
   for (const it of changes) on(it, keep_soon);

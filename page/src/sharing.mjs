@@ -2,8 +2,8 @@
 import { $, app, ask, base64, element, once, say, tell } from "./app.mjs";
 import { grouped } from "../../anywhere/machine/number_words.mjs";
 import { RECORD_BEGINNING, read_record, record_text } from "../../anywhere/machine/record_text.mjs";
-import { spans_of } from "../../anywhere/machine/events.mjs";
-import { bytes_of_file, packed_file, touch, unpacked_file, work_of } from "./works.mjs";
+import { beginning_of, spans_of } from "../../anywhere/machine/events.mjs";
+import { bytes_of_file, packed_file, touch, unpacked_file } from "./works.mjs";
 import { problem } from "./messages.mjs";
 import { MOST_EVENTS, Refusal, SLIDES_BEGINNING, shared_of, unpacked_value } from "./outside.mjs";
 import { arrive, follow_place, is_booted, is_slide, read_link, seen_now, short_place } from "./place_links.mjs";
@@ -23,11 +23,13 @@ const MOST_MARKS = 200000, MARKS_OF_LINK = 64; // of a run, by which another rel
 
 /**
  * The run of the machine, up to where its record goes: its files, settings and events, and the place; null if there is
- * none, or it is too long. `is_whole`: with all its files, also those of the list.
+ * none, or it is too long for a link. `is_whole`: with all its files, also those of the list; of a run that is too long
+ * to be played again its beginning.
  */
 export function run_now(is_whole = false) {
-  const { booted, view, events } = app;
-  if (!booted || !view || view.end > MOST_EVENTS || view.stretches > MOST_STRETCHES) return null;
+  const { booted, view, events } = app, is_long = view?.end > MOST_EVENTS;
+  if (!booted || !view || (!is_whole && (is_long || view.stretches > MOST_STRETCHES))) return null;
+  const end = Math.min(view.end, MOST_EVENTS), text = events.all();
   // A file that was edited since is not what the machine has.
   const files = booted.files.map(({ name, from, text }) => {
     const place = app.files.indexOf(from);
@@ -36,9 +38,10 @@ export function run_now(is_whole = false) {
   });
   return {
     built: DATA.built + sum_of_machine(booted.files), beside: booted.files.beside, files, frames: booted.config.frames,
-    how: booted.how, events: events.all(), end: view.end,
-    stretches: view.stretches, at: view.at, keys: view.waiting_keys ?? [], futures: app.cut_off, plays: view.playing,
-    marks: app.marks.text(is_whole ? MOST_MARKS : MARKS_OF_LINK, view.end),
+    how: booted.how, events: is_long ? beginning_of(text, end) : text, end,
+    stretches: view.stretches, at: Math.min(view.at, end), keys: is_long ? [] : programs.keys_that_wait(),
+    futures: app.cut_off.filter((it) => it.end <= MOST_EVENTS), plays: view.playing && !is_long,
+    marks: app.marks.text(is_whole ? MOST_MARKS : MARKS_OF_LINK, end),
   };
 }
 
@@ -73,7 +76,7 @@ function tells_difference({ built, marks }) {
 
 /**
  * Plays a kept run again, on the files of the work that is open; null if it can't be played. Else tells whether it
- * differs from what came of it before, which is said.
+ * differs from what came of it before, which is said, and whether another machine was booted meanwhile.
  */
 export async function play_again(run) {
   const named = files_of_run(run);
@@ -84,12 +87,12 @@ export async function play_again(run) {
   const files = await programs.made_of_all(named.map((it) => it.from), run.beside);
   if (!files) return null;
   named.forEach((it, k) => { files[k].name = it.name; });
-  const replayed = once("replayed", "refused"), spans = spans_of(run.events), config = { frames: run.frames, trace: 0 };
+  const spans = spans_of(run.events), config = { frames: run.frames, trace: 0 };
   const { how, at, keys, futures, plays: play } = run;
-  programs.begin("replay", { files, config, how, spans, at, keys, futures, play });
-  if ((await replayed).name !== "replayed") return null;
+  const id = await programs.replay({ files, config, how, spans, at, keys, futures, play });
+  if (id === null) return null;
   if (!app.view) await once("view");
-  return { differs: tells_difference(run) };
+  return app.booted.id === id ? { differs: tells_difference(run) } : { differs: false, is_left: true };
 }
 
 // ---- a link
@@ -125,15 +128,8 @@ const of_packed = (text) => `${page_address()}#run=${text}`;
 /** A link that has all that is shared. */
 export const link = async () => of_packed(await packed(shared()));
 
-/** A name for the work of what is shared: the same for the same, if that wasn't changed since. */
-async function name_of(text) {
-  const first = `link ${(await sum_of(new TextEncoder().encode(text.trim()))).slice(0, 6)}`;
-  let name = first;
-  for (let k = 2; work_of(name)?.files.some((file) => file.changed) || work_of(name)?.gone.length; k++) {
-    name = `${first}, ${k}`;
-  }
-  return name;
-}
+/** A name for the work of what is shared: the same for the same. */
+const name_of = async (text) => `link ${(await sum_of(new TextEncoder().encode(text.trim()))).slice(0, 6)}`;
 
 /**
  * The files of a work that are those of what was shared; it throws if the page hasn't a program of its own that is
@@ -148,8 +144,7 @@ function files_of_shared({ files }) {
 /** Opens what a link or a file has, as a work of its own; false if no machine is booted of it. */
 async function open(packed_text) {
   const it = shared_of(await unpacked_value(packed_text)), files = files_of_shared(it);
-  programs.set_files(files, it, await name_of(packed_text));
-  app.work.breaks = it.breaks;
+  programs.set_files(files, it, await name_of(packed_text), it.breaks);
   touch();
   if (it.run && (await play_again({ ...it.run, plays: false }))) {
     say(`Here is the run that was shared, at event ${grouped(it.run.at)} of ${grouped(it.run.end)}.`);

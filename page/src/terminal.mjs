@@ -1,5 +1,6 @@
 // The terminal: what the console shows, and keys for it.
 import { $, app, ask, element, on, tell, say, write } from "./app.mjs";
+import { send_keys } from "./programs.mjs";
 
 const MOST_LINES = 3000, MOST_HEARD = 30;
 const PAUSE = 4000, MOST_AT_ONCE = 8; // ms between what is read out while the machine computes, and lines of it
@@ -91,7 +92,7 @@ function tell_lines() {
 /** Types bytes into the machine. */
 export function type(bytes) {
   if (!app.booted) return;
-  ask("keys", { bytes: [...bytes] });
+  send_keys(bytes);
   tell("typed", bytes);
   if (!app.view?.playing) tell("play");
 }

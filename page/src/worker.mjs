@@ -20,7 +20,6 @@ const SLICE = 14; // ms of play between two looks at the messages: less than a f
 const WHOLE = 90; // ms between two views with the processes and what the panels show, while the machine plays
 const WHOLE_REST = 4; // and at least so many times as long as such a view takes to be made
 const PIECE = 200000; // Runs between two looks at the clock
-const MOST_WAITING = 20000; // keys that wait, of which the page is told
 const ASKED = 60; // ms that the page's questions about events may take, before other messages are heard
 const EVENTS_AT_ONCE = 4; // events that are looked at from one copy of the machine
 // Stretches round a place of which the page is told, and of a part that it shows.
@@ -30,6 +29,7 @@ const MOST_ENDED = 4; // processes as they ended, of which is known what was tol
 const PANELS_BESIDE = { instruction: true };
 
 let machine = null, run = null, player = null;
+let typed = 0; // the bytes that were typed into this machine
 let settings = { rounds: false, quantum: 1000, speed: 0 };
 let playing = false, timer = 0, turn = 0, next_tick = 0, owed = 0, slice_from = 0;
 let wanted = {
@@ -155,9 +155,9 @@ function beside_of(pid, memory, list) {
 
 /** What a whole view has beside: the processes, and what the panels show. */
 function whole(current) {
-  const { panels } = wanted, list = processes(), { plan, futures } = player;
+  const { panels } = wanted, list = processes(), { futures } = player;
   const told = {
-    processes: list, current, waiting_keys: plan.keys.slice(0, MOST_WAITING),
+    processes: list, current,
     futures: futures.map(({ at, end }) => ({ at, count: end - at })), ...of_process(current, list),
   };
   if (panels.files) told.files = files_of(machine, list);
@@ -171,6 +171,7 @@ function view() {
   if (!run || !run.booted) return;
   const began = performance.now(), facts = machine.facts(), { at, end, edits } = run;
   const told = { at, end, facts, program: run.program_of(facts.current), playing, stopped, edits, ...news() };
+  Object.assign(told, { typed, waits: player.plan.keys.length });
   if (!playing || told.anew || began >= next_whole) {
     told.whole = whole(facts.current);
     if (run.faults.length !== wanted.faults) told.faults = faults_told(run);
@@ -342,6 +343,7 @@ function boot({ id, how = {}, breaks = [], ...asked }) {
   Object.assign(wanted, { edits: -1, pid: 1 });
   settings = order;
   stopped = "";
+  typed = 0;
   postMessage({ booted: { id, took: performance.now() - before } });
   return true;
 }
@@ -370,6 +372,7 @@ const obey = {
   keys({ bytes }) {
     if (!run || !run.booted) return;
     player.type(bytes);
+    typed += bytes.length;
     if (playing) { no_more(); play(); } else view();
   },
   take_back() {
@@ -447,7 +450,7 @@ const obey = {
     player.play_spans(spans, keys);
     player.futures = futures;
     if (at !== null) run.go(at);
-    postMessage({ replayed: { end: run.end, stretches: run.line.length, shown: run.shown.length } });
+    postMessage({ replayed: { id: asked.id, end: run.end, stretches: run.line.length, shown: run.shown.length } });
     if (plays) begin_play();
     view();
   },

@@ -6,7 +6,7 @@ import { problem } from "./messages.mjs";
 import { entry, work_of_kept } from "./outside.mjs";
 
 const DATA = globalThis.PAGE_DATA;
-const MOST_GONE = 12; // files that were taken away, and may be brought back
+const MOST_GONE = 50; // files that were taken away, and may be brought back
 const SETTLE = 300; // ms after the last change, until it is kept
 const opened = new Map(); // the works that were opened since the page began, by their names
 
@@ -19,6 +19,8 @@ export function packed_file(file) {
     : { base64: (file.base64 ??= base64.to(file.bytes)) };
   return { name, ...what, ...(changed ? { changed } : {}), ...(stops?.length ? { stops } : {}) };
 }
+
+const packed_break = ({ kind, name, program, ...switched }) => ({ kind, name, program, ...switched });
 
 /** The file of what was kept; null where the page has it no more. */
 export function unpacked_file(it) {
@@ -47,6 +49,14 @@ export const machine_of = ({ frames, rounds, quantum, keys }) => ({
 
 // ---- opening
 
+const unread = new Set(); // the names of works that are kept and can't be read
+
+/** A work that can't be read stays, under another name, when one of its name is kept: a later page may read it. */
+function lay_unread_aside(name) {
+  if (!unread.delete(name)) return;
+  keep(`unread ${Date.now()} work ${name}`, kept(`work ${name}`));
+}
+
 /** The work that was kept under a name; null if there is none, or none that can be read, which is said. */
 function unpacked(name) {
   const it = kept(`work ${name}`);
@@ -56,6 +66,7 @@ function unpacked(name) {
     const work = work_of_kept(it), example = example_of(work.example) ? work.example : null;
     return { ...work, name, example, files: there(work.files), gone: there(work.gone), is_touched: true };
   } catch (error) {
+    unread.add(name);
     problem(`What the browser kept of ${name} can't be read, and stands as it is: ${error.message}.`);
     return null;
   }
@@ -66,6 +77,23 @@ export function put(name, { title = name, files, how = {}, example = null, break
   const work = { name, title, example, how, files, machine: machine_of(how), breaks, gone: [], is_touched: false };
   opened.set(name, work);
   return work;
+}
+
+/** All that can be changed of a work, as a text. */
+const told_of = ({ files, machine, breaks, gone }) => (
+  JSON.stringify([files.map(packed_file), machine, breaks.map(packed_break), gone.map(packed_file)])
+);
+
+/** Makes a work of a name; if another one was changed under it, of the first of NAME, 2; NAME, 3; .. that is free. */
+export function put_beside(name, { files, how = {}, breaks = [] }) {
+  const wanted = told_of({ files, machine: machine_of(how), breaks, gone: [] });
+  const is_taken = (it) => {
+    const there = work_of(it, null);
+    return there ? there.is_touched && told_of(there) !== wanted : unread.has(it);
+  };
+  let own = name;
+  for (let k = 2; is_taken(own); k++) own = `${name}, ${k}`;
+  return put(own, { files, how, breaks });
 }
 
 const of_example = (name) => () => ({ title: name, files: shipped_files(name), how: example_of(name), example: name });
@@ -101,11 +129,11 @@ const waiting = new Set();
 export function flush() {
   clearTimeout(timer);
   for (const work of waiting) {
+    lay_unread_aside(work.name);
     const { title, example, how, files, machine, breaks, gone } = work;
     keep(`work ${work.name}`, {
       title, example, how: plain(how), files: files.map(packed_file), machine,
-      breaks: breaks.map(({ kind, name, program, ...switched }) => ({ kind, name, program, ...switched })),
-      gone: gone.map(packed_file),
+      breaks: breaks.map(packed_break), gone: gone.map(packed_file),
     });
   }
   waiting.clear();
@@ -168,22 +196,37 @@ export function ship_anew() {
   forget(`work ${work.name}`);
 }
 
-/**
- * Another tab has changed the work that is open here too: from now on the one of this tab is kept under another name.
- */
-function part_from_other_tab(name) {
-  const { work } = app;
-  if (name !== `work ${work.name}` || !work.is_touched) return;
+/** The first of NAME 2, NAME 3, .. that no work has. */
+function free_name(title) {
+  const is_there = (it) => opened.has(it) || kept(`work ${it}`) !== null;
   let count = 2;
-  while (names_kept("work ").includes(`work ${work.title} ${count}`)) count++;
+  while (is_there(`${title} ${count}`)) count++;
+  return `${title} ${count}`;
+}
+
+/** A work of this page gets another name, and is kept under it. */
+function rename(work, name) {
   opened.delete(work.name);
-  const title = `${work.title} ${count}`;
-  Object.assign(work, { name: title, title });
-  opened.set(title, work);
+  if (app.booted?.work === work.name) app.booted.work = name;
+  tell("renamed", { from: work.name, to: name });
+  Object.assign(work, { name, title: name });
+  opened.set(name, work);
   waiting.add(work);
   flush();
-  say(`Another tab changes this work too. What you have here is now kept as ${title}.`);
   tell("touched", work);
+}
+
+/**
+ * Another tab has changed a work since this page has read it. What this page has changed of it is kept under another
+ * name from now on; `value` is that, as it was to be kept.
+ */
+function part_from_other_tab(kept_name, value) {
+  if (!kept_name.startsWith("work ") || value === null) return;
+  const name = kept_name.slice(5), work = opened.get(name), other = free_name(work?.title ?? value.title ?? name);
+  if (work?.is_touched) rename(work, other);
+  else keep(`work ${other}`, { ...value, title: other });
+  const words = `Another tab has changed ${name} too. What you have here is now kept as ${other}.`;
+  if (app.booted) say(words); else problem(words);
 }
 
 export function start() {

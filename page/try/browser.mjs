@@ -26,6 +26,7 @@ export async function open(url, { width = 1400, height = 900, dark = false, mobi
       const it = JSON.parse(buffer.slice(0, end));
       if (it.id) { waiting.get(it.id)(it); waiting.delete(it.id); }
       else if (it.method === "Target.attachedToTarget" && it.params.targetInfo.type === "worker") workers.push(it.params.sessionId);
+      else if (it.method === "Page.javascriptDialogOpening" && it.params.type === "beforeunload") send("Page.handleJavaScriptDialog", { accept: true }, it.sessionId).catch(() => {});
       else if (it.method === "Runtime.exceptionThrown") logs.push(it.params.exceptionDetails.exception?.description || it.params.exceptionDetails.text);
       else if (it.method === "Runtime.consoleAPICalled") logs.push(it.params.args.map((arg) => arg.value ?? arg.description).join(" "));
     }

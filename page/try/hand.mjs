@@ -1,5 +1,6 @@
 // What a student's hand does on a page that is driven by browser.mjs or firefox.mjs: choose, edit, boot, type, drop;
 // for the scripts beside it.
+export const PATIENCE = 120000, SETTLED = 1500; // ms: for a machine; and until what was done is kept
 export const text_of = (page, id) => page.eval(`document.getElementById('${id}').textContent`);
 export const source = (page) => page.eval("document.getElementById('source').value");
 export const message = (page) => text_of(page, "status");

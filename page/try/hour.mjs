@@ -1,16 +1,16 @@
 // hour.mjs PAGE.html FOLDER [SECONDS [SEED]]: a session of 200 actions in two tabs, with reloads, three links and a full
-// disk: commands, steps, keys in the past, edits, other examples, boots. After each reload, and at the end for each run
-// in which something was typed, the events and the console's bytes are those that there were, and so are the sources. It
-// takes so many seconds at least: 3600 make an hour. ACTIONS is how many actions there are, if not 200. The status is 1 if
-// something is lost.
+// disk: commands, steps, keys in the past, edits, other examples, boots. After each reload, which comes at once or later,
+// and at the end for each run in which something was typed, the events and the console's bytes are those that there were,
+// and so are the sources. It takes so many seconds at least: 3600 make an hour. ACTIONS is how many actions there are, if
+// not 200. The status is 1 if something is lost.
 import { mkdirSync } from "node:fs";
 import { pathToFileURL } from "node:url";
 import { spans_of } from "../../anywhere/machine/events.mjs";
-import { comes, edit, pause, type } from "./hand.mjs";
+import { PATIENCE, SETTLED, comes, edit, pause, type } from "./hand.mjs";
 const { open } = await import(process.env.BROWSER === "firefox" ? "./firefox.mjs" : "./browser.mjs");
 
 const [page_file, folder, seconds = "0", first_seed = "7"] = process.argv.slice(2), url = pathToFileURL(page_file).href;
-const ACTIONS = Number(process.env.ACTIONS ?? 200), PATIENCE = 120000, SETTLED = 1500; // ms: for a machine, and until what was done is kept
+const ACTIONS = Number(process.env.ACTIONS ?? 200);
 mkdirSync(folder, { recursive: true });
 let bad = 0, seed = Number(first_seed), done = 0, here = 0;
 const lost = (what) => { console.log(`NOT action ${done}, in tab ${here}: ${what}`); bad++; };
@@ -25,9 +25,21 @@ const page = await open(url, { width: 1300, height: 850 });
 const tabs = [{ now: null, is_typed: false }, { now: null, is_typed: false }], left = [], named = new Map();
 const own = () => tabs[here];
 
+/** Whether the machine stands, and has got all keys that were typed. */
+const AT_REST = "!page.app.view?.playing && page.app.booted.sent.keys.length === page.app.booted.sent.given + page.app.view.typed";
+
+/** All that was asked of the worker is done. */
+const ASKED_IS_DONE = "new Promise((done) => { const { app } = page, before = app.on_record; app.on_record = () => { app.on_record = before; done(true); }; page.ask('record'); })";
+
 async function stands() {
-  await pause(page);
-  await page.sleep(120);
+  for (let end = -1, k = 0; k < 100; k++) {
+    await page.eval(ASKED_IS_DONE);
+    await pause(page);
+    await page.sleep(120);
+    const now = await page.eval(`${AT_REST} ? page.app.view.end : -1`);
+    if (now >= 0 && now === end) break;
+    end = now;
+  }
   own().now = await page.eval(NOW);
 }
 
@@ -69,7 +81,7 @@ const ACTS = {
     await page.eval(`page.ask('go', { place: ${Math.floor(before.end * 0.7)} })`);
     await page.sleep(200);
     await type(page, "x");
-    await page.until(`page.app.cut_off.length > ${futures} || page.app.cut_off.length === 8`, PATIENCE);
+    await page.until(`page.app.cut_off.length > ${futures} || page.app.cut_off.length === 50`, PATIENCE);
     own().is_typed = true;
     if (random(2)) return;
     await stands();
@@ -90,7 +102,8 @@ const ACTS = {
   async example() { const name = one_of(["pipeline", "pages", "hang", "turns", "full"]); leaves(); await boots(`page.programs.choose('${name}'); page.programs.boot({ play: false })`); },
   async reload() {
     await stands();
-    await page.sleep(SETTLED);
+    // At once, in the middle of what is written; or later.
+    await page.sleep(one_of([0, 0, SETTLED]));
     const before = own().now;
     await page.eval("window.is_old = true; location.reload(); 0").catch(() => {});
     for (const end = Date.now() + PATIENCE; Date.now() < end; await page.sleep(100)) {
@@ -168,13 +181,20 @@ function plan() {
 
 const stored = () => page.eval("new Promise((done, fail) => { const asked = indexedDB.open('nektavoly'); asked.onsuccess = () => { const it = asked.result.transaction(['runs']).objectStore('runs').getAll(); it.onsuccess = () => done(it.result.map(({ id, work, run }) => ({ id, work, events: run?.events }))); it.onerror = () => fail(it.error); }; })");
 
+/** Of the kept runs of its work which ones begin as a run does, or whose beginning it is. */
+function beside(run, all) {
+  const of_work = all.filter((it) => it.work === run.work && it.events !== undefined);
+  const longer = of_work.filter((it) => begins(run.events, it.events)), shorter = of_work.filter((it) => begins(it.events, run.events));
+  return `${longer.length} kept runs go on from it, ${shorter.length} are its beginning`;
+}
+
 async function at_the_end() {
   for (const it of tabs) if (it.is_typed) left.push(it.now);
   await page.sleep(SETTLED);
   const all = await stored();
   for (const run of left) {
     const found = all.find((it) => it.work === run.work && it.events === run.events);
-    if (!found) { lost(`the run of ${words_of(run)} isn't kept`); continue; }
+    if (!found) { lost(`the run of ${words_of(run)} isn't kept: ${beside(run, all)}`); continue; }
     await page.eval(`new Promise((done) => { const asked = indexedDB.open('nektavoly'); asked.onsuccess = () => { const it = asked.result.transaction(['runs']).objectStore('runs').get(${JSON.stringify(found.id)}); it.onsuccess = async () => done(await page.session.open_run(it.result)); }; })`);
     await page.until("page.app.view", PATIENCE);
     await pause(page);

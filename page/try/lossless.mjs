@@ -189,6 +189,7 @@ async function bad_storage(page) {
     await page.go(`${url}?${Math.random()}`);
     holds(await comes(page, "page.app.view && page.app.booted"), `a run that can't be read, ${run}: a machine stands; ${(await page.eval("page.problems()")).join(" ").slice(0, 80)}`);
   }
+  await example(page, "shell");
   await in_store(page, "runs", "(all, it) => it.clear()");
   await in_store(page, "values", "(all, it) => { it.put({ name: 'work shell', version: '1', value: { files: 7 } }); it.put({ name: 'work __proto__', version: '1', value: 5 }); }");
   await page.eval("sessionStorage.clear()");

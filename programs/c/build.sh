@@ -6,6 +6,7 @@
 #   programs/c/build.sh --debug [NAME..]  leaves programs of src/ in ../debug, each with its names and lines beside it in
 #                                         NAME.debug, for debuggers. The programs of ../bin stay alone, since ../bin/* are FILEs
 #   programs/c/build.sh --tables          writes tables/NAME.lines for each program of ../bin: its functions and lines, for the page
+#   programs/c/build.sh --library FOLDER  leaves the library's objects in the folder, for programs of one's own: for xvcc
 #   programs/c/build.sh my.c ..    programs of your own, from any folder: my.c gives the program my beside it, and
 #                                  my.debug for debuggers, and my.lines for the page. What the compiler thinks strange is a
 #                                  warning, and no error
@@ -49,27 +50,26 @@ build_debug() {
 build_tables() {
     for name in $(names); do
         build_debug "$name" "$room"
-        "$here/table.sh" "$room/$name"
-        mv "$room/$name.lines" "$1/$name.lines"
+        "$here/../../bin/xv_lines" <"$room/$name.debug" >"$1/$name.lines"
     done
 }
 
-# Builds the library into the folder $room, for programs of one's own. Its functions are weak: a program may have one of the
+# Builds the library into the folder $1, for programs of one's own. Its functions are weak: a program may have one of the
 # same name, and that is taken then.
 build_library() {
     for source in $library; do
         # shellcheck disable=SC2086
         (cd "$here/lib" && "${tools}gcc" $target $language -Og -g -fno-builtin $plain $warnings ${CFLAGS-} -I. \
-            -c "$source" -o "$room/$source.o")
-        "${tools}objcopy" --weaken "$room/$source.o"
-        objects="$objects $room/$source.o"
+            -c "$source" -o "$1/$source.o")
+        "${tools}objcopy" --weaken "$1/$source.o"
+        objects="$objects $1/$source.o"
     done
 }
 
 # Builds the program of file $1 beside it. Its main need not say return.
 build_own() {
     [ -e "$1" ] || { echo "build.sh: there is no $1" >&2; return 1; }
-    [ -n "$objects" ] || build_library
+    [ -n "$objects" ] || build_library "$room"
     file=$(readlink -f -- "$1")
     program=${file%.c}
     # shellcheck disable=SC2086
@@ -77,7 +77,7 @@ build_own() {
         -o "$program" $objects "$file" -lgcc)
     "${tools}objcopy" --only-keep-debug "$program" "$program.debug"
     "${tools}strip" "$program"
-    "$here/table.sh" "$program"
+    "$here/../../bin/xv_lines" <"$program.debug" >"$program.lines"
 }
 
 names() {
@@ -108,6 +108,7 @@ objects=
 # shellcheck disable=SC2046
 [ $# -gt 0 ] || set -- $(names)
 [ "$1" = --check ] && { check; exit; }
+[ "$1" = --library ] && { build_library "$(readlink -f -- "$2")"; exit; }
 [ "$1" = --tables ] && { mkdir -p "$here/tables" && build_tables "$here/tables"; exit; }
 if [ "$1" = --debug ]; then
     shift

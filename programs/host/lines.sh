@@ -5,40 +5,29 @@
 #
 #   programs/host/lines.sh [OPTION..] FILE..
 #
-# The options are those of the programs that run FILEs: they are passed over. The lines come from FILE.debug or FILE
-# by readelf (Debian: binutils), or from FILE.lines, which xv --cc leaves. A FILE that has none gets no row, and so
-# does assembler source: the programs themselves know its lines.
+# The options are those of the programs that run FILEs: they are passed over. The lines come from FILE.debug, from
+# FILE.lines, which xv --cc leaves, or from FILE, by xv_lines. A FILE that has none gets no row,
+# and so does assembler source: the programs themselves know its lines.
 set -u
 here=$(dirname "$(readlink -f -- "$0")")
 . "$here/words.sh"
 
-# The first of the host's tools that knows the lines of a program; the last one tells none.
-for tool in riscv64-unknown-elf-readelf riscv64-linux-gnu-readelf readelf :; do
-    ! command -v "$tool" >/dev/null || break
-done
-
-# The rows of the ELF file $2, which is FILE $1. Its sequences of rows end by a row with -; one that begins at 0
-# behind the first is of a function that the linker left out.
-of_program() {
-    "$tool" -W --debug-dump=decodedline "$2" 2>/dev/null | PLACE=$1 awk '
-function hexadecimal(digits,    n, i) {
-    n = 0
-    for (i = 1; i <= length(digits); i++)
-        n = n * 16 + index("0123456789abcdef", tolower(substr(digits, i, 1))) - 1
-    return n
+# What is known of a program.
+table_of() {
+    if [ -e "$1.debug" ]; then "$here/../../bin/xv_lines" <"$1.debug"
+    elif [ -e "$1.lines" ]; then cat "$1.lines"
+    else "$here/../../bin/xv_lines" <"$1"; fi 2>/dev/null
 }
 
-$2 ~ /^([0-9]+|-)$/ && $3 ~ /^(0x[0-9a-f]+|0)$/ {
-    address = $3 == "0" ? 0 : hexadecimal(substr($3, 3))
-    if (count == 0) start = address
-    rows[count++] = sprintf("%d %s", address, $2 == "-" ? "" : $1 ":" $2)
-    if ($2 != "-") next
-    if (address > start && (start > 0 || !begun)) {
-        for (i = 0; i < count; i++) print ENVIRON["PLACE"], rows[i]
-        begun = 1
-    }
-    count = 0
-}'
+# Tells the rows of a table that are of lines.
+tell_rows() {
+    while read -r first rest; do
+        case $first,$rest in
+            file,*) file=$rest ;;
+            [0-9]*,0) printf '%s %s \n' "$place" "$first" ;;
+            [0-9]*) printf '%s %s %s:%s\n' "$place" "$first" "$file" "$rest" ;;
+        esac
+    done
 }
 
 # Tells the lines of a FILE among the words.
@@ -46,9 +35,7 @@ of_part() {
     [ "$1" = file ] || return 0
     case $2 in
         *.s) ;;
-        *) if [ -e "$2.debug" ]; then of_program "$place" "$2.debug"
-            elif [ -e "$2.lines" ]; then PLACE=$place awk -f "$here/lines.awk" "$2.lines"
-            else of_program "$place" "$2"; fi ;;
+        *) table_of "$2" | tell_rows ;;
     esac
     place=$((place + 1))
 }

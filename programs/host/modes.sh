@@ -141,16 +141,19 @@ start_gdb() {
     exec "$program" "$@"
 }
 
-# Notes the path of --record.
+# Notes the path of --record, and whether it may be written over.
 note_record() {
-    case $1${2%%=*} in option--record) value_of "$2" ${3+"$3"} && record=$value ;; esac
+    case $1${2%%=*} in
+        option--record) value_of "$2" ${3+"$3"} && record=$value ;;
+        option--overwrite) is_given=yes ;;
+    esac
 }
 
 # A record that is there is written over only if the person at the terminal says so.
 ask_for_record() {
-    record=
+    record='' is_given='' answer=
     each_part note_record "$@"
-    [ -s "$record" ] || return 0
+    [ -s "$record" ] && [ -z "$is_given" ] || return 0
     row say record-there
     # shellcheck disable=SC2059
     printf "${row#* } " "$record" >&2
@@ -196,15 +199,13 @@ start_keys() {
     lines=$("$host/lines.sh" "$@" 2>/dev/null)
     before=$(stty -g) || refuse no-terminal
     machine=
-    trap 'stop 129' HUP
-    trap 'stop 130' INT
-    trap 'stop 131' QUIT
-    trap 'stop 143' TERM
+    # shellcheck disable=SC2064
+    for it in '129 HUP' '130 INT' '131 QUIT' '143 TERM'; do trap "stop ${it% *}" "${it#* }"; done
     trap stand_still TSTP
     trap go_on CONT
     take_keys || { restore; refuse no-terminal; }
     exec 3<&0
-    "$program" --terminal --lines /dev/fd/4 "$@" <&3 3<&- 4<<END &
+    "$program" --terminal ${answer:+--overwrite} --lines /dev/fd/4 "$@" <&3 3<&- 4<<END &
 $lines
 END
     machine=$!

@@ -181,7 +181,7 @@ abbrev pub reason_text : Option Reason → List ℕ
 reason_text None = []
 reason_text (Some reason) = codes " (" ++ reason_words reason ++ codes ")"
 
--- why it was refused, if it was and a reason is told
+-- why it was refused, if it was
 abbrev pub reason_shown : State → (p : ℕ) → Asked → ℤ → List ℕ
 reason_shown s p asked value = reason_text (reason_in s p (call_asked asked) value)
 

@@ -16,7 +16,7 @@ use Rattle.kernel_spec.specs.views.Words.{minus_one}
 use Rattle.kcall_core.specs.Observers.{size_of}
 use Rattle.call_reasons.specs.Facts.{Facts, facts_of}
 use Rattle.kernel_spec.specs.rows.Calls as rows
-use Rattle.call_reasons.specs.Reasons.{first, of_close, of_dup, of_kill, of_pipe, of_read, of_sbrk, of_sbrklazy, of_wait, of_write, reason_by, reason_told, tests}
+use Rattle.call_reasons.specs.Reasons.{first, of_close, of_dup, of_exec, of_kill, of_open, of_pipe, of_read, of_sbrk, of_sbrklazy, of_wait, of_write, reason_by, reason_told, tests}
 use Rattle.call_reasons.specs.Shown.{facts_in, reason_in}
 use Rattle.call_reasons.specs.declared.reason.Reason.{Reason}
 use Rattle.call_reasons.specs.declared.reason.Reason.TheVariants.{NoRoom}
@@ -74,9 +74,9 @@ module _ (c : Call) (f : Facts) (r : Option Reason) where
   unfolding tests
   exit_untold e = e
 
-  pub exec_untold : r ≡ None → r ≡ reason_by (Some rows.Exec) c f (λ r. true)
+  pub exec_told : r ≡ first (of_exec c f true) → r ≡ reason_by (Some rows.Exec) c f (λ r. true)
   unfolding tests
-  exec_untold e = e
+  exec_told e = e
 
   pub getpid_untold : r ≡ None → r ≡ reason_by (Some rows.Getpid) c f (λ r. true)
   unfolding tests
@@ -90,9 +90,9 @@ module _ (c : Call) (f : Facts) (r : Option Reason) where
   unfolding tests
   uptime_untold e = e
 
-  pub open_untold : r ≡ None → r ≡ reason_by (Some rows.Open) c f (λ r. true)
+  pub open_told : r ≡ first (of_open c f true) → r ≡ reason_by (Some rows.Open) c f (λ r. true)
   unfolding tests
-  open_untold e = e
+  open_told e = e
 
 module _ (s : State) (p : ℕ) (c : Call) (value : ℤ) where
   pub none_of_other : int_eq value minus_one ≡ false → None ≡ reason_in s p c value

@@ -1,7 +1,10 @@
 pub mod ByCall
 pub mod Children
 pub mod Counts
+pub mod Names
 pub mod Reach
+pub mod Reading
 pub mod Rows
+pub mod Told
 pub mod Viewed
 mod Worked

@@ -1,38 +1,54 @@
 -- Each row is refused exactly if one of its tests holds.
 use Rattle.std.proofs.Common.{◌≡◌, ◌≢◌, ℕ, zero, suc, ◌+◌, ◌<◌, ◌≤◌, ◌&&◌, ◌||◌, ◌++◌, not, Bool, cond, true, false, List, [], ◌∷◌, Option, Some, None, refl, sym, ap, ◌∙◌, subst, arith, ne_eqb}
-use Rattle.std.specs.Prelude.{ℤ, pos, negsuc, IsSome, nat_eq, nat_lt, nat_le, is_none, option_map, ◌==◌}
+use Rattle.std.specs.Prelude.{ℤ, pos, negsuc, IsSome, nat_lt, nat_le, is_none, is_some, bytes_eq, option_map, ◌==◌}
 use Rattle.std.specs.Ordering.{int_eq}
-use Rattle.std.specs.List.{list_any}
+use Rattle.std.specs.List.{list_any, position_from}
 use Rattle.std.proofs.lemmas.Bool.{eqb-true, le-ltb}
 use Rattle.std.proofs.lemmas.Bool.Decides.{Decides-int_eq}
 use Rattle.xk_base.specs.declared.access.Access.{Access}
 use Rattle.xk_base.specs.declared.access.Access.TheVariants.{Load, Store}
-use Rattle.xk_base.specs.declared.limits.TheConstants.{ADDRESS_END, NOFILE, NPROC, PID_MAX, SIZE_LIMIT}
+use Rattle.xk_base.specs.declared.limits.TheConstants.{ADDRESS_END, ARG_BYTES, MAXARG, MAXPATH, NOFILE, NPROC, PID_MAX, SIZE_LIMIT}
 use Rattle.xk_base.specs.Image.{price}
+use Rattle.xk_base.specs.Loaded.{Loaded, loaded}
 use Rattle.addr_space.specs.Absent.{pages_at}
 use Rattle.file_table.specs.declared.open_file.End.{End}
 use Rattle.pipe_core.specs.Pipe.{Pipe}
 use Rattle.proc_table.specs.declared.process.Call.{Call}
-use Rattle.kernel_spec.specs.rows.Buffers.{readable, writable, reaches_touching}
+use Rattle.kernel_spec.specs.rows.Buffers as buffers
+use Rattle.kernel_spec.specs.rows.Buffers.{no_slashes, readable, writable, reaches_touching}
 use Rattle.kernel_spec.specs.rows.Calls.{Row, Fork, Exit, Wait, Pipe_row, Read, Kill, Exec, Dup, Getpid, Sbrk, Sleep, Uptime, Open, Write, Close, Sbrklazy}
-use Rattle.kernel_spec.specs.rows.Calls.{fork, exit, wait, make_pipe, read, kill, dup, getpid, sbrk, sleep, uptime, write, close, sbrklazy}
-use Rattle.kernel_spec.specs.rows.Calls.{answered, done, done_at, has_child, least_zombie, perform, refused, row, row_of, waits}
-use Rattle.kernel_spec.specs.rows.Lines.{◌>>=◌, ◌>>◌, ◌when◌, ◌or◌, natural}
+use Rattle.kernel_spec.specs.rows.Calls.{fork, exit, wait, make_pipe, read, kill, exec, dup, getpid, sbrk, sleep, uptime, open_file, write, close, sbrklazy}
+use Rattle.kernel_spec.specs.rows.Calls.{answered, done, done_at, has_child, has_mode, least_zombie, perform, refused, row, row_of, waits}
+use Rattle.kernel_spec.specs.rows.Lines.{◌>>=◌, ◌>>◌, ◌when◌, ◌or◌, natural, result_of}
 use Rattle.kernel_spec.specs.rows.Tables.{lowest_free, lowest_free_above}
 use Rattle.kernel_spec.specs.rows.Touches.{touch}
 use Rattle.kernel_spec.specs.steps.Own.{Own, Blocked, Called}
+use Rattle.kernel_spec.specs.views.Programs.{place_of, program_named}
+use Rattle.kernel_spec.specs.views.State.{ProgramFile}
 use Rattle.kernel_spec.specs.views.View.{View, Descriptor, Descriptors, Shown, Shown_terminal, Shown_file, Shown_pipe, in_use}
 use Rattle.kernel_spec.specs.views.Words.{c_int, minus_one}
 use Rattle.call_reasons.specs.Facts.{Facts, can_reach, facts_of, is_file, is_unread, names_process, opened_of}
-use Rattle.call_reasons.specs.Reasons.{at_least_zero, costs_too_much, first, has_no_frame, has_no_reader, is_bad_size, is_below_zero, is_on_file, is_short, is_told, is_told_by, is_told_row}
-use Rattle.call_reasons.specs.Reasons.{may_be_read, may_be_written, reason_by, reason_of, reason_told, size_after, tests}
+use Rattle.call_reasons.specs.Reasons.{at_least_zero, costs_too_much, first, has_no_frame, has_no_reader, is_bad_size, is_below_zero, is_on_file, is_short, cannot_hold, cannot_load}
+use Rattle.call_reasons.specs.Reasons.{may_be_read, may_be_written, opens_in, reason_by, reason_of, reason_told, size_after, tests}
 use Rattle.call_reasons.specs.Laws.{Answers, EndsLow, OthersHaveNone, ReasonsRefuse, RefusalsHaveReasons, ToldAfterwards, ToldIsReason}
 use Rattle.call_reasons.specs.declared.opened.Opened.{Opened}
 use Rattle.call_reasons.specs.declared.reason.Reason.{Reason}
 use Rattle.call_reasons.specs.declared.reason.Reason.TheVariants.{NoCall, NotOpen, NotForReading, NotForWriting, BelowZero, NotReadable, NotWritable, NoReader, NoChild, NoProcess, NoDescriptor}
-use Rattle.call_reasons.specs.declared.reason.Reason.TheVariants.{BadSize, NoFrames, NoRoom}
+use Rattle.call_reasons.specs.declared.reason.Reason.TheVariants.{BadSize, NoFrames, NoRoom, NoPath, NoList, NotNamed, NoProgram, NotInMode, NotLoaded}
+use Rattle.call_reasons.specs.Texts.{has_texts, is_console, is_named, name_in, text_at}
 use Rattle.call_reasons.proofs.Reach.{is_reached, not_reached}
+use Rattle.call_reasons.proofs.Told.{Follows, FollowsIf, list_told, text_follows}
 use Rattle.call_reasons.proofs.Counts.{CountsOne, CountsTwo, least_counts, two_counted}
+
+-- a program has a place exactly if it is found
+place_is : (name : List ℕ) (programs : List ProgramFile) (k : ℕ) → is_some (position_from (λ (p : ProgramFile). bytes_eq p.name name) k programs) ≡ is_some (program_named name programs)
+place_is name [] k = refl
+place_is name (p ∷ later) k = by (bytes_eq p.name name) (place_is name later (k + 1))
+  where
+    by : (b : Bool) → is_some (position_from (λ (q : ProgramFile). bytes_eq q.name name) (k + 1) later) ≡ is_some (program_named name later)
+        → is_some (cond b (Some k) (position_from (λ (q : ProgramFile). bytes_eq q.name name) (k + 1) later)) ≡ is_some (cond b (Some p) (program_named name later))
+    by true e = refl
+    by false e = e
 
 abbrev Tests : Type 0
 Tests = List (Reason × Bool)
@@ -346,6 +362,77 @@ module _ (c : Call) (v : View) where
       (λ file r w program offset. writing_at w true false _ (λ n. refused_so _ _))
       (λ file r w name end pipe. writing_at w false (pipe.readers == 0) _ (λ n. passed _ _ _ (by_when NoReader (pipe.readers == 0) [] _ (either _ _ _ (answers_well _ n refl) (blocks_well _ refl)))))
 
+  -- a path
+  by_path : (g : List ℕ → Own) (rest : Option (List ℕ) → Tests)
+      → ((path : List ℕ) → buffers.text_at MAXPATH v.image c.a0 ≡ Some path → Fits c v (g path) (rest (Some path)))
+      → Fits c v ((buffers.text_at MAXPATH v.image c.a0 or refused c v) >>= g) ((NoPath c.a0, is_none (text_at (facts_of v) MAXPATH c.a0)) ∷ rest (text_at (facts_of v) MAXPATH c.a0))
+  unfolding ◌>>=◌ ◌or◌
+  by_path g rest h = by (text_at (facts_of v) MAXPATH c.a0) (buffers.text_at MAXPATH v.image c.a0) (text_follows v MAXPATH c.a0) h
+    where
+      by : (o there : Option (List ℕ)) → Follows v o there → ((path : List ℕ) → there ≡ Some path → Fits c v (g path) (rest (Some path)))
+          → Fits c v ((there or refused c v) >>= g) ((NoPath c.a0, is_none o) ∷ rest o)
+      by None there follows h = refusing_so _ _ (rest None) (λ low. ap (λ o. (o or refused c v) >>= g) (follows low))
+      by (Some path) there follows h = rw follows (passed _ (rest (Some path)) (g path) (h path follows))
+
+  -- a list of texts
+  by_list : (g : List (List ℕ) → Own) (rest : Tests)
+      → ((texts : List (List ℕ)) → buffers.texts_at MAXARG ARG_BYTES v.image c.a1 ≡ Some texts → Fits c v (g texts) rest)
+      → Fits c v ((buffers.texts_at MAXARG ARG_BYTES v.image c.a1 or refused c v) >>= g) ((NoList c.a1, not (has_texts (facts_of v) MAXARG ARG_BYTES c.a1)) ∷ rest)
+  unfolding ◌>>=◌ ◌or◌
+  by_list g rest h = by (has_texts (facts_of v) MAXARG ARG_BYTES c.a1) (buffers.texts_at MAXARG ARG_BYTES v.image c.a1) (list_told v MAXARG ARG_BYTES c.a1) h
+    where
+      by : (b : Bool) (there : Option (List (List ℕ))) → FollowsIf v b there → ((texts : List (List ℕ)) → there ≡ Some texts → Fits c v (g texts) rest)
+          → Fits c v ((there or refused c v) >>= g) ((NoList c.a1, not b) ∷ rest)
+      by false there follows h = refusing_so _ _ rest (λ low. ap (λ o. (o or refused c v) >>= g) (follows low))
+      by true (Some texts) follows h = passed _ rest (g texts) (h texts refl)
+      by true None follows h = let no : ⊥ = cc in absurd no
+
+  by_loaded : (program : Option ProgramFile) (texts : List (List ℕ)) (g : Loaded → Own) → ((l : Loaded) → Fits c v (g l) [])
+      → Fits c v ((program or refused c v) >>= (λ p. (result_of (loaded p.bytes texts) or refused c v) >>= (λ l. (refused c v when nat_lt v.free (price l.image)) >> g l)))
+      ((NoProgram, not (is_some program)) ∷ (NotLoaded v.free, cannot_load v program (Some texts)) ∷ [])
+  unfolding ◌>>=◌ ◌or◌
+  by_loaded None texts g h = refused_so _ _
+  by_loaded (Some p) texts g h = passed _ _ _ (by (result_of (loaded p.bytes texts)))
+    where
+      by : (o : Option Loaded) → Fits c v ((o or refused c v) >>= (λ l. (refused c v when nat_lt v.free (price l.image)) >> g l)) ((NotLoaded v.free, cannot_hold v o) ∷ [])
+      by None = refused_so _ []
+      by (Some l) = by_when _ (nat_lt v.free (price l.image)) [] (g l) (h l)
+
+  exec_fits : Fits c v (exec c v) (tests Exec c (facts_of v) (is_short Exec c v))
+  unfolding exec tests is_short
+  exec_fits =
+      by_path _ (λ o. (NoList c.a1, not (has_texts (facts_of v) MAXARG ARG_BYTES c.a1)) ∷ (NoProgram, not (is_some (program_named (name_in o) v.programs)))
+      ∷ (NotLoaded v.free, cannot_load v (program_named (name_in (buffers.text_at MAXPATH v.image c.a0)) v.programs) (buffers.texts_at MAXARG ARG_BYTES v.image c.a1)) ∷ [])
+      (λ path is. by_list _ _ (λ texts there. rw (is, there) (by_loaded (program_named (no_slashes path) v.programs) texts _ (λ l. answers_well _ l.argc refl))))
+
+  -- what a name names, and a mode
+  by_mode : (shown : Shown) (z : ℤ) (g : ℕ → Own) (rest : Tests) → ((mode : ℕ) → Fits c v (g mode) rest)
+      → Fits c v ((natural z or refused c v) >>= (λ mode. (refused c v when not (has_mode shown mode)) >> g mode))
+      ((NotInMode z, not (not (is_below_zero z) && has_mode shown (at_least_zero z))) ∷ rest)
+  unfolding ◌>>=◌ ◌or◌
+  by_mode shown (negsuc k) g rest h = refused_so _ rest
+  by_mode shown (pos n) g rest h = by_when _ (not (has_mode shown n)) rest (g n) (h n)
+
+  by_name : (console : Bool) (place : Option ℕ) (there : Bool) (z : ℤ) (g : Shown → ℕ → Own) (rest : Tests) → is_some place ≡ there
+      → ((shown : Shown) (mode : ℕ) → Fits c v (g shown mode) rest)
+      → Fits c v ((cond console (Some Shown_terminal) (option_map (λ place. Shown_file place 0) place) or refused c v)
+      >>= (λ shown. (natural z or refused c v) >>= (λ mode. (refused c v when not (has_mode shown mode)) >> g shown mode)))
+      ((NotNamed, not (console || there)) ∷ (NotInMode z, not (not (is_below_zero z) && cond console (nat_le (at_least_zero z) 2) (at_least_zero z == 0))) ∷ rest)
+  unfolding ◌>>=◌ ◌or◌
+  by_name true place there z g rest is h = passed _ _ _ (by_mode Shown_terminal z (g Shown_terminal) rest (h Shown_terminal))
+  by_name false None true z g rest is h = let no : ⊥ = cc in absurd no
+  by_name false None false z g rest is h = refused_so _ _
+  by_name false (Some place) false z g rest is h = let no : ⊥ = cc in absurd no
+  by_name false (Some place) true z g rest is h = passed _ _ _ (by_mode (Shown_file place 0) z (g (Shown_file place 0)) rest (h (Shown_file place 0)))
+
+  open_fits : Fits c v (open_file c v) (tests Open c (facts_of v) (is_short Open c v))
+  unfolding open_file tests is_short
+  open_fits =
+      by_path _ (λ o. (NotNamed, not (is_named (facts_of v) (name_in o))) ∷ (NotInMode (c_int c.a1), not (opens_in (name_in o) (c_int c.a1)))
+      ∷ (NoDescriptor (facts_of v).free_descriptors, (facts_of v).free_descriptors == 0) ∷ [])
+      (λ path is. by_name (is_console (no_slashes path)) (place_of (no_slashes path) v.programs) _ (c_int c.a1) _ _ (place_is (no_slashes path) v.programs 0)
+      (λ shown mode. by_free _ _ [] (λ fd. answers_well _ fd refl)))
+
   close_fits : Fits c v (close c v) (tests Close c (facts_of v) (is_short Close c v))
   unfolding close tests is_short
   close_fits = by_open (c_int c.a0) _ _ [] (λ n d. answers_well _ 0 refl)
@@ -360,34 +447,34 @@ module _ (c : Call) (v : View) where
   unfolding Fits
   exit_fits e = let no : ⊥ = cc in no
 
-  row_fits : (r : Row) → is_told_row r ≡ true → Fits c v (row r c v) (tests r c (facts_of v) (is_short r c v))
+  row_fits : (r : Row) → Fits c v (row r c v) (tests r c (facts_of v) (is_short r c v))
   unfolding row tests
-  row_fits Fork told = fork_fits
-  row_fits Exit told = exit_fits
-  row_fits Wait told = wait_fits
-  row_fits Pipe_row told = pipe_fits
-  row_fits Read told = read_fits
-  row_fits Kill told = kill_fits
-  row_fits Exec told = let no : ⊥ = cc in absurd no
-  row_fits Dup told = dup_fits
-  row_fits Getpid told = done_well v.pid v
-  row_fits Sbrk told = sbrk_fits
-  row_fits Sleep told = sleep_fits
-  row_fits Uptime told = done_well v.clock v
-  row_fits Open told = let no : ⊥ = cc in absurd no
-  row_fits Write told = write_fits
-  row_fits Close told = close_fits
-  row_fits Sbrklazy told = sbrklazy_fits
+  row_fits Fork = fork_fits
+  row_fits Exit = exit_fits
+  row_fits Wait = wait_fits
+  row_fits Pipe_row = pipe_fits
+  row_fits Read = read_fits
+  row_fits Kill = kill_fits
+  row_fits Exec = exec_fits
+  row_fits Dup = dup_fits
+  row_fits Getpid = done_well v.pid v
+  row_fits Sbrk = sbrk_fits
+  row_fits Sleep = sleep_fits
+  row_fits Uptime = done_well v.clock v
+  row_fits Open = open_fits
+  row_fits Write = write_fits
+  row_fits Close = close_fits
+  row_fits Sbrklazy = sbrklazy_fits
 
   -- ---- a call
 
-  call_fits : is_told c ≡ true → FitsReason c v (perform c v) (reason_of c v)
+  call_fits : FitsReason c v (perform c v) (reason_of c v)
   unfolding Fits perform reason_of ◌>>=◌ ◌or◌
-  call_fits told = by (row_of c.number) told
+  call_fits = by (row_of c.number)
     where
-      by : (o : Option Row) → is_told_by o ≡ true → FitsReason c v ((o or refused c v) >>= (λ r. row r c v)) (reason_by o c (facts_of v) (λ r. is_short r c v))
-      by None told = λ low. refl
-      by (Some r) told = row_fits r told
+      by : (o : Option Row) → FitsReason c v ((o or refused c v) >>= (λ r. row r c v)) (reason_by o c (facts_of v) (λ r. is_short r c v))
+      by None = λ low. refl
+      by (Some r) = row_fits r
 
   -- ---- what a machine shows
 
@@ -414,7 +501,7 @@ module _ (c : Call) (v : View) where
   row_lastly Pipe_row b other e = lastly (_ ∷ _ ∷ []) _ other b e
   row_lastly Read b other e = lastly (_ ∷ _ ∷ _ ∷ _ ∷ []) _ other b e
   row_lastly Kill b other e = e
-  row_lastly Exec b other e = e
+  row_lastly Exec b other e = lastly (_ ∷ _ ∷ _ ∷ []) _ other b e
   row_lastly Dup b other e = e
   row_lastly Getpid b other e = e
   row_lastly Sbrk b other e = lastly (_ ∷ []) _ other b e
@@ -482,13 +569,13 @@ unfolding reason_told
 other_answer c f value is = ap (λ b. cond b (reason_by (row_of c.number) c f (λ r. true)) None) is
 
 pub reasons_refuse : ReasonsRefuse
-reasons_refuse c v low told some = refuses c v (reason_of c v) (call_fits c v told) low some
+reasons_refuse c v low some = refuses c v (reason_of c v) (call_fits c v) low some
 
 pub refusals_have_reasons : RefusalsHaveReasons
-refusals_have_reasons c v told answers = has_reason c v (reason_of c v) (call_fits c v told) answers
+refusals_have_reasons c v answers = has_reason c v (reason_of c v) (call_fits c v) answers
 
 pub told_is_reason : ToldIsReason
-told_is_reason c v told answers = told_is c v (reason_of c v) refl (has_reason c v (reason_of c v) (call_fits c v told) answers)
+told_is_reason c v answers = told_is c v (reason_of c v) refl (has_reason c v (reason_of c v) (call_fits c v) answers)
 
 pub others_have_none : OthersHaveNone
 others_have_none c f value other = by (int_eq value minus_one) refl

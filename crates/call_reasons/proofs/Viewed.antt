@@ -1,13 +1,16 @@
 -- The facts that a machine shows of a live process are those of its view.
-use Rattle.std.proofs.Common.{◌≡◌, ℕ, zero, suc, ◌+◌, ◌<◌, ◌≤◌, ◌&&◌, ◌||◌, not, Bool, cond, true, false, List, [], ◌∷◌, Option, Some, None, refl, sym, ap, ◌∙◌, subst, arith, lt-ltb, le-ltb, inl, inr}
+use Rattle.std.proofs.Common.{◌≡◌, ℕ, zero, suc, ◌+◌, ◌/◌, ◌%◌, ◌<◌, ◌≤◌, ◌&&◌, ◌||◌, not, Bool, cond, true, false, List, [], ◌∷◌, Option, Some, None, refl, sym, ap, ◌∙◌}
+use Rattle.std.proofs.Common.{subst, arith, lt-ltb, le-ltb, inl, inr}
 use Rattle.std.proofs.Math.Path.{fun_ext}
 use Rattle.std.proofs.lemmas.Bool.{cases_lt}
-use Rattle.std.specs.Prelude.{ℤ, pos, negsuc, IsSome, is_none, is_some, option_map, ◌==◌, nat_lt, nat_eq}
+use Rattle.std.specs.Prelude.{ℤ, pos, negsuc, IsSome, is_none, is_some, option_map, ◌==◌, nat_lt, nat_eq, slice_index}
 use Rattle.std.specs.List.{list_any}
 use Rattle.std.specs.FinMap.{get, keys}
 use Rattle.std.specs.Option.{option_and_then}
 use Rattle.xk_base.specs.declared.access.Access.TheVariants.{Load, Store}
 use Rattle.xk_base.specs.declared.limits.TheConstants.{NOFILE}
+use Rattle.xk_base.specs.Bytes.{byte_in}
+use Rattle.xk_base.specs.Image.{Page}
 use Rattle.xk_base.specs.Words.{count_below}
 use Rattle.pipe_core.specs.Pipe.{Pipe}
 use Rattle.file_table.specs.declared.open_file.OpenFile.{OpenFile}
@@ -15,6 +18,7 @@ use Rattle.file_table.specs.declared.open_file.Target.{Target}
 use Rattle.file_table.specs.declared.open_file.Target.TheVariants.{Console as Terminal, Program as File, Pipe as Pipe_end}
 use Rattle.proc_table.specs.declared.process.Call.{Call}
 use Rattle.kernel_spec.specs.views.Processes.{Live}
+use Rattle.kernel_spec.specs.views.Programs.{program_named}
 use Rattle.kernel_spec.specs.views.State.{State, live}
 use Rattle.kernel_spec.specs.views.Words.{◌>>=◌, or_zero}
 use Rattle.kernel_spec.specs.views.View.{view, view_of, named, numbered, rename, show, child_of, or_gone, Descriptor, Shown, Shown_terminal, Shown_file, Shown_pipe}
@@ -30,15 +34,17 @@ use Rattle.call_reasons.specs.Reasons.{reason_told}
 use Rattle.call_reasons.specs.Shown.{counts_no_reader, facts_in, has_child_in, is_free_in, is_on_unread, is_pid_in, is_program, opened_in, reach_in, reason_in, shown_as}
 use Rattle.call_reasons.specs.declared.opened.Opened.{Opened}
 
-same_facts : (f g : Facts) → f.opened ≡ g.opened → f.free_descriptors ≡ g.free_descriptors → f.reads ≡ g.reads → f.writes ≡ g.writes → f.size ≡ g.size → f.has_child ≡ g.has_child
-    → f.is_pid ≡ g.is_pid → f.free ≡ g.free → f ≡ g
-same_facts f g a b c d e h i j =
+same_facts : (f g : Facts) → f.opened ≡ g.opened → f.free_descriptors ≡ g.free_descriptors → f.reads ≡ g.reads → f.writes ≡ g.writes → f.byte ≡ g.byte → f.size ≡ g.size
+    → f.has_child ≡ g.has_child → f.is_pid ≡ g.is_pid → f.is_program ≡ g.is_program → f.free ≡ g.free → f ≡ g
+same_facts f g a b c d k e h i m j =
     ap (λ x. record f { opened = x }) a ∙ ap (λ x. record f { opened = g.opened; free_descriptors = x }) b
     ∙ ap (λ x. record f { opened = g.opened; free_descriptors = g.free_descriptors; reads = x }) c
     ∙ ap (λ x. record f { opened = g.opened; free_descriptors = g.free_descriptors; reads = g.reads; writes = x }) d
-    ∙ ap (λ x. record g { size = x; has_child = f.has_child; is_pid = f.is_pid; free = f.free }) e
-    ∙ ap (λ x. record g { has_child = x; is_pid = f.is_pid; free = f.free }) h
-    ∙ ap (λ x. record g { is_pid = x; free = f.free }) i
+    ∙ ap (λ x. record g { byte = x; size = f.size; has_child = f.has_child; is_pid = f.is_pid; is_program = f.is_program; free = f.free }) k
+    ∙ ap (λ x. record g { size = x; has_child = f.has_child; is_pid = f.is_pid; is_program = f.is_program; free = f.free }) e
+    ∙ ap (λ x. record g { has_child = x; is_pid = f.is_pid; is_program = f.is_program; free = f.free }) h
+    ∙ ap (λ x. record g { is_pid = x; is_program = f.is_program; free = f.free }) i
+    ∙ ap (λ x. record g { is_program = x; free = f.free }) m
     ∙ ap (λ x. record g { free = x }) j
 
 module _ (s : State) (p : ℕ) (l : Live) (lives : live s p ≡ Some l) where
@@ -121,6 +127,14 @@ module _ (s : State) (p : ℕ) (l : Live) (lives : live s p ≡ Some l) where
   unfolding view_of
   writes_same address count = ap (λ o. reach_in Store o address count) lives
 
+  byte_same : (address : ℕ) → or_zero (observers.byte_at s p address) ≡ (facts_of (view_of s p l)).byte address
+  unfolding view_of
+  byte_same address = ap (λ o. or_zero (observers.byte_in address o)) lives ∙ by (get l.image.pages (address / 4096))
+    where
+      by : (o : Option Page) → or_zero (option_map (λ (page : Page). slice_index page.bytes (address % 4096)) o) ≡ byte_in o (address % 4096)
+      by None = refl
+      by (Some page) = refl
+
   size_same : (facts_in s p).size ≡ (facts_of (view_of s p l)).size
   unfolding view_of
   size_same = ap (λ o. or_zero (option_map (λ (x : Live). x.image.size) o)) lives
@@ -134,6 +148,10 @@ module _ (s : State) (p : ℕ) (l : Live) (lives : live s p ≡ Some l) where
   pid_same (negsuc k) = refl
   pid_same (pos n) = ap (λ b. not (n == 0) && b) (sym (listed s.processes n))
 
+  program_same : (name : List ℕ) → is_some (program_named name s.programs) ≡ (facts_of (view_of s p l)).is_program name
+  unfolding view_of
+  program_same name = refl
+
   free_frames : (facts_in s p).free ≡ (facts_of (view_of s p l)).free
   unfolding view_of
   free_frames = refl
@@ -143,7 +161,7 @@ module _ (s : State) (p : ℕ) (l : Live) (lives : live s p ≡ Some l) where
   facts_same : facts_in s p ≡ facts_of (view_of s p l)
   facts_same =
       same_facts (facts_in s p) (facts_of (view_of s p l)) (fun_ext opened_same) free_same (fun_ext (λ a. fun_ext (λ n. reads_same a n))) (fun_ext (λ a. fun_ext (λ n. writes_same a n)))
-      size_same child_same (fun_ext pid_same) free_frames
+      (fun_ext byte_same) size_same child_same (fun_ext pid_same) (fun_ext program_same) free_frames
 
   pub told_same : (c : Call) (value : ℤ) → reason_told c (facts_in s p) value ≡ reason_in s p c value
   told_same c value =

@@ -1,16 +1,18 @@
 -- Worked cases of reasons.
-use Rattle.std.proofs.Common.{◌≡◌, ℕ, Bool, true, false, cond, Option, None, Some, codes, refl}
-use Rattle.std.specs.Prelude.{ℤ, pos, negsuc, ◌==◌}
+use Rattle.std.proofs.Common.{◌≡◌, ℕ, ◌+◌, ◌-◌, ◌++◌, ◌∷◌, List, replicate, Bool, true, false, cond, Option, None, Some, codes, refl}
+use Rattle.std.specs.Prelude.{ℤ, pos, negsuc, ◌==◌, ◌&&◌, nat_le, slice_index, bytes_eq}
 use Rattle.std.specs.Fmt.{digits}
 use Rattle.proc_table.specs.declared.process.Call.{Call}
+use Rattle.kernel_spec.specs.rows.Buffers.{no_slashes}
 use Rattle.kernel_spec.specs.rows.Calls.{row_of}
 use Rattle.call_reasons.specs.Facts.{Facts}
 use Rattle.call_reasons.specs.Reasons.{reason_told, tests}
+use Rattle.call_reasons.specs.Texts.{has_texts, text_at}
 use Rattle.call_reasons.specs.Words.{reason_words}
 use Rattle.call_reasons.specs.declared.opened.Opened.{Opened}
 use Rattle.call_reasons.specs.declared.reason.Reason.{Reason}
 use Rattle.call_reasons.specs.declared.reason.Reason.TheVariants.{NoCall, NotOpen, NotForReading, NotForWriting, BelowZero, NotReadable, NotWritable, NoReader, NoChild, NoProcess, NoDescriptor}
-use Rattle.call_reasons.specs.declared.reason.Reason.TheVariants.{BadSize, NoFrames}
+use Rattle.call_reasons.specs.declared.reason.Reason.TheVariants.{BadSize, NoFrames, NoPath, NoList, NotNamed, NoProgram, NotInMode, NotLoaded}
 
 abbrev call : (number a0 a1 a2 : ℕ) → Call
 call number a0 a1 a2 = record { number = pos number; a0 = a0; a1 = a1; a2 = a2; moved = 0; clock = 0 }
@@ -29,9 +31,11 @@ here = record {
   free_descriptors = 1;
   reads = λ address count. address == 4096;
   writes = λ address count. address == 4096;
+  byte = λ address. 0;
   size = 8192;
   has_child = false;
   is_pid = λ number. false;
+  is_program = λ name. false;
   free = 3;
 }
 
@@ -107,12 +111,7 @@ unknown : told 99 0 0 0 ≡ Some NoCall
 unfolding reason_told row_of tests
 unknown = refl
 
--- no reason is told of open and of exec
-untold : told 15 0 0 0 ≡ None
-unfolding reason_told row_of tests
-untold = refl
-
--- or of another answer
+-- no reason is told of another answer
 answered : reason_told (call 21 7 0 0) here (pos 0) ≡ None
 unfolding reason_told row_of tests
 answered = refl
@@ -121,6 +120,121 @@ words : reason_words (NotOpen (pos 7)) ≡ codes "descriptor 7 isn't open"
 unfolding digits
 words = refl
 
-bytes : reason_words (NotWritable 4096 64) ≡ codes "it may not write all bytes from 0x1000 on"
+bytes : reason_words (NotWritable 4096 64) ≡ codes "it may not write all 64 bytes from 0x1000 on"
 unfolding digits
 bytes = refl
+
+one_byte : reason_words (NotReadable 8 1) ≡ codes "it may not read the byte at 0x8"
+unfolding digits
+one_byte = refl
+
+mode_words : reason_words (NotInMode (negsuc 0)) ≡ codes "it can't be opened in mode -1"
+unfolding digits
+mode_words = refl
+
+-- ---- texts
+
+-- from 4096 on a path of 5 bytes, the console's name, and from 4112 on a pointer to the path and a pointer 0
+abbrev memory : List ℕ
+memory = codes "//cat" ++ 0 ∷ codes "console" ++ 0 ∷ 0 ∷ 0 ∷ 0 ∷ 16 ∷ 0 ∷ 0 ∷ 0 ∷ 0 ∷ 0 ∷ 0 ∷ replicate 8 0
+
+-- these 32 bytes are all that may be read, and cat is the one program
+abbrev texts : Facts
+texts = record here {
+  reads = λ address count. nat_le 4096 address && nat_le (address + count) 4128;
+  byte = λ address. slice_index memory (address - 4096);
+  is_program = λ name. bytes_eq name (codes "cat");
+}
+
+path_read : text_at texts 6 4096 ≡ Some (codes "//cat")
+unfolding text_at
+path_read = refl
+
+-- the zero byte counts among the bytes of a path
+path_long : text_at texts 5 4096 ≡ None
+unfolding text_at
+path_long = refl
+
+path_nowhere : text_at texts 128 4095 ≡ None
+unfolding text_at
+path_nowhere = refl
+
+-- the bytes that may be read end before a zero byte
+path_cut : text_at (record texts { reads = λ address count. nat_le (address + count) 4101 }) 128 4096 ≡ None
+unfolding text_at
+path_cut = refl
+
+list_read : has_texts texts 1 6 4112 ≡ true
+unfolding has_texts text_at
+list_read = refl
+
+-- a pointer 0 alone is an empty list
+list_empty : has_texts texts 0 6 4120 ≡ true
+unfolding has_texts
+list_empty = refl
+
+one_too_many : has_texts texts 0 6 4112 ≡ false
+unfolding has_texts
+one_too_many = refl
+
+text_too_long : has_texts texts 1 5 4112 ≡ false
+unfolding has_texts text_at
+text_too_long = refl
+
+pointer_cut : has_texts texts 31 4096 4121 ≡ false
+unfolding has_texts
+pointer_cut = refl
+
+-- ---- exec and open
+
+abbrev told_of_texts : (number a0 a1 : ℕ) → Option Reason
+told_of_texts number a0 a1 = reason_told (call number a0 a1 0) texts (negsuc 0)
+
+exec_no_path : told_of_texts 7 8 8 ≡ Some (NoPath 8)
+unfolding reason_told row_of tests text_at
+exec_no_path = refl
+
+-- the list is tested before the name
+exec_no_list : told_of_texts 7 4102 8 ≡ Some (NoList 8)
+unfolding reason_told row_of tests text_at has_texts
+exec_no_list = refl
+
+-- the console is no program
+exec_console : told_of_texts 7 4102 4112 ≡ Some NoProgram
+unfolding reason_told row_of tests text_at has_texts no_slashes
+exec_console = refl
+
+exec_unloaded : told_of_texts 7 4096 4112 ≡ Some (NotLoaded 3)
+unfolding reason_told row_of tests text_at has_texts no_slashes
+exec_unloaded = refl
+
+open_no_path : told_of_texts 15 8 9 ≡ Some (NoPath 8)
+unfolding reason_told row_of tests text_at
+open_no_path = refl
+
+-- "at" is no program's name
+open_unnamed : told_of_texts 15 4099 9 ≡ Some NotNamed
+unfolding reason_told row_of tests text_at no_slashes
+open_unnamed = refl
+
+-- a program's file can only be read
+open_to_write : told_of_texts 15 4096 1 ≡ Some (NotInMode (pos 1))
+unfolding reason_told row_of tests text_at no_slashes
+open_to_write = refl
+
+console_to_write : told_of_texts 15 4102 2 ≡ None
+unfolding reason_told row_of tests text_at no_slashes
+console_to_write = refl
+
+console_mode : told_of_texts 15 4102 3 ≡ Some (NotInMode (pos 3))
+unfolding reason_told row_of tests text_at no_slashes
+console_mode = refl
+
+mode_below : told_of_texts 15 4102 4294967295 ≡ Some (NotInMode (negsuc 0))
+unfolding reason_told row_of tests text_at no_slashes
+mode_below = refl
+
+-- the mode is tested before the descriptors
+none_free : reason_told (call 15 4096 0 0) (record texts { free_descriptors = 0 }) (negsuc 0) ≡ Some (NoDescriptor 0)
+unfolding reason_told row_of tests text_at no_slashes
+none_free = refl

@@ -1,13 +1,15 @@
 -- What the tests of calls ask: facts of a process, by its view.
-use Rattle.std.specs.Prelude.{ℕ, ◌+◌, ◌==◌, ◌&&◌, ◌||◌, Bool, true, false, not, nat_le, is_none, option_map, Option, None, Some, ℤ, pos, negsuc}
+use Rattle.std.specs.Prelude.{ℕ, ◌+◌, ◌==◌, ◌&&◌, ◌||◌, Bool, true, false, not, nat_le, is_none, is_some, option_map, List, Option, None, Some, ℤ, pos, negsuc}
 use Rattle.std.specs.List.{list_any}
 use Rattle.xk_base.specs.declared.access.Access.{Access}
 use Rattle.xk_base.specs.declared.access.Access.TheVariants.{Load, Store}
 use Rattle.xk_base.specs.declared.limits.TheConstants.{ADDRESS_END, NOFILE}
+use Rattle.xk_base.specs.Bytes.{image_byte}
 use Rattle.xk_base.specs.Image.{Image}
 use Rattle.xk_base.specs.Words.{count_below}
 use Rattle.kernel_spec.specs.rows.Buffers.{reaches_touching}
 use Rattle.kernel_spec.specs.rows.Calls.{has_child}
+use Rattle.kernel_spec.specs.views.Programs.{program_named}
 use Rattle.kernel_spec.specs.views.View.{View, Descriptor, Shown, Shown_file, Shown_pipe, in_use}
 use Rattle.call_reasons.specs.declared.opened.Opened.{Opened}
 
@@ -19,12 +21,16 @@ pub record Facts : Type 0 where
   -- whether all of so many bytes from an address on are its memory, which it may read, or write
   pub reads : (address count : ℕ) → Bool
   pub writes : (address count : ℕ) → Bool
+  -- the byte at an address of its memory, and 0 if no page is there: so the kernel reads it
+  pub byte : (address : ℕ) → ℕ
   -- how many bytes its memory has
   pub size : ℕ
   -- it has a child
   pub has_child : Bool
   -- a process has this pid
   pub is_pid : ℤ → Bool
+  -- a program has this name
+  pub is_program : (name : List ℕ) → Bool
   -- how many frames are free
   pub free : ℕ
 
@@ -56,8 +62,10 @@ facts_of v = record {
   free_descriptors = count_below (λ d. is_none (v.descriptors d)) NOFILE;
   reads = λ address count. can_reach Load v.image address count;
   writes = λ address count. can_reach Store v.image address count;
+  byte = λ address. image_byte v.image address;
   size = v.image.size;
   has_child = has_child v;
   is_pid = λ number. names_process v number;
+  is_program = λ name. is_some (program_named name v.programs);
   free = v.free;
 }

@@ -1,5 +1,5 @@
 -- What holds of the reasons.
-use Rattle.std.specs.Prelude.{◌≡◌, ◌≢◌, ◌≤◌, ℕ, ℤ, true, false, Option, None, Some, IsSome}
+use Rattle.std.specs.Prelude.{◌≡◌, ◌≢◌, ◌≤◌, ℕ, ℤ, false, Option, None, Some, IsSome}
 use Rattle.xk_base.specs.declared.access.Access.{Access}
 use Rattle.xk_base.specs.declared.limits.TheConstants.{ADDRESS_END}
 use Rattle.proc_table.specs.declared.process.Call.{Call}
@@ -9,7 +9,7 @@ use Rattle.kernel_spec.specs.steps.Own.{Own, Called}
 use Rattle.kernel_spec.specs.views.View.{View}
 use Rattle.kernel_spec.specs.views.Words.{minus_one}
 use Rattle.call_reasons.specs.Facts.{Facts, facts_of}
-use Rattle.call_reasons.specs.Reasons.{is_told, reason_of, reason_told}
+use Rattle.call_reasons.specs.Reasons.{reason_of, reason_told}
 
 -- the call is done in this view, and has this answer
 abbrev pub Answers : Call → View → ℤ → Type 0
@@ -21,15 +21,15 @@ EndsLow v = (access : Access) (address : ℕ) → ADDRESS_END ≤ address → ma
 
 -- If there is a reason, the call is refused
 abbrev pub ReasonsRefuse : Type 0
-ReasonsRefuse = (c : Call) (v : View) → EndsLow v → is_told c ≡ true → IsSome (reason_of c v) → perform c v ≡ refused c v
+ReasonsRefuse = (c : Call) (v : View) → EndsLow v → IsSome (reason_of c v) → perform c v ≡ refused c v
 
 -- If a call answers -1, there is a reason
 abbrev pub RefusalsHaveReasons : Type 0
-RefusalsHaveReasons = (c : Call) (v : View) → is_told c ≡ true → Answers c v minus_one → IsSome (reason_of c v)
+RefusalsHaveReasons = (c : Call) (v : View) → Answers c v minus_one → IsSome (reason_of c v)
 
 -- What a machine shows tells the reason of a call that answers -1
 abbrev pub ToldIsReason : Type 0
-ToldIsReason = (c : Call) (v : View) → is_told c ≡ true → Answers c v minus_one → reason_told c (facts_of v) minus_one ≡ reason_of c v
+ToldIsReason = (c : Call) (v : View) → Answers c v minus_one → reason_told c (facts_of v) minus_one ≡ reason_of c v
 
 -- Of any other answer none is told
 abbrev pub OthersHaveNone : Type 0

@@ -1,24 +1,30 @@
 -- Why a kernel call is refused: for each call its tests, in the order of its row (the rows are those of kernel_spec), each with its reason. In a list
 -- of tests, c is the call (its number and its arguments a0, a1 and a2), and f what is known of its caller. A test is a pair: (R, t) tells the
 -- reason R if t holds. They are read top down, and the first that holds tells the reason. `short` stands for the one test that a machine doesn't show,
--- the last of its call: that too little is left of what the call takes. A number that is an argument is a C int. Sections are those of the xv6 book.
+-- the last of its call: that what the call takes isn't there. A number that is an argument is a C int. Sections are those of the xv6 book.
 use Rattle.std.specs.Prelude.{ℕ, ◌+◌, ◌-◌, ◌+ℤ◌, ◌==◌, ◌&&◌, ◌||◌, Bool, true, false, not, if◌then◌else◌, List, [], ◌∷◌, length, Option, None, Some, find, option_map, ℤ, pos, negsuc}
 use Rattle.std.specs.Prelude.{nat_lt, nat_le, is_none}
 use Rattle.std.specs.Ordering.{int_eq}
-use Rattle.xk_base.specs.declared.limits.TheConstants.{NPROC, PID_MAX, SIZE_LIMIT}
+use Rattle.xk_base.specs.declared.limits.TheConstants.{ARG_BYTES, MAXARG, MAXPATH, NPROC, PID_MAX, SIZE_LIMIT}
 use Rattle.xk_base.specs.Image.{Image, price}
+use Rattle.xk_base.specs.Loaded.{Loaded, loaded}
 use Rattle.addr_space.specs.Absent.{pages_at}
 use Rattle.proc_table.specs.declared.process.Call.{Call}
+use Rattle.kernel_spec.specs.rows.Buffers as buffers
 use Rattle.kernel_spec.specs.rows.Buffers.{grown, shrunk}
 use Rattle.kernel_spec.specs.rows.Calls.{Row, Fork, Exit, Wait, Pipe_row, Read, Kill, Exec, Dup, Getpid, Sbrk, Sleep, Uptime, Open, Write, Close, Sbrklazy, row_of}
+use Rattle.kernel_spec.specs.rows.Lines.{result_of}
 use Rattle.kernel_spec.specs.rows.Touches.{touch}
+use Rattle.kernel_spec.specs.views.Programs.{program_named}
+use Rattle.kernel_spec.specs.views.State.{ProgramFile}
 use Rattle.kernel_spec.specs.views.View.{View}
 use Rattle.kernel_spec.specs.views.Words.{c_int, minus_one}
 use Rattle.call_reasons.specs.Facts.{Facts, facts_of}
+use Rattle.call_reasons.specs.Texts.{has_texts, is_console, is_named, name_in, text_at}
 use Rattle.call_reasons.specs.declared.opened.Opened.{Opened}
 use Rattle.call_reasons.specs.declared.reason.Reason.{Reason}
 use Rattle.call_reasons.specs.declared.reason.Reason.TheVariants.{NoCall, NotOpen, NotForReading, NotForWriting, BelowZero, NotReadable, NotWritable, NoReader, NoChild, NoProcess, NoDescriptor}
-use Rattle.call_reasons.specs.declared.reason.Reason.TheVariants.{BadSize, NoFrames, NoRoom}
+use Rattle.call_reasons.specs.declared.reason.Reason.TheVariants.{BadSize, NoFrames, NoRoom, NoPath, NoList, NotNamed, NoProgram, NotInMode, NotLoaded}
 
 -- ---- lists of tests
 
@@ -63,6 +69,10 @@ has_no_reader (Some d) = d.is_unread
 abbrev pub size_after : (size : ℕ) → (change : ℤ) → ℤ
 size_after size change = pos size +ℤ change
 
+-- what has this name may be opened in the mode: the console to be read (0), to be written (1) or both (2), a program's file to be read
+abbrev pub opens_in : (name : List ℕ) → (mode : ℤ) → Bool
+opens_in name mode = not (is_below_zero mode) && (if is_console name then nat_le (at_least_zero mode) 2 else at_least_zero mode == 0)
+
 -- fewer than 0, or more than memory can have
 abbrev pub is_bad_size : ℤ → Bool
 is_bad_size size = is_below_zero size || nat_lt SIZE_LIMIT (at_least_zero size)
@@ -104,6 +114,15 @@ module _ (c : Call) (f : Facts) (short : Bool) where
   abbrev pub of_kill : List (Reason × Bool)
   of_kill = (NoProcess (c_int c.a0), not (f.is_pid (c_int c.a0))) ∷ []
 
+  -- exec(path, argv) ("Code: exec")
+  abbrev pub of_exec : List (Reason × Bool)
+  of_exec =
+      (NoPath c.a0, is_none (text_at f MAXPATH c.a0))
+      ∷ (NoList c.a1, not (has_texts f MAXARG ARG_BYTES c.a1))
+      ∷ (NoProgram, not (f.is_program (name_in (text_at f MAXPATH c.a0))))
+      ∷ (NotLoaded f.free, short)
+      ∷ []
+
   -- dup(fd) ("I/O and File descriptors")
   abbrev pub of_dup : List (Reason × Bool)
   of_dup =
@@ -116,6 +135,15 @@ module _ (c : Call) (f : Facts) (short : Bool) where
   of_sbrk =
       (BadSize, is_bad_size (size_after f.size (c_int c.a0)))
       ∷ (NoFrames f.free, short)
+      ∷ []
+
+  -- open(path, mode) ("I/O and File descriptors")
+  abbrev pub of_open : List (Reason × Bool)
+  of_open =
+      (NoPath c.a0, is_none (text_at f MAXPATH c.a0))
+      ∷ (NotNamed, not (is_named f (name_in (text_at f MAXPATH c.a0))))
+      ∷ (NotInMode (c_int c.a1), not (opens_in (name_in (text_at f MAXPATH c.a0)) (c_int c.a1)))
+      ∷ (NoDescriptor f.free_descriptors, f.free_descriptors == 0)
       ∷ []
 
   -- write(fd, a, n) ("I/O and File descriptors", "Code: Pipes"): 0 bytes are written even if nobody reads. (Nothing that is open on a file may be written by)
@@ -155,27 +183,41 @@ resized image size = if nat_lt size image.size then shrunk image size else grown
 abbrev pub costs_too_much : View → ℕ → Bool
 costs_too_much v size = nat_le v.image.size size && nat_lt v.free (price (resized v.image size) - price v.image)
 
+-- what is loaded costs more frames than are free, or nothing is
+abbrev pub cannot_hold : View → Option Loaded → Bool
+cannot_hold v None = true
+cannot_hold v (Some l) = nat_lt v.free (price l.image)
+
+-- the program can't be loaded with these texts, or costs too much; or one of both isn't there
+abbrev pub cannot_load : View → Option ProgramFile → Option (List (List ℕ)) → Bool
+cannot_load v (Some program) (Some texts) = cannot_hold v (result_of (loaded program.bytes texts))
+cannot_load v (Some program) None = true
+cannot_load v None texts = true
+
 -- What a call takes isn't there: of fork a slot, a pid, or the frames of a child; of wait and read the frames of their buffer's absent pages; of pipe
--- these, and one more; of sbrk those of its growth. Any other call takes none
+-- these, and one more; of exec a file and texts that can be loaded, and the frames for them; of sbrk those of its growth. Any other call takes none
 unfoldable pub is_short : Row → Call → View → Bool
 is_short Fork c v = nat_le NPROC (length v.pids) || nat_lt PID_MAX v.next_pid || nat_lt v.free (price v.image + 1)
 is_short Wait c v = is_none (touch (pages_at c.a0 (if c.a0 == 0 then 0 else 4)) v)
 is_short Pipe_row c v = has_no_frame (touch (pages_at c.a0 8) v)
 is_short Read c v = is_none (touch (pages_at c.a1 (at_least_zero (c_int c.a2))) v)
+is_short Exec c v = cannot_load v (program_named (name_in (buffers.text_at MAXPATH v.image c.a0)) v.programs) (buffers.texts_at MAXARG ARG_BYTES v.image c.a1)
 is_short Sbrk c v = costs_too_much v (at_least_zero (size_after v.image.size (c_int c.a0)))
 is_short _ c v = false
 
 -- ---- the reason of a call
 
--- the tests of a row; exit, getpid, sleep and uptime are never refused. Of exec and open no reason is told
+-- the tests of a row; exit, getpid, sleep and uptime are never refused
 unfoldable pub tests : Row → Call → Facts → (short : Bool) → List (Reason × Bool)
 tests Fork c f short = of_fork c f short
 tests Wait c f short = of_wait c f short
 tests Pipe_row c f short = of_pipe c f short
 tests Read c f short = of_read c f short
 tests Kill c f short = of_kill c f short
+tests Exec c f short = of_exec c f short
 tests Dup c f short = of_dup c f short
 tests Sbrk c f short = of_sbrk c f short
+tests Open c f short = of_open c f short
 tests Write c f short = of_write c f short
 tests Close c f short = of_close c f short
 tests Sbrklazy c f short = of_sbrklazy c f short
@@ -196,16 +238,3 @@ reason_of c v = reason_by (row_of c.number) c (facts_of v) (λ r. is_short r c v
 -- it was the one that it doesn't show
 unfoldable pub reason_told : Call → Facts → (value : ℤ) → Option Reason
 reason_told c f value = if int_eq value minus_one then reason_by (row_of c.number) c f (λ r. true) else None
-
--- reasons are told of all calls but exec and open
-abbrev pub is_told_row : Row → Bool
-is_told_row Exec = false
-is_told_row Open = false
-is_told_row _ = true
-
-abbrev pub is_told_by : Option Row → Bool
-is_told_by None = true
-is_told_by (Some r) = is_told_row r
-
-abbrev pub is_told : Call → Bool
-is_told c = is_told_by (row_of c.number)

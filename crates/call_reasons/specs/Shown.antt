@@ -16,10 +16,11 @@ use Rattle.proc_table.specs.declared.process.Call.{Call}
 use Rattle.kernel_spec.specs.runs.Run.{World}
 use Rattle.kernel_spec.specs.waking.Turns.{HasSlot}
 use Rattle.kernel_spec.specs.views.Processes.{Live}
+use Rattle.kernel_spec.specs.views.Programs.{program_named}
 use Rattle.kernel_spec.specs.views.State.{State, live}
 use Rattle.kernel_spec.specs.views.View.{view}
 use Rattle.kernel_spec.specs.views.Words.{or_zero}
-use Rattle.kcall_core.specs.Observers.{child_at, descriptor_of, size_of}
+use Rattle.kcall_core.specs.Observers.{byte_at, child_at, descriptor_of, size_of}
 use Rattle.kcall_core.specs.ObservedPipes.{pipe_counts_of}
 use Rattle.kcall_core.specs.declared.kernel.observers.Descriptor.{Descriptor}
 use Rattle.kcall_core.specs.declared.memories.piping.PipeCounts.{PipeCounts}
@@ -96,9 +97,11 @@ facts_in s p = record {
   free_descriptors = count_below (is_free_in s p) NOFILE;
   reads = λ address count. reach_in Load (live s p) address count;
   writes = λ address count. reach_in Store (live s p) address count;
+  byte = λ address. or_zero (byte_at s p address);
   size = or_zero (size_of s p);
   has_child = has_child_in s p;
   is_pid = λ number. is_pid_in s number;
+  is_program = λ name. is_some (program_named name s.programs);
   free = s.free;
 }
 

@@ -1,7 +1,7 @@
 //! What holds of reasons.
 ghost use Rattle.call_reasons.specs.Laws.{OthersHaveNone, ReasonsRefuse, RefusalsHaveReasons, ToldAfterwards, ToldIsReason};
 
-/// Calls have reasons exactly if they are refused. No reason is told of exec and of open.
+/// Calls have reasons exactly if they are refused.
 pub fn refusals_have_reasons()
     // If there is a reason, the call answers -1, and changes nothing else. (The process has no memory from 2^38 on.)
     ensures reasons_refuse { ReasonsRefuse }

@@ -10,6 +10,7 @@ mod opened;
 mod reason;
 mod shown;
 mod telling;
+mod texts;
 
 pub use reason::Reason;
 pub use telling::reason_told;

@@ -1,6 +1,6 @@
 //! Why a kernel call is refused.
 ghost use Rattle.std.specs.Prelude.{Some};
-ghost use Rattle.call_reasons.specs.Words.{reason_words};
+ghost use Rattle.call_reasons.specs.Words.{bytes_words, reason_words};
 
 use debug_words::texts::Hexadecimal;
 use std::fmt;
@@ -36,6 +36,38 @@ pub enum Reason {
     NoFrames { free: u32 },
     /// No slot is left for a process, or no pid, or too few frames of RAM are free.
     NoRoom { free: u32 },
+    /// No path stands at the address: a byte may not be read, or no zero byte is among the first 128.
+    NoPath { address: u64 },
+    /// No list of words stands at the address: a pointer or a word can't be read, or it has more than 31 words.
+    NoList { address: u64 },
+    /// Nothing has the name, the console or a program.
+    NotNamed,
+    /// No program has the name.
+    NoProgram,
+    /// What has the name may not be opened in this mode.
+    NotInMode { mode: i32 },
+    /// The program's file can't be loaded, the words don't fit on its stack page, or too few frames of RAM are free.
+    NotLoaded { free: u32 },
+}
+
+// So many bytes from an address on.
+#[derive(Clone, Copy)]
+struct Bytes {
+    address: u64,
+    count: u64,
+}
+
+impl fmt::Display for Bytes {
+    ghost output = { λ bytes. Some (bytes_words bytes.address bytes.count) };
+
+    fn fmt<W: fmt::Write>(&self, f: &mut fmt::Formatter<W>) -> fmt::Result {
+        let address = Hexadecimal(self.address);
+        let count = self.count;
+        if count == 1 {
+            return write!(f, "the byte at {address}");
+        }
+        write!(f, "all {count} bytes from {address} on")
+    }
 }
 
 /// The reason in words, as in `descriptor 7 isn't open`.
@@ -53,13 +85,13 @@ impl fmt::Display for Reason {
                 write!(f, "descriptor {descriptor} isn't open for writing")
             }
             Reason::BelowZero { number } => write!(f, "{number} is below 0"),
-            Reason::NotReadable { address, .. } => {
-                let address = Hexadecimal(address);
-                write!(f, "it may not read all bytes from {address} on")
+            Reason::NotReadable { address, count } => {
+                let bytes = Bytes { address, count };
+                write!(f, "it may not read {bytes}")
             }
-            Reason::NotWritable { address, .. } => {
-                let address = Hexadecimal(address);
-                write!(f, "it may not write all bytes from {address} on")
+            Reason::NotWritable { address, count } => {
+                let bytes = Bytes { address, count };
+                write!(f, "it may not write {bytes}")
             }
             Reason::NoReader => f.write_str("nobody can read from the pipe"),
             Reason::NoChild => f.write_str("it has no child"),
@@ -71,6 +103,23 @@ impl fmt::Display for Reason {
                 write!(
                     f,
                     "no slot or pid is left for a child, or too few frames are free: {free}"
+                )
+            }
+            Reason::NoPath { address } => {
+                let address = Hexadecimal(address);
+                write!(f, "no path of at most 127 bytes can be read at {address}")
+            }
+            Reason::NoList { address } => {
+                let address = Hexadecimal(address);
+                write!(f, "no list of at most 31 words can be read at {address}")
+            }
+            Reason::NotNamed => f.write_str("nothing has this name"),
+            Reason::NoProgram => f.write_str("no program has this name"),
+            Reason::NotInMode { mode } => write!(f, "it can't be opened in mode {mode}"),
+            Reason::NotLoaded { free } => {
+                write!(
+                    f,
+                    "its file can't be loaded, its words don't fit on the stack page, or too few frames are free: {free}"
                 )
             }
         }

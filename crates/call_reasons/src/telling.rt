@@ -1,5 +1,5 @@
 //! The reason of an answer, by what a machine shows.
-ghost use Rattle.std.specs.Prelude.{◌≡◌, ◌==◌, ◌&&◌, not, nat_lt, true, Some};
+ghost use Rattle.std.specs.Prelude.{◌≡◌, ◌==◌, ◌&&◌, not, nat_lt, true, IfNone, IfSome, None, Some};
 ghost use Rattle.std.specs.Ordering.{int_eq};
 ghost use Rattle.kernel_calls.specs.Table.{call_at};
 ghost use Rattle.kernel_spec.specs.rows.Calls.{row_of};
@@ -7,17 +7,34 @@ ghost use Rattle.kernel_spec.specs.views.State.{live};
 ghost use Rattle.kernel_spec.specs.views.Words.{c_int, minus_one, or_zero};
 ghost use Rattle.kcall_core.specs.Observers.{size_of};
 ghost use Rattle.xk_base.specs.declared.access.Access.TheVariants.{Store};
+ghost use Rattle.xk_base.specs.declared.limits.TheConstants.{MAXPATH};
 ghost use Rattle.call_reasons.specs.Reasons as meant;
 ghost use Rattle.call_reasons.specs.Shown.{facts_in, opened_in, reach_in, reason_in};
+ghost use Rattle.call_reasons.specs.Texts.{is_named, text_at};
 ghost use Rattle.call_reasons.specs.declared.reason.Reason.TheVariants.{NoFrames};
 
 use crate::opened::Opened;
 use crate::reason::Reason;
 use crate::shown::{c_int, free_descriptors, has_child, is_pid, opened, reaches, size};
+use crate::texts::{has_texts, is_console, is_program, name_in, text_at};
+use arrayvec::ArrayVec;
 use kernel_calls::KernelCall;
-use xk_base::limits::SIZE_LIMIT;
+use xk_base::limits::{ARG_BYTES, MAXPATH, SIZE_LIMIT};
 use xk_base::{Access, Pid};
 use xv_machine::{Call, Machine};
+
+// Whether what has a name may be opened in a mode.
+fn opens_in(name: &[u8], mode: i32) -> bool
+    ensures { result ≡ meant.opens_in name.now mode }
+{
+    if mode < 0 {
+        return false;
+    }
+    if is_console(name) {
+        return mode <= 2;
+    }
+    mode == 0
+}
 
 /// A process of a machine, and a call of its that was refused.
 #[derive(Clone, Copy)]
@@ -188,6 +205,35 @@ impl<'a> Refused<'a> {
         Some(Reason::NoProcess { pid })
     }
 
+    // The path that the first argument names.
+    fn path(&self) -> Option<ArrayVec<u8, ARG_BYTES>>
+        ensures found { IfSome result (λ path. text_at (facts_in self.now.machine.now.world.state self.now.pid) MAXPATH self.now.call.now.a0 ≡ Some path.items) }
+        ensures none { IfNone result (text_at (facts_in self.now.machine.now.world.state self.now.pid) MAXPATH self.now.call.now.a0 ≡ None) }
+    {
+        text_at(self.machine, self.pid, MAXPATH, self.call.a0)
+    }
+
+    fn of_exec(&self) -> Reason
+        ensures { Some result ≡ meant.first (meant.of_exec self.now.call.now (facts_in self.now.machine.now.world.state self.now.pid) true) }
+    {
+        let Some(path) = self.path() else {
+            return Reason::NoPath {
+                address: self.call.a0,
+            };
+        };
+        if !has_texts(self.machine, self.pid, self.call.a1) {
+            return Reason::NoList {
+                address: self.call.a1,
+            };
+        }
+        if !is_program(self.machine, name_in(path.as_slice())) {
+            return Reason::NoProgram;
+        }
+        Reason::NotLoaded {
+            free: self.machine.free_frames(),
+        }
+    }
+
     fn of_dup(&self) -> Option<Reason>
         ensures { result ≡ meant.first (meant.of_dup self.now.call.now (facts_in self.now.machine.now.world.state self.now.pid) true) }
     {
@@ -209,6 +255,38 @@ impl<'a> Refused<'a> {
             return Reason::BadSize;
         }
         self.no_frames()
+    }
+
+    // Whether the console has a name, or a program.
+    fn is_named(&self, name: &[u8]) -> bool
+        ensures { result ≡ is_named (facts_in self.now.machine.now.world.state self.now.pid) name.now }
+    {
+        if is_console(name) {
+            return true;
+        }
+        is_program(self.machine, name)
+    }
+
+    fn of_open(&self) -> Option<Reason>
+        ensures { result ≡ meant.first (meant.of_open self.now.call.now (facts_in self.now.machine.now.world.state self.now.pid) true) }
+    {
+        let Some(path) = self.path() else {
+            let address = self.call.a0;
+            return Some(Reason::NoPath { address });
+        };
+        let name = name_in(path.as_slice());
+        if !self.is_named(name) {
+            return Some(Reason::NotNamed);
+        }
+        let mode = c_int(self.call.a1);
+        if !opens_in(name, mode) {
+            return Some(Reason::NotInMode { mode });
+        }
+        let free = free_descriptors(self.machine, self.pid);
+        if is_none_free(free) {
+            return Some(Reason::NoDescriptor { free });
+        }
+        None
     }
 
     fn of_write(&self) -> Option<Reason>
@@ -281,22 +359,22 @@ impl<'a> Refused<'a> {
             KernelCall::Pipe => Some(self.of_pipe()),
             KernelCall::Read => Some(self.of_read()),
             KernelCall::Kill => self.of_kill(),
+            KernelCall::Exec => Some(self.of_exec()),
             KernelCall::Dup => self.of_dup(),
             KernelCall::Sbrk => Some(self.of_sbrk()),
+            KernelCall::Open => self.of_open(),
             KernelCall::Write => self.of_write(),
             KernelCall::Close => self.of_close(),
             KernelCall::Sbrklazy => self.of_sbrklazy(),
             KernelCall::Exit => None,
-            KernelCall::Exec => None,
             KernelCall::Getpid => None,
             KernelCall::Sleep => None,
             KernelCall::Uptime => None,
-            KernelCall::Open => None,
         }
     }
 }
 
-// Why a call of a live process was refused; `None` if no reason is told of such a call, and for any other pid.
+// Why a call of a live process was refused; `None` of a call that never is, and for any other pid.
 fn reason_of_refused(machine: &Machine, pid: Pid, call: &Call) -> Option<Reason>
     ensures { result ≡ reason_in machine.now.world.state pid call.now minus_one }
 {
@@ -310,7 +388,7 @@ fn reason_of_refused(machine: &Machine, pid: Pid, call: &Call) -> Option<Reason>
 }
 
 /// Why a call of a live process has answered so, by the machine before it or right after it; `None` if it wasn't
-/// refused, if no reason is told of such a call, and for any other pid.
+/// refused, and for any other pid.
 pub fn reason_told(machine: &Machine, pid: Pid, call: &Call, value: i64) -> Option<Reason>
     ensures { result ≡ reason_in machine.now.world.state pid call.now value }
 {

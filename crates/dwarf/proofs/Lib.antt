@@ -4,6 +4,7 @@ pub mod Items
 pub mod Leb
 pub mod Loops
 pub mod Times
+pub mod WorkedAllFrames
 pub mod WorkedFiles
 pub mod WorkedFrames
 pub mod WorkedLookup

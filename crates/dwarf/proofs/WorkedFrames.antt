@@ -79,20 +79,20 @@ abbrev pub function_unit : FrameUnit
 function_unit = record { at = 16; is_common = false; common = 0; body = 24; end = 50 }
 
 abbrev pub row_of : ℕ → ℕ → FrameRow
-row_of address size = record { address = address; rules = record { base = bases.Register 2 (pos size); ra = rules.Undefined; s0 = rules.Undefined } }
+row_of address size = record { address = address; rules = record { base = bases.Register 2 (pos size); ra = rules.Unset; s0 = rules.Unset } }
 
 both_entries : frame_units (common_bytes ++ function_bytes) ≡ Ok ((record { at = 0; is_common = true; common = 0xFFFFFFFF; body = 8; end = 16 }) ∷ function_unit ∷ [])
 unfolding items frame_unit unit_length offset
 both_entries = refl
 
 its_frames : frames_of (common_bytes ++ function_bytes) function_unit
-    ≡ Ok (0x40, 16, row_of 0x40 0 ∷ (record { address = 0x44; rules = record { base = bases.Register 2 (pos 16); ra = rules.AtOffset (negsuc 7); s0 = rules.Undefined } }) ∷ row_of 0x4C 0 ∷ [])
+    ≡ Ok (0x40, 16, row_of 0x40 0 ∷ (record { address = 0x44; rules = record { base = bases.Register 2 (pos 16); ra = rules.AtOffset (negsuc 7); s0 = rules.Unset } }) ∷ row_of 0x4C 0 ∷ [])
 unfolding frames_of common_at common_of past_sizes return_register frames_from frame_step change_at of_opcode of_register unit_length offset unsigned signed leb_bytes
 its_frames = refl
 
 -- rules are kept and taken back, the last ones first; none are left then
 abbrev pub of_sp : FrameRules
-of_sp = record { base = bases.Register 2 (pos 0); ra = rules.Undefined; s0 = rules.Undefined }
+of_sp = record { base = bases.Register 2 (pos 0); ra = rules.Unset; s0 = rules.Unset }
 
 taken : taken_back (unknown ∷ of_sp ∷ []) ≡ Some (unknown ∷ [], of_sp)
 taken = refl

@@ -26,7 +26,7 @@ use Rattle.dwarf.specs.Made.{Fails}
 
 -- before any instruction nothing is told
 abbrev pub unknown : FrameRules
-unknown = record { base = bases.Unset; ra = rules.Undefined; s0 = rules.Undefined }
+unknown = record { base = bases.Unset; ra = rules.Unset; s0 = rules.Unset }
 
 -- what an instruction does to the rules, if the functions have these others in common
 

@@ -1,3 +1,4 @@
+pub mod AllFrames
 pub mod Files
 pub mod FrameChanges
 pub mod FrameUnits

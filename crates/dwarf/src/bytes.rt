@@ -13,7 +13,11 @@ pub(crate) fn is_within(bytes: &[u8], at: usize, count: usize) -> bool
 }
 
 /// The byte at a place.
-pub(crate) fn byte_at(bytes: &[u8], at: usize) -> Result<u8, Fault>
+///
+/// # Errors
+///
+/// [`Fault::Short`] if the bytes end before it does.
+pub fn byte_at(bytes: &[u8], at: usize) -> Result<u8, Fault>
     ensures value { result ≡ meant.fixed 1 bytes.now at }
     ensures within { OnOk result (at + 1 ≤ length bytes.now) }
 {
@@ -24,7 +28,11 @@ pub(crate) fn byte_at(bytes: &[u8], at: usize) -> Result<u8, Fault>
 }
 
 /// The number in the 2 bytes from a place on.
-pub(crate) fn half_at(bytes: &[u8], at: usize) -> Result<u16, Fault>
+///
+/// # Errors
+///
+/// [`Fault::Short`] if the bytes end before it does.
+pub fn half_at(bytes: &[u8], at: usize) -> Result<u16, Fault>
     ensures value { result ≡ meant.fixed 2 bytes.now at }
     ensures within { OnOk result (at + 2 ≤ length bytes.now) }
 {
@@ -35,7 +43,11 @@ pub(crate) fn half_at(bytes: &[u8], at: usize) -> Result<u16, Fault>
 }
 
 /// The number in the 4 bytes from a place on.
-pub(crate) fn word_at(bytes: &[u8], at: usize) -> Result<u32, Fault>
+///
+/// # Errors
+///
+/// [`Fault::Short`] if the bytes end before it does.
+pub fn word_at(bytes: &[u8], at: usize) -> Result<u32, Fault>
     ensures value { result ≡ meant.fixed 4 bytes.now at }
     ensures within { OnOk result (at + 4 ≤ length bytes.now) }
 {
@@ -46,7 +58,11 @@ pub(crate) fn word_at(bytes: &[u8], at: usize) -> Result<u32, Fault>
 }
 
 /// The number in the 8 bytes from a place on.
-pub(crate) fn double_at(bytes: &[u8], at: usize) -> Result<u64, Fault>
+///
+/// # Errors
+///
+/// [`Fault::Short`] if the bytes end before it does.
+pub fn double_at(bytes: &[u8], at: usize) -> Result<u64, Fault>
     ensures value { result ≡ meant.fixed 8 bytes.now at }
     ensures within { OnOk result (at + 8 ≤ length bytes.now) }
 {
@@ -57,8 +73,12 @@ pub(crate) fn double_at(bytes: &[u8], at: usize) -> Result<u64, Fault>
 }
 
 /// An offset or a length: of 8 bytes in a unit in the 64-bit format, else of 4 (section 7.4).
+///
+/// # Errors
+///
+/// [`Fault::Short`] if the bytes end before it does.
 #[tactic(auto, unfolding(crate::specs::Numbers::offset))]
-pub(crate) fn offset_at(bytes: &[u8], at: usize, is_wide: bool) -> Result<u64, Fault>
+pub fn offset_at(bytes: &[u8], at: usize, is_wide: bool) -> Result<u64, Fault>
     ensures value { result ≡ meant.offset is_wide bytes.now at }
     ensures within { OnOk result (at + meant.offset_bytes is_wide ≤ length bytes.now) }
 {
@@ -122,8 +142,12 @@ fn groups(written: &[u8], is_negative: bool) -> Option<u64>
 }
 
 /// An unsigned number in LEB128, and the place after it.
+///
+/// # Errors
+///
+/// [`Fault::Short`] if the bytes end before it does, and [`Fault::TooLarge`] if it has more than 64 bits.
 #[tactic(auto, unfolding(crate::specs::Numbers::unsigned))]
-pub(crate) fn unsigned_at(bytes: &[u8], at: usize) -> Result<(u64, usize), Fault>
+pub fn unsigned_at(bytes: &[u8], at: usize) -> Result<(u64, usize), Fault>
     ensures value { result ≡ meant.unsigned bytes.now at }
     ensures within { IfOk result (λ x. (at < x.1) × (x.1 ≤ length bytes.now)) }
 {
@@ -143,8 +167,12 @@ fn is_negative(written: &[u8]) -> bool
 }
 
 /// A signed number in LEB128, and the place after it.
+///
+/// # Errors
+///
+/// [`Fault::Short`] if the bytes end before it does, and [`Fault::TooLarge`] if it has more than 64 bits.
 #[tactic(auto, unfolding(crate::specs::Numbers::signed))]
-pub(crate) fn signed_at(bytes: &[u8], at: usize) -> Result<(i64, usize), Fault>
+pub fn signed_at(bytes: &[u8], at: usize) -> Result<(i64, usize), Fault>
     ensures value { result ≡ meant.signed bytes.now at }
     ensures within { IfOk result (λ x. (at < x.1) × (x.1 ≤ length bytes.now)) }
 {

@@ -14,7 +14,10 @@ pub enum Base {
 /// Where a caller's value of a register is.
 #[derive(Clone, Copy, Debug, PartialEq, Eq)]
 pub enum Rule {
-    /// The table doesn't tell it, or it is lost.
+    /// The table doesn't tell it: what a call keeps by the calling convention is still there, and so is the return address
+    /// in its register.
+    Unset,
+    /// It is lost.
     Undefined,
     /// Still in the register.
     SameValue,

@@ -60,8 +60,8 @@ impl FrameRules {
     {
         FrameRules {
             base: Base::Unset,
-            ra: Rule::Undefined,
-            s0: Rule::Undefined,
+            ra: Rule::Unset,
+            s0: Rule::Unset,
         }
     }
 

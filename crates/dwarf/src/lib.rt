@@ -7,10 +7,13 @@
 //! Of `.debug_frame` [`frame_units`] finds the entries, and [`frame_rows`] makes the rows of a function's frames (section
 //! 6.4).
 //!
+//! Readers of other sections stand on the numbers and the texts of these: [`byte_at`] and what follows it.
+//!
 //! A table may hold anything, so each place is tested before it is read. What is damaged is refused by name, with its
 //! place in the section. Each function takes time in proportion to the bytes, or the rows, that it is given.
 #![tactic(auto)]
 
+mod all_frames;
 mod bytes;
 mod entry;
 mod entry_list;
@@ -36,6 +39,8 @@ mod unit;
 mod unit_list;
 mod value;
 
+pub use all_frames::{frame_tables, rules_at};
+pub use bytes::{byte_at, double_at, half_at, offset_at, signed_at, unsigned_at, word_at};
 pub use entry::{Entry, Text};
 pub use fault::{Fault, LineError};
 pub use frame::{Base, FrameRow, FrameRules, Rule};
@@ -47,6 +52,6 @@ pub use lookup::{addresses_of, row_at};
 pub use program::rows;
 pub use row::Row;
 pub use tables::{FileTable, file_table};
-pub use text::name_at;
+pub use text::{name_at, past_text};
 pub use unit::Unit;
 pub use unit_list::units;

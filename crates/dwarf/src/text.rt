@@ -17,8 +17,12 @@ fn zero_in(bytes: &[u8]) -> Option<usize>
 }
 
 /// The place after the text that begins at a place, and after its zero byte.
+///
+/// # Errors
+///
+/// [`Fault::Short`] if the bytes end before the text does.
 #[tactic(auto, unfolding(crate::specs::Texts::past_text))]
-pub(crate) fn past_text(bytes: &[u8], at: usize) -> Result<usize, Fault>
+pub fn past_text(bytes: &[u8], at: usize) -> Result<usize, Fault>
     ensures value { result ≡ meant.past_text bytes.now at }
     ensures within { IfOk result (λ next. (at < next) × (next ≤ length bytes.now)) }
 {

@@ -6,7 +6,7 @@ use Rattle.elf_symbols.specs.Symbols.{covers, has_name, name_in, placed_name}
 
 -- a symbol with this type and binding, at 0x10 with 32 bytes
 abbrev at_16 : ℕ → Symbol
-at_16 info = record { name = 1; info = info; value = 0x10; size = 0x20 }
+at_16 info = record { name = 1; info = info; section = 1; value = 0x10; size = 0x20 }
 
 -- a function, global (binding 1) or local (0): its first byte and its last, and those beside them
 first_byte : covers 0x10 (at_16 0x12) ≡ true
@@ -32,7 +32,7 @@ no_type : covers 0x10 (at_16 0x10) ≡ false
 no_type = refl
 
 -- a function of no byte has no address
-no_bytes : covers 0x10 (record { name = 1; info = 0x12; value = 0x10; size = 0 }) ≡ false
+no_bytes : covers 0x10 (record { name = 1; info = 0x12; section = 1; value = 0x10; size = 0 }) ≡ false
 no_bytes = refl
 
 -- a name ends at its first zero byte, may be empty, and must end
@@ -63,7 +63,7 @@ abbrev names : List ℕ
 names = 0 ∷ codes "main" ++ 0 ∷ []
 
 abbrev in_names : Section
-in_names = record { kind = 3; off = 0; size = 6; link = 0 }
+in_names = record { name = 0; kind = 3; flags = 0; off = 0; size = 6; link = 0 }
 
 function_has_name : placed_name names in_names (at_16 0x12) ≡ Some (codes "main")
 function_has_name = refl

@@ -21,7 +21,7 @@ has_sections file = is_elf file && nat_le (sections_place file + 64 * section_co
 
 -- the section whose header begins at a place of the file
 unfoldable pub section_at : List ℕ → ℕ → Section
-section_at file at = record { kind = number_at 4 file (at + 4); off = number_at 8 file (at + 24); size = number_at 8 file (at + 32); link = number_at 4 file (at + 40) }
+section_at file at = record { name = number_at 4 file at; kind = number_at 4 file (at + 4); flags = number_at 8 file (at + 8); off = number_at 8 file (at + 24); size = number_at 8 file (at + 32); link = number_at 4 file (at + 40) }
 
 -- section k, of headers that begin at a place
 abbrev pub section : List ℕ → ℕ → ℕ → Section
@@ -39,7 +39,7 @@ is_symbol_table file place k = (section file place k).kind == 2
 
 -- the symbol that begins at a place of the file
 unfoldable pub symbol_at : List ℕ → ℕ → Symbol
-symbol_at file at = record { name = number_at 4 file at; info = number_at 1 file (at + 4); value = number_at 8 file (at + 8); size = number_at 8 file (at + 16) }
+symbol_at file at = record { name = number_at 4 file at; info = number_at 1 file (at + 4); section = number_at 2 file (at + 6); value = number_at 8 file (at + 8); size = number_at 8 file (at + 16) }
 
 -- symbol i of a table, whose symbols have 24 bytes each
 abbrev pub symbol : List ℕ → Section → ℕ → Symbol
@@ -185,3 +185,23 @@ symbols_in file None = 0
 abbrev pub symbol_count : List ℕ → ℕ
 symbol_count file =
     if has_sections file then symbols_in file (symbol_table file (sections_place file) (section_count file)) else 0
+
+-- symbol i of a table, if it has so many: none if the table isn't wholly in the file
+abbrev pub nth_in : List ℕ → ℕ → Option Section → Option Symbol
+nth_in file i (Some table) = if is_within file table && nat_lt i (table.size / 24) then Some (symbol file table i) else None
+nth_in file i None = None
+
+-- symbol i of the file's first symbol table
+abbrev pub nth_symbol : List ℕ → ℕ → Option Symbol
+nth_symbol file i =
+    if has_sections file then nth_in file i (symbol_table file (sections_place file) (section_count file)) else None
+
+-- What a symbol stands for is in the low half of its byte of information: nothing that is told (0), or a function (2). In the high half is its binding: a local one (0) is known in its own source alone.
+abbrev pub is_function : Symbol → Bool
+is_function s = s.info % 16 == 2
+
+abbrev pub is_untyped : Symbol → Bool
+is_untyped s = s.info % 16 == 0
+
+abbrev pub is_local : Symbol → Bool
+is_local s = s.info / 16 == 0

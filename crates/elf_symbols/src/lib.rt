@@ -6,7 +6,10 @@
 //! each place is tested before it is read, and what isn't wholly in the file has no name. It takes no memory of the host,
 //! and no more steps than there are section headers, symbols and bytes of a name.
 //!
-//! What a name is found by is written in `specs/Symbols.antt`.
+//! [`nth_symbol`] gives a symbol of whatever kind, [`symbol_at`] each one of a table whose bytes are known, and [`section_named`] the bytes of a section, which a reader of a compiler's
+//! tables begins with.
+//!
+//! What a name is found by is written in `specs/Symbols.antt`, and a section in `specs/Sections.antt`.
 #![tactic(auto)]
 
 pub mod laws;
@@ -14,4 +17,7 @@ mod section;
 mod symbol;
 mod table;
 
-pub use table::{address_of, function_at, function_start, symbol_count, symbol_name};
+pub use symbol::{SYMBOL_BYTES, Symbol, symbol_at};
+pub use table::{
+    address_of, function_at, function_start, nth_symbol, section_named, symbol_count, symbol_name,
+};

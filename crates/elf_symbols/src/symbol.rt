@@ -1,16 +1,19 @@
 //! Symbols and their names (ELF-64 Object File Format, "Symbol Table": `Elf64_Sym`, and "String Table").
 ghost use Rattle.std.specs.Prelude.{◌≡◌, ◌≤◌, ◌+◌, ◌*◌, ◌<◌};
-ghost use Rattle.std.specs.Prelude.{◌==◌, length, position, option_map, IfSome};
+ghost use Rattle.std.specs.Prelude.{◌==◌, length, position, option_map, IfSome, Some};
 ghost use Rattle.elf_symbols.specs.Symbols as meant;
 
 use crate::section::Section;
-use xk_base::file_number::{u32_at, u64_at};
+use xk_base::file_number::{u16_at, u32_at, u64_at};
 
-/// Bytes of a symbol.
-pub(crate) const SYMBOL_BYTES: usize = 24;
+/// Bytes of a symbol in a symbol table.
+pub const SYMBOL_BYTES: usize = 24;
 
 /// Where the type and the binding stand in a symbol (`st_info`, 1 byte): the type is the low half.
 const INFO: usize = 4;
+
+/// Where the number of its section stands (`st_shndx`, 2 bytes).
+const SECTION: usize = 6;
 
 /// Where the address stands (`st_value`, 8 bytes).
 const VALUE: usize = 8;
@@ -21,27 +24,39 @@ const SIZE: usize = 16;
 /// The type of a function (`STT_FUNC`).
 const FUNCTION: u8 = 2;
 
+/// The type of what has none that is told (`STT_NOTYPE`).
+const UNTYPED: u8 = 0;
+
+/// The binding of what is known in its own source alone (`STB_LOCAL`): the high half.
+const LOCAL: u8 = 0;
+
 /// The types of what has an address: none is told, data, a function (`STT_NOTYPE`, `STT_OBJECT`, `STT_FUNC`).
 const PLACED_LAST: u8 = FUNCTION;
 
 /// What a symbol says.
 #[derive(Clone, Copy)]
-pub(crate) struct Symbol {
+pub struct Symbol {
+    /// Where its name begins in the string table of the symbols, in bytes.
     pub name: u32,
     info: u8,
+    /// The number of the section in which it stands (`st_shndx`).
+    pub section: u16,
+    /// Its address, if it stands for one.
     pub value: u64,
-    size: u64,
+    /// How many bytes it has; 0 if none are told.
+    pub size: u64,
 }
 
-/// The symbol that begins at `at`.
+/// The symbol that begins at `at`, in bytes from the first of a file or of a symbol table.
 #[tactic(auto, unfolding(crate::specs::Symbols::symbol_at))]
-fn symbol_at(file: &[u8], at: usize) -> Symbol
+pub fn symbol_at(file: &[u8], at: usize) -> Symbol
     requires { at + 24 ≤ length file.now }
     ensures { result ≡ meant.symbol_at file.now at }
 {
     Symbol {
         name: u32_at(file, at),
         info: file[at + INFO],
+        section: u16_at(file, at + SECTION),
         value: u64_at(file, at + VALUE),
         size: u64_at(file, at + SIZE),
     }
@@ -55,6 +70,27 @@ impl Symbol {
         self.info % 16 == FUNCTION
             && self.value <= address
             && u128::from(address) < u128::from(self.value) + u128::from(self.size)
+    }
+
+    /// Whether it is a function (`STT_FUNC`).
+    pub fn is_function(&self) -> bool
+        ensures { result ≡ meant.is_function self.now }
+    {
+        self.info % 16 == FUNCTION
+    }
+
+    /// Whether no type of it is told (`STT_NOTYPE`): so are the labels of assembler source.
+    pub fn is_untyped(&self) -> bool
+        ensures { result ≡ meant.is_untyped self.now }
+    {
+        self.info % 16 == UNTYPED
+    }
+
+    /// Whether it is known in its own source alone (`STB_LOCAL`).
+    pub fn is_local(&self) -> bool
+        ensures { result ≡ meant.is_local self.now }
+    {
+        self.info / 16 == LOCAL
     }
 }
 
@@ -127,6 +163,16 @@ pub(crate) fn nth_name<'a>(
         return None;
     }
     name_at(file, strings, symbol.name)
+}
+
+/// The symbol of this number in a table, if the table is wholly in the file and has so many.
+pub(crate) fn nth(file: &[u8], table: &Section, number: usize) -> Option<Symbol>
+    ensures { result ≡ meant.nth_in file.now number (Some table.now) }
+{
+    if !table.is_within(file) || number >= table.size as usize / SYMBOL_BYTES {
+        return None;
+    }
+    Some(symbol_at(file, table.off as usize + SYMBOL_BYTES * number))
 }
 
 /// Where the first zero byte stands.

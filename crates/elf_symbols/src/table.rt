@@ -3,9 +3,10 @@ ghost use Rattle.std.specs.Prelude.{◌≡◌, ◌≤◌, ◌+◌, ◌*◌, leng
 ghost use Rattle.std.specs.Prelude.{true, false, option_map, MatchOption, IsTrue};
 ghost use Rattle.xk_base.specs.ProgramFile.{is_elf as elf};
 ghost use Rattle.elf_symbols.specs.Symbols as meant;
+ghost use Rattle.elf_symbols.specs.Sections as named;
 
-use crate::section::{STRING_TABLE, Section, read_section, symbol_table};
-use crate::symbol::{SYMBOL_BYTES, first_function, first_named, name_at, nth_name};
+use crate::section::{STRING_TABLE, Section, bytes_named, read_section, symbol_table};
+use crate::symbol::{SYMBOL_BYTES, Symbol, first_function, first_named, name_at, nth, nth_name};
 use xk_base::file_number::{u16_at, u64_at};
 
 /// Bytes of a file header (ELF-64 Object File Format, "ELF Header": `Elf64_Ehdr`).
@@ -20,11 +21,15 @@ const SHOFF: usize = 40;
 /// Where the number of section headers stands in the file header (`e_shnum`, 2 bytes).
 const SHNUM: usize = 60;
 
-/// Where the section headers of a file begin, and how many there are.
+/// Where the number of the section that holds the names of sections stands (`e_shstrndx`, 2 bytes).
+const SHSTRNDX: usize = 62;
+
+/// Where the section headers of a file begin, how many there are, and which of the sections holds the names of all.
 #[derive(Clone, Copy)]
 struct Headers {
     place: usize,
     count: u16,
+    names: u16,
 }
 
 /// Whether the file is long enough for a file header and begins as an ELF file does.
@@ -40,7 +45,7 @@ fn is_elf(file: &[u8]) -> bool
 fn read_headers(file: &[u8]) -> Option<Headers>
     ensures { MatchOption result (meant.has_sections file.now ≡ false) (λ h.
         (meant.has_sections file.now ≡ true) × (h.place ≡ meant.sections_place file.now)
-        × (h.count ≡ meant.section_count file.now)) }
+        × (h.count ≡ meant.section_count file.now) × (h.names ≡ named.names_number file.now)) }
 {
     if !is_elf(file) {
         return None;
@@ -53,6 +58,7 @@ fn read_headers(file: &[u8]) -> Option<Headers>
     Some(Headers {
         place: place as usize,
         count,
+        names: u16_at(file, SHSTRNDX),
     })
 }
 
@@ -125,6 +131,32 @@ pub fn symbol_count(file: &[u8]) -> usize
     } else {
         0
     }
+}
+
+/// The symbol of this number, counted from 0, in the file's first symbol table, of whatever kind it is: none if there are no
+/// more, if the file has no symbol table, or if its section headers or that table aren't wholly in the file.
+pub fn nth_symbol(file: &[u8], number: usize) -> Option<Symbol>
+    ensures { result ≡ meant.nth_symbol file.now number }
+{
+    let headers = read_headers(file)?;
+    let table = symbol_table(file, headers.place, headers.count)?;
+    nth(file, &table, number)
+}
+
+/// The bytes of the first section that has this name, as `.debug_line`.
+///
+/// There are none if no section has the name, if its bytes stand in no file (`SHT_NOBITS`) or are compressed
+/// (`SHF_COMPRESSED`), and if the section headers, the section or the names of sections aren't wholly in the file. It
+/// doesn't panic, whatever the bytes are, and takes no memory.
+pub fn section_named<'a>(file: &'a [u8], name: &[u8]) -> Option<&'a [u8]>
+    ensures { option_map (λ b. b.now) result ≡ named.section_named file.now name.now }
+{
+    let headers = read_headers(file)?;
+    if headers.names >= headers.count {
+        return None;
+    }
+    let names = read_section(file, headers.place, headers.names);
+    bytes_named(file, headers.place, headers.count, &names, name)
 }
 
 /// The name of the symbol of this number, counted from 0, in the file's first symbol table, if the symbol is a function,

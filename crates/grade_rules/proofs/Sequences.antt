@@ -4,7 +4,7 @@ use Rattle.std.specs.List.{filter}
 use Rattle.std.proofs.lemmas.List.{at_drop_more, drop_more, take_more}
 use Rattle.std.proofs.lemmas.List.Elements.{filter_more}
 use Rattle.grade_rules.specs.declared.note.Note.{Note}
-use Rattle.grade_rules.specs.declared.pattern.Numbers.TheVariants.{Any}
+use Rattle.grade_rules.specs.declared.numbers.Numbers.TheVariants.{Any}
 use Rattle.grade_rules.specs.declared.pattern.Pattern.{Pattern}
 use Rattle.grade_rules.specs.declared.pattern.Pattern.TheVariants.{Turn}
 use Rattle.grade_rules.specs.declared.note.Note.TheVariants as note

@@ -1,21 +1,72 @@
 -- Worked cases of the definitions.
 use Rattle.std.specs.Prelude.{◌≡◌, pos, negsuc, true, false, [], ◌∷◌, refl}
+use Rattle.grade_rules.specs.declared.asking.Asking.{Asking}
+use Rattle.grade_rules.specs.declared.asking.Things.TheVariants as things
+use Rattle.grade_rules.specs.declared.given.Given.{Given}
+use Rattle.grade_rules.specs.declared.given.Thing.TheVariants.{Nothing, Console, ReadEnd, WriteEnd}
 use Rattle.grade_rules.specs.declared.note.Note.TheVariants as note
-use Rattle.grade_rules.specs.declared.pattern.Numbers.TheVariants.{Any, Within, Either, Not}
+use Rattle.grade_rules.specs.declared.numbers.Numbers.TheVariants.{Any, Within, Either, Not}
 use Rattle.grade_rules.specs.declared.pattern.Pattern.TheVariants.{Called, Exited, Faulted}
-use Rattle.grade_rules.specs.Patterns.{has, fits}
+use Rattle.grade_rules.specs.Numbers.{has}
+use Rattle.grade_rules.specs.Givens.{takes}
+use Rattle.grade_rules.specs.Patterns.{fits}
 use Rattle.grade_rules.specs.Rules.{are_these}
 
--- `call 1 close *` is a close by process 1, whatever it answers, and none by process 2
-closes : fits (Called (Within (pos 1) (pos 1)) (Within (pos 21) (pos 21)) Any) (note.Called 1 (pos 21) (pos 0)) ≡ true
+-- whatever a call was given
+anything : Asking
+anything = record { first = Any; second = Any; third = Any; byte = Any; on = things.Any }
+
+-- of a close of descriptor 1, which names a pipe's write end; and of a read of a byte by descriptor 0, its read end, into 0x3000
+closed : Given
+closed = record { first = pos 1; second = pos 0; third = pos 0; byte = negsuc 0; on = WriteEnd }
+
+read : Given
+read = record { first = pos 0; second = pos 12288; third = pos 1; byte = negsuc 0; on = ReadEnd }
+
+-- `call 1 close *` is a close by process 1, whatever it answers and was given, and none by process 2
+closes : fits (Called (Within (pos 1) (pos 1)) (Within (pos 21) (pos 21)) Any anything) (note.Called 1 (pos 21) (pos 0) closed) ≡ true
+unfolding anything closed
 closes = refl
 
-closes_not : fits (Called (Within (pos 1) (pos 1)) (Within (pos 21) (pos 21)) Any) (note.Called 2 (pos 21) (pos 0)) ≡ false
+closes_not : fits (Called (Within (pos 1) (pos 1)) (Within (pos 21) (pos 21)) Any anything) (note.Called 2 (pos 21) (pos 0) closed) ≡ false
+unfolding anything closed
 closes_not = refl
 
 -- a sleep in a call is no call
-sleeps : fits (Called Any (Within (pos 21) (pos 21)) Any) (note.Blocked 1 (pos 21)) ≡ false
+sleeps : fits (Called Any (Within (pos 21) (pos 21)) Any anything) (note.Blocked 1 (pos 21) closed) ≡ false
+unfolding anything closed
 sleeps = refl
+
+-- `given write-end` is of a close of that end; and neither of one of the console, nor of a read
+gives : takes (record anything { on = things.Only WriteEnd }) closed ≡ true
+unfolding anything closed
+gives = refl
+
+gives_another : takes (record anything { on = things.Only Console }) closed ≡ false
+unfolding anything closed
+gives_another = refl
+
+gives_not : takes (record anything { on = things.Not ReadEnd }) read ≡ false
+unfolding anything read
+gives_not = refl
+
+gives_nothing : takes (record anything { on = things.Not Nothing }) read ≡ true
+unfolding anything read
+gives_nothing = refl
+
+-- `given 0 * >0`: the third number is that of the bytes, and the first that of the descriptor
+gives_bytes : takes (record anything { first = Within (pos 0) (pos 0); third = Not (pos 0) }) read ≡ true
+unfolding anything read
+gives_bytes = refl
+
+gives_no_byte : takes (record anything { second = Within (pos 0) (pos 0); third = Not (pos 0) }) read ≡ false
+unfolding anything read
+gives_no_byte = refl
+
+-- `given * * * 30` is of no read
+gives_a_byte : takes (record anything { byte = Within (pos 30) (pos 30) }) read ≡ false
+unfolding anything read
+gives_a_byte = refl
 
 -- `fault !1 13|15`
 faults : fits (Faulted (Not (pos 1)) (Either (pos 13) (pos 15))) (note.Faulted 2 15) ≡ true

@@ -1,3 +1,5 @@
+pub mod Numbers
+pub mod Givens
 pub mod Patterns
 pub mod Rules
 pub mod Judged

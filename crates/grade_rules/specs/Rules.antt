@@ -3,7 +3,7 @@ use Rattle.std.specs.Prelude.{◌≡◌, ℕ, ◌<◌, ◌≤◌, ◌&&◌, Bool
 use Rattle.grade_rules.specs.declared.note.Note.{Note}
 use Rattle.grade_rules.specs.declared.note.Note.TheVariants as note
 use Rattle.grade_rules.specs.declared.order.Edge.{Edge}
-use Rattle.grade_rules.specs.declared.pattern.Numbers.TheVariants.{Any}
+use Rattle.grade_rules.specs.declared.numbers.Numbers.TheVariants.{Any}
 use Rattle.grade_rules.specs.declared.pattern.Pattern.{Pattern}
 use Rattle.grade_rules.specs.declared.pattern.Pattern.TheVariants.{Turn}
 use Rattle.grade_rules.specs.Patterns.{fits, fits_one_of}

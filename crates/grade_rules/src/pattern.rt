@@ -1,21 +1,10 @@
 //! Which notes are meant.
 ghost use Rattle.std.specs.Prelude.{◌≡◌};
-ghost use Rattle.grade_rules.specs.Patterns.{has, fits, fits_one_of};
+ghost use Rattle.grade_rules.specs.Patterns.{fits, fits_one_of};
 
+use crate::asking::Asking;
 use crate::note::Note;
-
-/// Which numbers may stand in a place of a note.
-#[derive(Clone, Copy)]
-pub enum Numbers {
-    /// Each number.
-    Any,
-    /// From the least to the most, both with it.
-    Within { least: i64, most: i64 },
-    /// One or the other.
-    Either(i64, i64),
-    /// Each number but this one.
-    Not(i64),
-}
+use crate::numbers::Numbers;
 
 /// Which notes are meant. All other notes are none of them.
 #[derive(Clone, Copy)]
@@ -24,16 +13,18 @@ pub enum Pattern {
     Turn {
         pid: Numbers,
     },
-    /// A kernel call of this number is done, with this answer.
+    /// A kernel call of this number, which was given this, is done, with this answer.
     Called {
         pid: Numbers,
         number: Numbers,
         answer: Numbers,
+        given: Asking,
     },
-    /// A process sleeps in the call of this number.
+    /// A process sleeps in the call of this number, which was given this.
     Blocked {
         pid: Numbers,
         number: Numbers,
+        given: Asking,
     },
     /// A process is gone, with this status.
     Exited {
@@ -47,20 +38,6 @@ pub enum Pattern {
     },
 }
 
-impl Numbers {
-    /// Whether the number is one of them.
-    pub fn has(&self, number: i64) -> bool
-        ensures { result ≡ has self.now number }
-    {
-        match *self {
-            Numbers::Any => true,
-            Numbers::Within { least, most } => least <= number && number <= most,
-            Numbers::Either(one, other) => number == one || number == other,
-            Numbers::Not(other) => number != other,
-        }
-    }
-}
-
 // Whether the note is a turn of such a process.
 fn fits_turn(who: &Numbers, note: Note) -> bool
     ensures { result ≡ fits (Pattern.Turn who.now) note }
@@ -72,23 +49,33 @@ fn fits_turn(who: &Numbers, note: Note) -> bool
 }
 
 // Whether the note is such a call.
-fn fits_call(who: &Numbers, call: &Numbers, answers: &Numbers, note: Note) -> bool
-    ensures { result ≡ fits (Pattern.Called who.now call.now answers.now) note }
+fn fits_call(who: &Numbers, call: &Numbers, answers: &Numbers, asking: &Asking, note: Note) -> bool
+    ensures { result ≡ fits (Pattern.Called who.now call.now answers.now asking.now) note }
 {
     match note {
-        Note::Called { pid, number, value } => {
-            who.has(i64::from(pid)) && call.has(i64::from(number)) && answers.has(value)
+        Note::Called {
+            pid,
+            number,
+            value,
+            given,
+        } => {
+            who.has(i64::from(pid))
+                && call.has(i64::from(number))
+                && answers.has(value)
+                && asking.takes(given)
         }
         _ => false,
     }
 }
 
 // Whether the note is such a sleep.
-fn fits_sleep(who: &Numbers, call: &Numbers, note: Note) -> bool
-    ensures { result ≡ fits (Pattern.Blocked who.now call.now) note }
+fn fits_sleep(who: &Numbers, call: &Numbers, asking: &Asking, note: Note) -> bool
+    ensures { result ≡ fits (Pattern.Blocked who.now call.now asking.now) note }
 {
     match note {
-        Note::Blocked { pid, number } => who.has(i64::from(pid)) && call.has(i64::from(number)),
+        Note::Blocked { pid, number, given } => {
+            who.has(i64::from(pid)) && call.has(i64::from(number)) && asking.takes(given)
+        }
         _ => false,
     }
 }
@@ -124,8 +111,9 @@ impl Pattern {
                 pid,
                 number,
                 answer,
-            } => fits_call(&pid, &number, &answer, note),
-            Pattern::Blocked { pid, number } => fits_sleep(&pid, &number, note),
+                given,
+            } => fits_call(&pid, &number, &answer, &given, note),
+            Pattern::Blocked { pid, number, given } => fits_sleep(&pid, &number, &given, note),
             Pattern::Exited { pid, status } => fits_exit(&pid, &status, note),
             Pattern::Faulted { pid, cause } => fits_fault(&pid, &cause, note),
         }

@@ -1,5 +1,6 @@
-//! Patterns as text: a line of a trace, with `*`, `!1`, `>=2`, `3..9` or `13|15` in place of a number.
-use grade_rules::{Note, Numbers, Pattern};
+//! Patterns as text: a line of a trace, with `*`, `!1`, `>=2`, `3..9` or `13|15` in place of a number, and what a call was
+//! given: `call 1 read 0 given read-end * >0`.
+use grade_rules::{Asking, Note, Numbers, Pattern, Thing, Things};
 use kernel_calls::KernelCall;
 use std::fmt;
 
@@ -74,12 +75,76 @@ fn numbers(word: &str) -> Option<Numbers> {
     Some(within(number, number))
 }
 
+// The thing of a word.
+fn thing(word: &str) -> Option<Thing> {
+    match word {
+        "nothing" => Some(Thing::Nothing),
+        "console" => Some(Thing::Console),
+        "file" => Some(Thing::File),
+        "read-end" => Some(Thing::ReadEnd),
+        "write-end" => Some(Thing::WriteEnd),
+        _ => None,
+    }
+}
+
+// The things that a word stands for.
+fn things(word: &str) -> Option<Things> {
+    match word.strip_prefix("!") {
+        Some(other) => Some(Things::Not(thing(other)?)),
+        None => Some(Things::Only(thing(word)?)),
+    }
+}
+
+// Whether a byte is a letter.
+fn is_letter(byte: &u8) -> bool {
+    byte.is_ascii_alphabetic()
+}
+
+// The numbers that a word without letters stands for: an argument is no kernel call.
+fn numbers_alone(word: &str) -> Option<Numbers> {
+    if word.as_bytes().iter().any(is_letter) {
+        return None;
+    }
+    numbers(word)
+}
+
+// The numbers of a word that may be left out: then each.
+fn numbers_if_any(word: Option<&str>) -> Option<Numbers> {
+    match word {
+        Some(word) => numbers_alone(word),
+        None => Some(Numbers::Any),
+    }
+}
+
+// What a call has to be given, by the words behind `given`: its arguments, and the first byte of a write. In place of the
+// first may stand what it names.
+fn asking(text: &str) -> Option<Asking> {
+    let mut words = text.split(' ');
+    let word = words.next()?;
+    let (first, on) = match things(word) {
+        Some(on) => (Numbers::Any, on),
+        None => (numbers_alone(word)?, Things::Any),
+    };
+    let asking = Asking {
+        first,
+        second: numbers_if_any(words.next())?,
+        third: numbers_if_any(words.next())?,
+        byte: numbers_if_any(words.next())?,
+        on,
+    };
+    match words.next() {
+        None => Some(asking),
+        Some(_) => None,
+    }
+}
+
 // The pattern of a line of two words or of three, behind its kind.
 fn pattern_of_two(kind: &str, first: Numbers, second: Numbers) -> Option<Pattern> {
     match kind {
         "block" => Some(Pattern::Blocked {
             pid: first,
             number: second,
+            given: Asking::ANYTHING,
         }),
         "exit" => Some(Pattern::Exited {
             pid: first,
@@ -93,12 +158,9 @@ fn pattern_of_two(kind: &str, first: Numbers, second: Numbers) -> Option<Pattern
     }
 }
 
-/// The pattern that a text stands for: the words of a line of a trace, of the kinds `turn`, `call`, `block`, `exit` and
-/// `fault`, with a blank between them. In place of a number may stand `*` for each, `!N` for each but N, `>N`, `>=N`,
-/// `<N`, `<=N`, `N..M` for those from N to M, `N|M` for one of the two, and the name of a kernel call for its number.
-/// `None` for any other text.
-pub fn pattern(text: &str) -> Option<Pattern> {
-    let mut words = text.split(' ');
+// The pattern of a line, whatever a call was given.
+fn pattern_of_line(line: &str) -> Option<Pattern> {
+    let mut words = line.split(' ');
     let kind = words.next()?;
     let first = numbers(words.next()?)?;
     let Some(second) = words.next() else {
@@ -118,7 +180,41 @@ pub fn pattern(text: &str) -> Option<Pattern> {
         pid: first,
         number: second,
         answer: numbers(third)?,
+        given: Asking::ANYTHING,
     })
+}
+
+// The pattern of calls that were given this, of one of any calls.
+fn with_asking(pattern: Pattern, given: Asking) -> Option<Pattern> {
+    match pattern {
+        Pattern::Called {
+            pid,
+            number,
+            answer,
+            ..
+        } => Some(Pattern::Called {
+            pid,
+            number,
+            answer,
+            given,
+        }),
+        Pattern::Blocked { pid, number, .. } => Some(Pattern::Blocked { pid, number, given }),
+        _ => None,
+    }
+}
+
+/// The pattern that a text stands for: the words of a line of a trace, of the kinds `turn`, `call`, `block`, `exit` and
+/// `fault`, with a blank between them. In place of a number may stand `*` for each, `!N` for each but N, `>N`, `>=N`,
+/// `<N`, `<=N`, `N..M` for those from N to M, `N|M` for one of the two, and the name of a kernel call for its number.
+///
+/// Behind a `call` or a `block` may stand `given`, and what the call has to be given: its three arguments, and the first
+/// byte of a write; those at the end may be left out. In place of the first may stand what that descriptor names: `nothing`,
+/// `console`, `file`, `read-end` or `write-end`, or `!` and one of them for all else. `None` for any other text.
+pub fn pattern(text: &str) -> Option<Pattern> {
+    match text.split_once(" given ") {
+        Some((line, given)) => with_asking(pattern_of_line(line)?, asking(given)?),
+        None => pattern_of_line(text),
+    }
 }
 
 // The name of the kernel call of a note, if it is one's.

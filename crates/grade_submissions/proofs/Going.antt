@@ -1,23 +1,37 @@
--- Runs of a machine that go on, with what is kept of them.
-use Rattle.std.proofs.Common.{◌≡◌, ℕ, ◌<◌, ◌≤◌, true, false, List, [], ◌∷◌, ◌++◌, replicate, Option, inl, inr, refl, sym, ap, ◌∙◌, subst, append-nil, append_assoc}
+-- A machine that goes on, with what is kept of its run.
+use Rattle.std.proofs.Common.{◌≡◌, ℕ, ◌+◌, ◌<◌, ◌≤◌, true, false, List, [], ◌∷◌, ◌++◌, replicate, Option, None, Ok, inl, inr, refl, sym, ap, ◌∙◌, subst, append-nil, append_assoc}
 use Rattle.std.proofs.lemmas.Bool.{true≢false}
-use Rattle.kernel_spec.specs.runs.Run.{Event, Run, Outcome}
+use Rattle.std.proofs.lemmas.List.{replicate_more}
+use Rattle.kernel_spec.specs.runs.Run.{Event, Run, Outcome, Step_of}
+use Rattle.kernel_spec.specs.runs.First.{first}
 use Rattle.kernel_spec.specs.runs.Rounds.{events}
+use Rattle.kernel_spec.specs.steps.Own.{Stepped}
 use Rattle.kernel_spec.specs.views.State.{ProgramFile}
+use Rattle.kernel_spec.specs.views.Words.{or_zero}
+use Rattle.kernel_spec.specs.waking.Wakes.{IsPromised}
+use Rattle.xv_machine.specs.Drives.{done_by}
+use Rattle.xv_machine.specs.Meaning.{Meaning}
 use Rattle.xv_machine.specs.Reached.{IsReached, IsEvent}
 use Rattle.xv_machine.proofs.Joins.{goes-one, events-join}
 use Rattle.xv_machine.proofs.Reached.{reaches_on}
 use Rattle.xv_session.specs.Answers.{IsNew, Sent, RunsSent}
 use Rattle.xv_session.specs.Recorded.{Recorded, IsRecorded}
-use Rattle.grade_submissions.specs.Plays.{Told, runs_in, told_of, told_with, told_by, told_runs, is_full, PlaysOn, PlaysFirst}
+use Rattle.grade_submissions.specs.Givens.{given_in}
+use Rattle.grade_submissions.specs.Plays.{Told, runs_in, note_with, note_of, all_of, passed_notes, NotesGo, told_of, told_with, told_by, told_runs, is_full, PlaysOn, PlaysFirst}
+use Rattle.grade_submissions.specs.declared.playing.Kept.{Kept}
 use Rattle.grade_submissions.specs.declared.playing.Played.{Played}
-use Rattle.grade_submissions.proofs.Telling.{told-join, runs-told}
+use Rattle.grade_submissions.proofs.Noting.{notes-one, notes-join, notes-those, done-noteless, other-noteless, none-more, notes-again, notes-passed}
+use Rattle.grade_submissions.proofs.Telling.{told-join, done-told, runs-told}
+
+abbrev Steps : Type 0
+Steps = List (Event × Outcome)
 
 pub plays-none : (p : Played) → PlaysOn [] p p
 plays-none p = record {
   list = [];
   those = refl;
   reaches = λ frames trace programs es here. subst (λ (xs : List (Event × Outcome)). IsReached frames trace programs xs p.session.machine) (sym (append-nil es)) here;
+  noted = (refl, refl);
   told = refl;
   budget = refl;
 }
@@ -28,6 +42,7 @@ plays-join xs ys a b c one two = record {
   those = events-join one.list two.list ∙ ap (λ (es : List Event). es ++ events two.list) one.those ∙ ap (λ (es : List Event). xs ++ es) two.those;
   reaches = λ frames trace programs es here. subst (λ (xs : List (Event × Outcome)). IsReached frames trace programs xs c.session.machine)
       (append_assoc es one.list two.list) (two.reaches frames trace programs (es ++ one.list) (one.reaches frames trace programs es here));
+  noted = notes-join one.list two.list a.session.machine.world b.session.machine.world c.session.machine.world a.kept.notes.items b.kept.notes.items c.kept.notes.items one.noted two.noted;
   told = two.told ∙ ap (λ (t : Told). told_by t two.list) one.told ∙ sym (told-join (told_of a.kept) one.list two.list);
   budget = two.budget ∙ one.budget;
 }
@@ -35,33 +50,89 @@ plays-join xs ys a b c one two = record {
 pub plays-those : (xs ys : List Event) (a b : Played) → xs ≡ ys → PlaysOn xs a b → PlaysOn ys a b
 plays-those xs ys a b same plays = subst (λ (es : List Event). PlaysOn es a b) same plays
 
--- an event that isn't Run
-pub plays-event : (e : Event) (o : Outcome) (old new : Played) → runs_in e ≡ 0 → Sent old.session e o new.session → told_of new.kept ≡ told_with (told_of old.kept) 0 o
-    → new.kept.budget ≡ old.kept.budget → PlaysOn (e ∷ []) old new
-plays-event e o old new other sent told same = let one : IsEvent old.session.machine e o new.session.machine = sent.0.event in record {
-  list = (e, o) ∷ [];
-  those = refl;
-  reaches = λ frames trace programs es here. reaches_on frames trace programs es ((e, o) ∷ []) old.session.machine new.session.machine here
-      (goes-one e o old.session.machine new.session.machine one.promised one.notes one.room one.frames one.sound);
-  told = told ∙ ap (λ (n : ℕ). told_with (told_of old.kept) n o) (sym other);
-  budget = same;
-}
+-- one event, of which this note comes
+module _ (e : Event) (o : Outcome) (old new : Played) (one : IsEvent old.session.machine e o new.session.machine) where
+  abbrev here : Steps
+  here = (e, o) ∷ []
 
--- Runs
-pub plays-runs : (most sent : ℕ) (last : Option Outcome) (old new : Played) → 0 < most → RunsSent most sent last old.session new.session → told_of new.kept ≡ told_runs (told_of old.kept) sent last
+  on-reached : (frames trace : ℕ) (programs : List ProgramFile) (es : Steps) → IsReached frames trace programs es old.session.machine → IsReached frames trace programs (es ++ here) new.session.machine
+  on-reached frames trace programs es reached = reaches_on frames trace programs es here old.session.machine new.session.machine reached
+      (goes-one e o old.session.machine new.session.machine one.promised one.notes one.room one.frames one.sound)
+
+  on-noted : new.kept.notes.items ≡ old.kept.notes.items ++ all_of (note_of old.session.machine.world o)
+      → NotesGo old.session.machine.world here new.session.machine.world old.kept.notes.items new.kept.notes.items
+  on-noted notes = notes-those old.session.machine.world new.session.machine.world here old.kept.notes.items (old.kept.notes.items ++ all_of (note_of old.session.machine.world o)) new.kept.notes.items
+      (sym notes) (notes-one old.session.machine.world new.session.machine.world e o old.kept.notes.items one.promised)
+
+  pub plays-one : new.kept.notes.items ≡ old.kept.notes.items ++ all_of (note_of old.session.machine.world o) → told_of new.kept ≡ told_with (told_of old.kept) (runs_in e) o
+      → new.kept.budget ≡ old.kept.budget → PlaysOn (e ∷ []) old new
+  plays-one notes told same = record { list = here; those = refl; reaches = on-reached; noted = on-noted notes; told = told; budget = same }
+
+-- an event that isn't Run
+pub plays-event : (e : Event) (o : Outcome) (old new : Played) → runs_in e ≡ 0 → Sent old.session e o new.session → new.kept.notes.items ≡ old.kept.notes.items
+    → told_of new.kept ≡ told_with (told_of old.kept) 0 o → new.kept.budget ≡ old.kept.budget → PlaysOn (e ∷ []) old new
+plays-event e o old new other sent notes told same =
+    let one : IsEvent old.session.machine e o new.session.machine = sent.0.event in
+    let quiet = none-more old.session.machine.world o old.kept.notes.items (other-noteless old.session.machine.world new.session.machine.world e o other one.promised) in
+    plays-one e o old new one (notes ∙ sym quiet) (told ∙ ap (λ (n : ℕ). told_with (told_of old.kept) n o) (sym other)) same
+
+-- a Run, of the machine before which the note tells
+pub plays-run : (o : Outcome) (old new : Played) → Sent old.session Run o new.session → new.kept.notes.items ≡ old.kept.notes.items ++ all_of (note_with (given_in old.session.machine.world) o)
+    → told_of new.kept ≡ told_with (told_of old.kept) 1 o → new.kept.budget ≡ old.kept.budget → PlaysOn (Run ∷ []) old new
+plays-run o old new sent notes told same = plays-one Run o old new sent.0.event notes told same
+
+-- instructions that are done
+pub plays-instructions : (made : ℕ) (old new : Played) → RunsSent made made None old.session new.session → new.kept.notes.items ≡ old.kept.notes.items
+    → ((p : ℕ) → told_of new.kept ≡ told_by (told_of old.kept) (replicate made (done_by p))) → new.kept.budget ≡ old.kept.budget → PlaysOn (replicate made Run) old new
+plays-instructions made old new (are, stays) notes told same =
+    let w = old.session.machine.world in
+    let v = new.session.machine.world in
+    let p = or_zero w.turns.current in record {
+      list = are.list;
+      those = are.those;
+      reaches = λ frames trace programs es here. reaches_on frames trace programs es are.list old.session.machine new.session.machine here are.goes;
+      noted = subst (λ (es : Steps). NotesGo w es v old.kept.notes.items new.kept.notes.items) (sym are.runs_are)
+          (notes-those w v (replicate made (done_by p)) old.kept.notes.items old.kept.notes.items new.kept.notes.items (sym notes)
+          (notes-again made w v Run (Step_of p Stepped) old.kept.notes.items (done-noteless p) (subst (λ (es : Steps). IsPromised w es v) are.runs_are are.goes.run)));
+      told = told p ∙ ap (told_by (told_of old.kept)) (sym are.runs_are);
+      budget = same;
+    }
+
+-- none of them
+pub plays-still : (made : ℕ) (old new : Played) → RunsSent made made None old.session new.session → made ≡ 0 → new.kept ≡ old.kept → PlaysOn [] old new
+plays-still made old new are none same =
+    plays-those (replicate made Run) [] old new (ap (λ (n : ℕ). replicate n Run) none)
+    (plays-instructions made old new are (ap (λ (k : Kept). k.notes.items) same)
+    (λ p. ap told_of same ∙ ap (λ (n : ℕ). told_by (told_of old.kept) (replicate n (done_by p))) (sym none)) (ap (λ (k : Kept). k.budget) same))
+
+-- some
+pub plays-done : (made : ℕ) (old new : Played) → RunsSent made made None old.session new.session → 0 < made → new.kept.notes.items ≡ old.kept.notes.items
+    → told_of new.kept ≡ told_runs (told_of old.kept) made None → new.kept.budget ≡ old.kept.budget → PlaysOn (replicate made Run) old new
+plays-done made old new are some notes told same = plays-instructions made old new are notes (λ p. told ∙ sym (done-told made p (told_of old.kept) some)) same
+
+-- Runs as nobody runs
+pub plays-passed : (most sent : ℕ) (last : Option Outcome) (old new : Played) → 0 < most → old.session.machine.world.turns.current ≡ None → RunsSent most sent last old.session new.session
+    → new.kept.notes.items ≡ old.kept.notes.items ++ passed_notes last → told_of new.kept ≡ told_runs (told_of old.kept) sent last
     → new.kept.budget ≡ old.kept.budget → PlaysOn (replicate sent Run) old new × (0 < sent) × (sent ≤ most)
-plays-runs most sent last old new some (made, stays) told same =
+plays-passed most sent last old new some nobody (made, stays) notes told same =
+    let w = old.session.machine.world in
     let is = runs-told most sent _ last made.list (told_of old.kept) some made.runs_are made.those in (
       record {
         list = made.list;
         those = made.those;
         reaches = λ frames trace programs es here. reaches_on frames trace programs es made.list old.session.machine new.session.machine here made.goes;
+        noted = notes-those w new.session.machine.world made.list old.kept.notes.items (old.kept.notes.items ++ passed_notes last) new.kept.notes.items (sym notes)
+            (notes-passed w new.session.machine.world nobody old.kept.notes.items most _ last made.list made.runs_are made.goes.run);
         told = told ∙ sym is.0;
         budget = same;
       },
       is.1,
       is.2,
     )
+
+-- Runs, and one more
+pub plays-more : (n : ℕ) (a b c : Played) → PlaysOn (replicate n Run) a b → PlaysOn (Run ∷ []) b c → PlaysOn (replicate (n + 1) Run) a c
+plays-more n a b c some one = plays-those (replicate n Run ++ (Run ∷ [])) (replicate (n + 1) Run) a c (replicate_more n Run) (plays-join (replicate n Run) (Run ∷ []) a b c some one)
 
 -- ---- events of which the first are played
 
@@ -110,3 +181,7 @@ booted-reached frames trace programs s (list, those, reached, named) new =
     let b : IsReached frames s.trace s.programs [] s.machine = subst (λ (n : ℕ). IsReached n s.trace s.programs [] s.machine) new.frames_are a in
     let c : IsReached frames trace s.programs [] s.machine = subst (λ (n : ℕ). IsReached frames n s.programs [] s.machine) new.trace_is b in
     subst (λ (ps : List ProgramFile). IsReached frames trace ps [] s.machine) new.programs_are c
+
+-- the first world, and that no note stands of it yet
+pub booted-noted : (frames trace : ℕ) (programs : List ProgramFile) (m : Meaning) → IsReached frames trace programs [] m → first frames trace programs ≡ Ok m.world
+booted-noted frames trace programs m (booted, is, count, sound, empty, goes) = is ∙ ap Ok (sym goes.run)

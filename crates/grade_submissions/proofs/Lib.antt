@@ -1,3 +1,4 @@
+pub mod Noting
 pub mod Telling
 pub mod Going
 pub mod Counting
@@ -6,3 +7,4 @@ pub mod Handed
 pub mod Making
 pub mod Collecting
 mod Worked
+mod WorkedGivens

@@ -9,6 +9,7 @@ use Rattle.xk_base.specs.declared.limits.TheConstants.{SEND_BYTES, TRACE_MAX}
 use Rattle.xk_base.specs.declared.errors.BootError.{BootError}
 use Rattle.xk_base.specs.declared.errors.BootError.TheVariants.{BadConfig}
 use Rattle.xk_base.specs.declared.errors.ExecError.{ExecError}
+use Rattle.grade_rules.specs.declared.note.Note.{Note}
 use Rattle.kernel_spec.specs.views.NewKernel.{refusal}
 use Rattle.kernel_spec.specs.views.Programs.{init_name, init_of}
 use Rattle.kernel_spec.specs.runs.First.{first, first_init, first_loaded, unless_refused, within_frames}
@@ -19,11 +20,13 @@ use Rattle.kernel_spec.proofs.runs.Plans.{rounds_follow_rounds}
 use Rattle.xv_machine.specs.Drives.{StopsInRound}
 use Rattle.xv_machine.specs.Reached.{IsReached}
 use Rattle.xv_machine.proofs.Shown.{ends-in}
-use Rattle.grade_submissions.specs.Plays.{Told, nothing, told_of, told_by, is_full, is_over, PlaysFirst, IsByPlan, IsRunOf}
+use Rattle.grade_submissions.specs.Plays.{Told, nothing, told_of, told_by, NotesGo, is_full, is_over, PlaysFirst, IsByPlan, IsRunOf}
 use Rattle.grade_submissions.specs.declared.playing.TheConstants.{SHOWN_MAX}
 use Rattle.grade_submissions.specs.declared.playing.Plan.{Plan}
 use Rattle.grade_submissions.specs.declared.playing.Played.{Played}
-use Rattle.grade_submissions.proofs.Telling.{told-join, told-notes, told-shown}
+use Rattle.grade_submissions.proofs.Going.{booted-noted}
+use Rattle.grade_submissions.proofs.Noting.{notes-join}
+use Rattle.grade_submissions.proofs.Telling.{told-join, told-shown}
 
 abbrev Steps : Type 0
 Steps = List (Event × Outcome)
@@ -87,6 +90,7 @@ pub record HasPlayed (plan : Plan) (keys : List ℕ) (count : ℕ) (booted now :
   pub list : Steps
   pub reaches : (frames trace : ℕ) (programs : List ProgramFile) (es : Steps)
       → IsReached frames trace programs es booted.session.machine → IsReached frames trace programs (es ++ list) now.session.machine
+  pub noted : NotesGo booted.session.machine.world list now.session.machine.world booted.kept.notes.items now.kept.notes.items
   pub told : told_of now.kept ≡ told_by (told_of booted.kept) list
   pub budget : now.kept.budget ≡ booted.kept.budget
   pub so : AreRounds count plan.quantum keys false list ⊎ (StopsInRound plan.rounds plan.quantum keys false list × (is_full now.kept ≡ true))
@@ -95,6 +99,7 @@ pub none-played : (plan : Plan) (keys : List ℕ) (booted : Played) → HasPlaye
 none-played plan keys booted = record {
   list = [];
   reaches = λ frames trace programs es here. subst (λ (xs : Steps). IsReached frames trace programs xs booted.session.machine) (sym (append-nil es)) here;
+  noted = (refl, refl);
   told = refl;
   budget = refl;
   so = inl refl;
@@ -119,6 +124,8 @@ module _ (frames trace : ℕ) (programs : List ProgramFile) (plan : Plan) (keys 
       list = list ++ first.plays.list;
       reaches = λ frames trace programs es here. subst (λ (xs : Steps). IsReached frames trace programs xs next.session.machine)
           (append_assoc es list first.plays.list) (first.plays.reaches frames trace programs (es ++ list) (so-far.reaches frames trace programs es here));
+      noted = notes-join list first.plays.list booted.session.machine.world now.session.machine.world next.session.machine.world booted.kept.notes.items now.kept.notes.items next.kept.notes.items
+          so-far.noted first.plays.noted;
       told = first.plays.told ∙ ap (λ (t : Told). told_by t first.plays.list) so-far.told ∙ sym (told-join (told_of booted.kept) list first.plays.list);
       budget = first.plays.budget ∙ so-far.budget;
       so = elim first.all [
@@ -175,14 +182,16 @@ module _ (frames trace : ℕ) (programs : List ProgramFile) (plan : Plan) (keys 
       by false on = plan-over within on (sym (ap (λ (b : Bool). b || is_over now.kept) on) ∙ ended)
 
   -- the whole run
-  pub run-of : told_of booted.kept ≡ nothing → booted.kept.budget ≡ plan.budget → IsByPlan plan keys list now.kept → IsRunOf frames trace programs plan keys now
-  run-of empty budget by-plan =
+  pub run-of : told_of booted.kept ≡ nothing → booted.kept.notes.items ≡ [] → booted.kept.budget ≡ plan.budget → IsByPlan plan keys list now.kept → IsRunOf frames trace programs plan keys now
+  run-of empty blank budget by-plan =
       let told : told_of now.kept ≡ told_by nothing list = so-far.told ∙ ap (λ (t : Told). told_by t list) empty in
       record {
         list = list;
         reached = reached;
         rounds = by-plan;
-        notes = ap (λ (t : Told). t.notes) told ∙ told-notes nothing list;
+        booted = booted.session.machine.world;
+        boots = booted-noted frames trace programs booted.session.machine start;
+        noted = subst (λ (ns : List Note). NotesGo booted.session.machine.world list now.session.machine.world ns now.kept.notes.items) blank so-far.noted;
         shown = ap (λ (t : Told). t.shown) told ∙ told-shown nothing list;
         told = told;
         budget = so-far.budget ∙ budget;

@@ -8,7 +8,7 @@ use Rattle.kernel_spec.specs.steps.Own.{Stepped}
 use Rattle.xv_machine.specs.Drives.{done_by}
 use Rattle.xv_session.specs.Steps.{AreRunsTo}
 use Rattle.xv_session.proofs.RunsCounted.{count-sent}
-use Rattle.grade_submissions.specs.Plays.{Told, is_idle, idle_after, notes_of, told_with, told_by, told_runs}
+use Rattle.grade_submissions.specs.Plays.{Told, is_idle, idle_after, told_with, told_by, told_runs}
 
 pub idle_none : (before : Bool) (sent : ℕ) (o : Outcome) → sent ≡ 0 → idle_after before sent o ≡ before
 idle_none before zero o none = refl
@@ -22,11 +22,7 @@ pub told-join : (t : Told) (xs ys : List (Event × Outcome)) → told_by t (xs +
 told-join t [] ys = refl
 told-join t (e ∷ xs) ys = told-join (told_with t _ e.1) xs ys
 
--- the notes and the bytes are those of the events
-pub told-notes : (t : Told) (list : List (Event × Outcome)) → (told_by t list).notes ≡ t.notes ++ notes_of list
-told-notes t [] = sym (append-nil t.notes)
-told-notes t (e ∷ list) = told-notes (told_with t _ e.1) list ∙ append_assoc t.notes _ _
-
+-- the bytes are those of the events
 pub told-shown : (t : Told) (list : List (Event × Outcome)) → (told_by t list).shown ≡ t.shown ++ out list
 told-shown t [] = sym (append-nil t.shown)
 told-shown t (e ∷ list) = told-shown (told_with t _ e.1) list ∙ append_assoc t.shown _ _
@@ -35,14 +31,14 @@ told-shown t (e ∷ list) = told-shown (told_with t _ e.1) list ∙ append_assoc
 
 -- an instruction that is done tells nothing but that a process ran
 done-one : (t : Told) (p : ℕ) → told_with t 1 (Step_of p Stepped) ≡ told_runs t 1 None
-done-one t p = rw (append-nil t.notes, append-nil t.shown) refl
+done-one t p = rw (append-nil t.shown) refl
 
 done-more : (n p : ℕ) (t : Told) → told_by t (replicate (suc n) (done_by p)) ≡ told_runs t (suc n) None
 done-more zero p t = done-one t p
 done-more (suc n) p t =
     let count : t.runs + 1 + suc n ≡ t.runs + suc (suc n) = omega arith in
     ap (λ (u : Told). told_by u (replicate (suc n) (done_by p))) (done-one t p) ∙ done-more n p (told_runs t 1 None)
-    ∙ ap (λ (k : ℕ). record { notes = t.notes; shown = t.shown; runs = k; last = t.last; idle = false; sending = t.sending }) count
+    ∙ ap (λ (k : ℕ). record { shown = t.shown; runs = k; last = t.last; idle = false; sending = t.sending }) count
 
 -- the same again and again, which tells nothing new
 again : (n : ℕ) (o : Outcome) (t : Told) → (o ≡ Idle) ⊎ (o ≡ Halted) → told_by t (replicate (suc n) (Run, o)) ≡ told_with t (suc n) o
@@ -51,9 +47,9 @@ again (suc n) o t is =
     let count : t.runs + 1 + suc n ≡ t.runs + suc (suc n) = omega arith in
     again n o (told_with t 1 o) is ∙ elim is [
       | inl idle ↦ subst (λ (x : Outcome). told_with (told_with t 1 x) (suc n) x ≡ told_with t (suc (suc n)) x) (sym idle)
-          (rw (append-nil t.notes, append-nil t.shown, append-nil t.notes, append-nil t.shown, count) refl)
+          (rw (append-nil t.shown, append-nil t.shown, count) refl)
       | inr halted ↦ subst (λ (x : Outcome). told_with (told_with t 1 x) (suc n) x ≡ told_with t (suc (suc n)) x) (sym halted)
-          (rw (append-nil t.notes, append-nil t.shown, append-nil t.notes, append-nil t.shown, count) refl)
+          (rw (append-nil t.shown, append-nil t.shown, count) refl)
     ]
 
 -- instructions, and then something else
@@ -69,6 +65,9 @@ then-other (suc n) p o t =
 some-of : (n : ℕ) (P : ℕ → Type 0) → 0 < n → ((k : ℕ) → P (suc k)) → P n
 some-of zero P some each = absurd (omega (arith, some))
 some-of (suc k) P some each = each k
+
+pub done-told : (n p : ℕ) (t : Told) → 0 < n → told_by t (replicate n (done_by p)) ≡ told_runs t n None
+done-told n p t some = some-of n (λ k. told_by t (replicate k (done_by p)) ≡ told_runs t k None) some (λ k. done-more k p t)
 
 pub runs-told : (most sent p : ℕ) (last : Option Outcome) (list : List (Event × Outcome)) (t : Told) → 0 < most → AreRunsTo most p last list → events list ≡ replicate sent Run
     → (told_by t list ≡ told_runs t sent last) × (0 < sent) × (sent ≤ most)

@@ -1,4 +1,5 @@
 pub mod Disks
 pub mod Files
+pub mod Givens
 pub mod Plays
 pub mod Results

@@ -1,18 +1,21 @@
--- What is told of a run: the notes of its events, what it showed, and how it ended.
-use Rattle.std.specs.Prelude.{◌≡◌, ◌⊎◌, ℕ, zero, suc, ℤ, ◌+◌, Bool, true, false, ◌||◌, if◌then◌else◌, nat_lt, List, [], ◌∷◌, ◌++◌, length, flat_map, sum_by, is_some, Option, None, Some, Result, Ok, Err}
+-- What is told of a run: the notes of its events, with what each call was given, what it showed, and how it ended.
+use Rattle.std.specs.Prelude.{◌≡◌, ◌⊎◌, ℕ, zero, suc, ℤ, ◌+◌, Bool, true, false, ◌||◌, if◌then◌else◌, nat_lt, List, [], ◌∷◌, ◌++◌, length, sum_by, is_some, Option, None, Some, Result, Ok, Err}
+use Rattle.grade_rules.specs.declared.given.Given.{Given}
 use Rattle.grade_rules.specs.declared.note.Note.{Note}
 use Rattle.grade_rules.specs.declared.note.Note.TheVariants as note
 use Rattle.grade_rules.specs.declared.ending.End.{End}
 use Rattle.grade_rules.specs.declared.ending.End.TheVariants as ends
 use Rattle.kernel_spec.specs.runs.First.{first}
-use Rattle.kernel_spec.specs.runs.Run.{Event, Run, Tick, Key, Send, Outcome, Step_of, Turn, Idle, Ticked, Typed, Sent, Halted, bytes_out, out}
+use Rattle.kernel_spec.specs.runs.Run.{World, Event, Run, Tick, Key, Send, Outcome, Step_of, Turn, Idle, Ticked, Typed, Sent, Halted, bytes_out, out}
 use Rattle.kernel_spec.specs.runs.Rounds.{events, Planned}
 use Rattle.kernel_spec.specs.steps.Own.{Answer, Stepped, Called, Blocked, Exited, Faulted}
 use Rattle.kernel_spec.specs.views.State.{ProgramFile}
+use Rattle.kernel_spec.specs.waking.Wakes.{Promised}
 use Rattle.xk_base.specs.Access.{code_of}
 use Rattle.xk_base.specs.declared.errors.BootError.{BootError}
 use Rattle.xv_machine.specs.Drives.{StopsInRound}
 use Rattle.xv_machine.specs.Reached.{IsReached}
+use Rattle.grade_submissions.specs.Givens.{given_in, nothing_given}
 use Rattle.grade_submissions.specs.declared.playing.TheConstants.{NOTES_MAX, SHOWN_MAX}
 use Rattle.grade_submissions.specs.declared.playing.Kept.{Kept}
 use Rattle.grade_submissions.specs.declared.playing.Plan.{Plan}
@@ -20,35 +23,44 @@ use Rattle.grade_submissions.specs.declared.playing.Played.{Played}
 
 -- ---- notes
 
--- the note of a step: none of an instruction that is done
-abbrev pub note_of_step : ℕ → Answer → Option Note
-note_of_step p Stepped = None
-note_of_step p (Called number value) = Some (note.Called p number value)
-note_of_step p (Blocked number) = Some (note.Blocked p number)
-note_of_step p (Exited status) = Some (note.Exited p status)
-note_of_step p (Faulted cause) = Some (note.Faulted p (code_of cause))
+-- the note of a step, whose call was given this: none of an instruction that is done
+abbrev pub note_of_step : Given → ℕ → Answer → Option Note
+note_of_step given p Stepped = None
+note_of_step given p (Called number value) = Some (note.Called p number value given)
+note_of_step given p (Blocked number) = Some (note.Blocked p number given)
+note_of_step given p (Exited status) = Some (note.Exited p status)
+note_of_step given p (Faulted cause) = Some (note.Faulted p (code_of cause))
 
-abbrev pub note_of : Outcome → Option Note
-note_of (Step_of p answer) = note_of_step p answer
-note_of (Turn p) = Some (note.Turn p)
-note_of Idle = None
-note_of Ticked = None
-note_of (Typed echo) = None
-note_of (Sent byte) = None
-note_of Halted = None
+abbrev pub note_with : Given → Outcome → Option Note
+note_with given (Step_of p answer) = note_of_step given p answer
+note_with given (Turn p) = Some (note.Turn p)
+note_with given Idle = None
+note_with given Ticked = None
+note_with given (Typed echo) = None
+note_with given (Sent byte) = None
+note_with given Halted = None
+
+-- the note of what came of an event, of the world before it
+abbrev pub note_of : World → Outcome → Option Note
+note_of w o = note_with (given_in w) o
 
 abbrev pub all_of : Option Note → List Note
 all_of None = []
 all_of (Some n) = n ∷ []
 
--- the notes of a run
-abbrev pub notes_of : List (Event × Outcome) → List Note
-notes_of list = flat_map (λ e. all_of (note_of e.1)) list
+-- the note of the last of Runs that were sent as nobody ran, if any came of it
+abbrev pub passed_notes : Option Outcome → List Note
+passed_notes None = []
+passed_notes (Some o) = all_of (note_with nothing_given o)
+
+-- The world goes from w to t by these events, each as promised, and the notes go from `notes` to `after`: behind them stands the note of each event, of the world before it
+abbrev pub NotesGo : World → List (Event × Outcome) → World → (notes after : List Note) → Type 0
+NotesGo w [] t notes after = (t ≡ w) × (after ≡ notes)
+NotesGo w (e ∷ es) t notes after = (mid : World) × Promised w e.0 e.1 mid × NotesGo mid es t (notes ++ all_of (note_of w e.1)) after
 
 -- ---- what is known behind each event
 
 pub record Told : Type 0 where
-  pub notes : List Note
   pub shown : List ℕ
   -- how many Runs were sent
   pub runs : ℕ
@@ -60,7 +72,7 @@ pub record Told : Type 0 where
   pub sending : Bool
 
 abbrev pub nothing : Told
-nothing = record { notes = []; shown = []; runs = 0; last = None; idle = false; sending = false }
+nothing = record { shown = []; runs = 0; last = None; idle = false; sending = false }
 
 abbrev pub last_after : Option ℕ → Outcome → Option ℕ
 last_after before (Turn p) = Some p
@@ -107,7 +119,7 @@ runs_among list = sum_by runs_in list
 
 -- what an outcome adds, behind so many Runs
 abbrev pub told_with : Told → ℕ → Outcome → Told
-told_with t sent o = record { notes = t.notes ++ all_of (note_of o); shown = t.shown ++ bytes_out o; runs = t.runs + sent; last = last_after t.last o; idle = idle_after t.idle sent o; sending = sending_after t.sending o }
+told_with t sent o = record { shown = t.shown ++ bytes_out o; runs = t.runs + sent; last = last_after t.last o; idle = idle_after t.idle sent o; sending = sending_after t.sending o }
 
 -- what is told behind a list of events
 abbrev pub told_by : Told → List (Event × Outcome) → Told
@@ -116,11 +128,11 @@ told_by t (e ∷ list) = told_by (told_with t (runs_in e.0) e.1) list
 
 -- what Runs add that were sent at once: what came of the last one, unless each was a done instruction
 abbrev pub told_runs : Told → ℕ → Option Outcome → Told
-told_runs t sent None = record { notes = t.notes; shown = t.shown; runs = t.runs + sent; last = t.last; idle = false; sending = t.sending }
+told_runs t sent None = record { shown = t.shown; runs = t.runs + sent; last = t.last; idle = false; sending = t.sending }
 told_runs t sent (Some o) = told_with t sent o
 
 abbrev pub told_of : Kept → Told
-told_of k = record { notes = k.notes.items; shown = k.shown.items; runs = k.runs; last = k.last; idle = k.idle; sending = k.sending }
+told_of k = record { shown = k.shown.items; runs = k.runs; last = k.last; idle = k.idle; sending = k.sending }
 
 -- ---- what stops a run
 
@@ -139,6 +151,7 @@ pub record PlaysOn (wanted : List Event) (old new : Played) : Type 0 where
   pub list : List (Event × Outcome)
   pub those : events list ≡ wanted
   pub reaches : (frames trace : ℕ) (programs : List ProgramFile) (es : List (Event × Outcome)) → IsReached frames trace programs es old.session.machine → IsReached frames trace programs (es ++ list) new.session.machine
+  pub noted : NotesGo old.session.machine.world list new.session.machine.world old.kept.notes.items new.kept.notes.items
   pub told : told_of new.kept ≡ told_by (told_of old.kept) list
   pub budget : new.kept.budget ≡ old.kept.budget
 
@@ -156,12 +169,14 @@ pub record PlaysFirst (wanted : List Event) (old new : Played) : Type 0 where
 abbrev pub IsByPlan : Plan → (keys : List ℕ) → List (Event × Outcome) → Kept → Type 0
 IsByPlan plan keys list kept = Planned plan.rounds plan.quantum keys false list ⊎ (StopsInRound plan.rounds plan.quantum keys false list × (is_over kept ≡ true))
 
--- A machine with so many frames, a trace of so many notes and these programs was booted, and has got these events, by the plan and with these keys: what is kept are their notes and what they showed
+-- A machine with so many frames, a trace of so many notes and these programs was booted, and has got these events, by the plan and with these keys: what is kept are their notes, each of the world before its event, and what they showed
 pub record IsRunOf (frames trace : ℕ) (programs : List ProgramFile) (plan : Plan) (keys : List ℕ) (p : Played) : Type 0 where
   pub list : List (Event × Outcome)
   pub reached : IsReached frames trace programs list p.session.machine
   pub rounds : IsByPlan plan keys list p.kept
-  pub notes : p.kept.notes.items ≡ notes_of list
+  pub booted : World
+  pub boots : first frames trace programs ≡ Ok booted
+  pub noted : NotesGo booted list p.session.machine.world [] p.kept.notes.items
   pub shown : p.kept.shown.items ≡ out list
   pub told : told_of p.kept ≡ told_by nothing list
   pub budget : p.kept.budget ≡ plan.budget

@@ -2,8 +2,9 @@
 //! does it is `xv_grade`.
 //!
 //! `play` of `playing.rt` boots a machine and plays the rounds of a plan, each with the next key. It keeps a note of each
-//! turn, call, sleep, exit and fault, and the bytes that the console showed. That these are the notes and the bytes of
-//! just the events that the machine got, and that these events are those of the plan, is `IsRunOf` in
+//! turn, call, sleep, exit and fault, and the bytes that the console showed. With a call and a sleep stands what the call
+//! was given, as the machine had it before that step (`givens.rt`, `specs/Givens.antt`). That these are the notes and the
+//! bytes of just the events that the machine got, and that these events are those of the plan, is `IsRunOf` in
 //! `specs/Plays.antt`. What is handed in, and when it isn't run, is `IsHandedIn` in `specs/Files.antt`. That a line is
 //! that of the submission, the exercise and the runs, is `IsLineShown` in `specs/Results.antt`.
 #![tactic(auto)]
@@ -13,6 +14,7 @@ ghost use Rattle.program_files.specs.Statuses.{IsPlainStatus};
 mod command_line;
 mod disk;
 mod exercise_file;
+mod givens;
 mod grading;
 mod host_files;
 mod playing;

@@ -1,5 +1,5 @@
 //! A run of what was handed in: what happened, and what was shown.
-ghost use Rattle.std.specs.Prelude.{◌≡◌, ◌+◌, ◌*◌, ◌<◌, ◌≤◌, ◌^◌, ◌++◌, ◌∷◌, [], ◌||◌, map, option_map, replicate, slice_get, is_some, IfOk};
+ghost use Rattle.std.specs.Prelude.{◌≡◌, ◌+◌, ◌*◌, ◌<◌, ◌≤◌, ◌^◌, ◌++◌, ◌∷◌, [], None, ◌||◌, map, option_map, replicate, slice_get, is_some, IfOk};
 ghost use Rattle.std.specs.Option.{option_to_list};
 ghost use Rattle.kernel_spec.specs.runs.Run as run_events;
 ghost use Rattle.kernel_spec.specs.runs.Rounds.{round};
@@ -7,10 +7,11 @@ ghost use Rattle.kernel_spec.specs.views.State.{named_file};
 ghost use Rattle.xv_machine.specs.Events.{event_of, outcome_of};
 ghost use Rattle.xv_machine.specs.RoundParts.{events_of_parts};
 ghost use Rattle.xv_session.specs.Recorded.{IsRecorded};
-ghost use Rattle.grade_submissions.specs.Plays.{note_of, all_of, nothing, runs_in, runs_among, told_of, told_with, told_runs, last_after, idle_after, sending_after};
+ghost use Rattle.grade_submissions.specs.Plays.{note_with, all_of, passed_notes, nothing, runs_in, runs_among, told_of, told_with, told_runs, last_after, idle_after, sending_after};
 ghost use Rattle.grade_submissions.specs.Plays.{is_full, is_over, PlaysOn, PlaysFirst, IsPlayed, end_of};
 
-use grade_rules::{End, Note};
+use crate::givens::{given_now, nothing_given};
+use grade_rules::{End, Given, Note};
 use run_work::{Before, cost_of};
 use std::alloc::Global;
 use xk_base::{BootError, Pid, Program};
@@ -63,19 +64,21 @@ pub struct Played {
     pub kept: Kept,
 }
 
-// The note of what came of an event, if it is a turn, a call, a sleep, an exit or a fault.
-fn note_of(outcome: &Outcome) -> Option<Note>
-    ensures { result ≡ note_of (outcome_of outcome.now) }
+// The note of what came of an event, if it is a turn, a call that was given this, a sleep in one, an exit or a fault.
+fn note_with(given: Given, outcome: &Outcome) -> Option<Note>
+    ensures { result ≡ note_with given (outcome_of outcome.now) }
 {
     match outcome {
         Outcome::Called { pid, number, value } => Some(Note::Called {
             pid: pid.number(),
             number: *number,
             value: *value,
+            given,
         }),
         Outcome::Blocked { pid, number } => Some(Note::Blocked {
             pid: pid.number(),
             number: *number,
+            given,
         }),
         Outcome::Exited { pid, status } => Some(Note::Exited {
             pid: pid.number(),
@@ -159,6 +162,7 @@ impl Kept {
     // Nothing yet, of a run that may do so much work.
     fn new(alloc: Global, budget: u64) -> Kept
         ensures told { told_of result ≡ nothing }
+        ensures notes { result.notes.items ≡ [] }
         ensures budget { result.budget ≡ budget }
     {
         Kept {
@@ -191,19 +195,20 @@ impl Kept {
     // Adds work that was done.
     fn add_work(&mut self, cost: u64)
         ensures told { told_of self.new ≡ told_of self.old }
+        ensures notes { self.new.notes.items ≡ self.old.notes.items }
         ensures budget { self.new.budget ≡ self.old.budget }
     {
         self.work = self.work.saturating_add(cost);
     }
 
-    // Keeps what came of the event at a place, behind so many Runs.
+    // Keeps what came of the event at a place, behind so many Runs, but for its note.
     fn keep(&mut self, sent: u32, place: u64, outcome: &Outcome) -> Result<(), SessionError>
         requires { self.old.runs + sent < 2 ^ 64 }
         ensures told { IfOk result (λ _. told_of self.new ≡ told_with (told_of self.old) sent (outcome_of outcome.now)) }
+        ensures notes { self.new.notes.items ≡ self.old.notes.items }
         ensures budget { IfOk result (λ _. self.new.budget ≡ self.old.budget) }
     {
         add_bytes(&mut self.shown, outcome.shown())?;
-        add_note(&mut self.notes, note_of(outcome))?;
         self.runs += u64::from(sent);
         self.last = last_after(self.last, outcome);
         self.idle = idle_after(self.idle, sent, outcome);
@@ -212,7 +217,36 @@ impl Kept {
         Ok(())
     }
 
-    // Keeps what came of Runs that were sent at once; the last one of them was the event at a place.
+    // Keeps that so many instructions are done.
+    fn keep_done(&mut self, sent: u32)
+        requires { self.old.runs + sent < 2 ^ 64 }
+        ensures told { told_of self.new ≡ told_runs (told_of self.old) sent None }
+        ensures notes { self.new.notes.items ≡ self.old.notes.items }
+        ensures budget { self.new.budget ≡ self.old.budget }
+    {
+        self.runs += u64::from(sent);
+        self.idle = false;
+    }
+
+    // Keeps what came of an event, with the note of a call that was given this.
+    fn keep_noted(
+        &mut self,
+        given: Given,
+        sent: u32,
+        place: u64,
+        outcome: &Outcome,
+    ) -> Result<(), SessionError>
+        requires { self.old.runs + sent < 2 ^ 64 }
+        ensures told { IfOk result (λ _. told_of self.new ≡ told_with (told_of self.old) sent (outcome_of outcome.now)) }
+        ensures notes { IfOk result (λ _. self.new.notes.items ≡ self.old.notes.items ++ all_of (note_with given (outcome_of outcome.now))) }
+        ensures budget { IfOk result (λ _. self.new.budget ≡ self.old.budget) }
+    {
+        add_note(&mut self.notes, note_with(given, outcome))?;
+        self.keep(sent, place, outcome)?;
+        Ok(())
+    }
+
+    // Keeps what came of Runs that were sent at once as nobody ran; the last one of them was the event at a place.
     fn keep_runs(
         &mut self,
         sent: u32,
@@ -221,22 +255,78 @@ impl Kept {
     ) -> Result<(), SessionError>
         requires { self.old.runs + sent < 2 ^ 64 }
         ensures told { IfOk result (λ _. told_of self.new ≡ told_runs (told_of self.old) sent (option_map outcome_of last.now)) }
+        ensures notes { IfOk result (λ _. self.new.notes.items ≡ self.old.notes.items ++ passed_notes (option_map outcome_of last.now)) }
         ensures budget { IfOk result (λ _. self.new.budget ≡ self.old.budget) }
     {
-        let Some(outcome) = last else {
-            self.runs += u64::from(sent);
-            self.idle = false;
-            return Ok(());
-        };
-        self.keep(sent, place, outcome)
+        match last {
+            Some(outcome) => self.keep_noted(nothing_given(), sent, place, outcome),
+            None => {
+                self.keep_done(sent);
+                Ok(())
+            }
+        }
     }
 }
 
 impl Played {
-    // Sends Run so many times at most, and tells how often.
-    fn run(&mut self, most: u32) -> Result<u32, SessionError>
+    // Sends Run as long as an instruction is done, so many times at most, and tells how often.
+    fn go_on(&mut self, most: u32) -> Result<u32, SessionError>
+        requires room { self.old.kept.runs + most < 2 ^ 64 }
+        ensures plays { IfOk result (λ sent. PlaysOn (replicate sent run_events.Run) self.old self.new) }
+        ensures within { IfOk result (λ sent. sent ≤ most) }
+        ensures runs { IfOk result (λ sent. self.new.kept.runs ≡ self.old.kept.runs + sent) }
+    {
+        let sent = self.session.instructions(most)?;
+        if sent == 0 {
+            return Ok(0);
+        }
+        self.kept.keep_done(sent);
+        Ok(sent)
+    }
+
+    // Sends Run once, behind so many others that were sent since `before`. What a call was given, is told of the machine as
+    // it is before.
+    fn step(&mut self, sent: u32, before: &Before) -> Result<(), SessionError>
+        requires room { self.old.kept.runs + 1 < 2 ^ 64 }
+        requires few { sent + 1 < 2 ^ 32 }
+        ensures plays { IfOk result (λ _. PlaysOn (run_events.Run ∷ []) self.old self.new) }
+        ensures runs { IfOk result (λ _. self.new.kept.runs ≡ self.old.kept.runs + 1) }
+    {
+        let given = given_now(self.session.machine());
+        let outcome = self.session.send(Event::Run)?;
+        let place = self.session.at().saturating_sub(1);
+        self.kept.keep_noted(given, 1, place, &outcome)?;
+        let last = Some(outcome);
+        let cost = cost_of(self.session.machine(), before, sent + 1, &last);
+        self.kept.add_work(cost);
+        Ok(())
+    }
+
+    // Lets the process that runs go on: sends Run up to the first of which no done instruction comes, so many times at most.
+    fn run_process(&mut self, most: u32) -> Result<u32, SessionError>
         requires some { 0 < most }
         requires room { self.old.kept.runs + most < 2 ^ 64 }
+        ensures plays { IfOk result (λ sent. PlaysOn (replicate sent run_events.Run) self.old self.new) }
+        ensures some { IfOk result (λ sent. 0 < sent) }
+        ensures within { IfOk result (λ sent. sent ≤ most) }
+        ensures runs { IfOk result (λ sent. self.new.kept.runs ≡ self.old.kept.runs + sent) }
+    {
+        let before = Before::of(self.session.machine());
+        let sent = self.go_on(most)?;
+        if sent < most {
+            self.step(sent, &before)?;
+            return Ok(sent + 1);
+        }
+        let cost = cost_of(self.session.machine(), &before, sent, &None);
+        self.kept.add_work(cost);
+        Ok(sent)
+    }
+
+    // Sends Run as nobody runs: once if somebody's turn comes, and else so many times.
+    fn pass(&mut self, most: u32) -> Result<u32, SessionError>
+        requires some { 0 < most }
+        requires room { self.old.kept.runs + most < 2 ^ 64 }
+        requires nobody { self.old.session.machine.world.turns.current ≡ None }
         ensures plays { IfOk result (λ sent. PlaysOn (replicate sent run_events.Run) self.old self.new) }
         ensures some { IfOk result (λ sent. 0 < sent) }
         ensures within { IfOk result (λ sent. sent ≤ most) }
@@ -246,10 +336,24 @@ impl Played {
         let runs = self.session.run(most)?;
         let place = self.session.at().saturating_sub(1);
         self.kept.keep_runs(runs.sent, place, &runs.last)?;
-        let machine = self.session.machine();
-        self.kept
-            .add_work(cost_of(machine, &before, runs.sent, &runs.last));
+        let cost = cost_of(self.session.machine(), &before, runs.sent, &runs.last);
+        self.kept.add_work(cost);
         Ok(runs.sent)
+    }
+
+    // Sends Run so many times at most, and tells how often.
+    fn run(&mut self, most: u32) -> Result<u32, SessionError>
+        requires some { 0 < most }
+        requires room { self.old.kept.runs + most < 2 ^ 64 }
+        ensures plays { IfOk result (λ sent. PlaysOn (replicate sent run_events.Run) self.old self.new) }
+        ensures some { IfOk result (λ sent. 0 < sent) }
+        ensures within { IfOk result (λ sent. sent ≤ most) }
+        ensures runs { IfOk result (λ sent. self.new.kept.runs ≡ self.old.kept.runs + sent) }
+    {
+        match self.session.machine().current() {
+            Some(_) => self.run_process(most),
+            None => self.pass(most),
+        }
     }
 
     // Sends Run so many times, unless the run is full before.
@@ -367,6 +471,7 @@ impl Played {
 fn begin(alloc: Global, session: Session, budget: u64) -> Played
     ensures session { result.session ≡ session }
     ensures kept { told_of result.kept ≡ nothing }
+    ensures notes { result.kept.notes.items ≡ [] }
     ensures budget { result.kept.budget ≡ budget }
     ensures recorded { IsRecorded session }
 {

@@ -130,7 +130,8 @@ fn fault_text(
     let Some(place) = played.kept.fault else {
         return Ok(String::from_str(alloc, "fault ")?);
     };
-    match report_at(alloc, &played.session, place)? {
+    let source = functions_of(submission.bytes.as_slice());
+    match report_at(alloc, &played.session, place, &source)? {
         Some(report) => Ok(told_fault(alloc, submission, played, &report)?),
         None => Ok(String::from_str(alloc, "fault ")?),
     }

@@ -251,7 +251,8 @@ impl<E: Write> Teller<E> {
         ensures ends { self.new.ends ≡ self.old.ends }
     {
         let place = session.at().saturating_sub(1);
-        if let Ok(Some(report)) = report_at(self.alloc, session, place) {
+        let source = source_of(Some(&self.sources), session, runner.program);
+        if let Ok(Some(report)) = report_at(self.alloc, session, place, &source) {
             let text = fault_text(self.alloc, &report, &self.sources, session, runner.program);
             if let Some(text) = text {
                 let _ = writeln!(self.errors, "{text}");

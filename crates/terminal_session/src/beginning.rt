@@ -6,18 +6,20 @@ use crate::history::History;
 use crate::host::Desk;
 use crate::line::Settings;
 use crate::notes::{Notes, OpenLine};
-use crate::recording::write_record;
+use crate::record_file::{HostFile, open_record};
+use crate::recording::head_of;
 use crate::telling::PLAYED_AGAIN;
+use program_files::exit_statuses::DEVICE_FAILED;
 use program_files::{Failure, FileRefusal, line_table, programs};
 use std::alloc::Global;
-use std::fs::{self, File};
+use std::fs;
 use std::io::{ErrorKind, Write};
 use std::time::Duration;
 use xk_base::{BootError, Program};
 use xv_debug::Debugger;
-use xv_live::Screen;
+use xv_live::{Recorder, Screen, Teller};
 use xv_machine::{ByteSink, Config, Counted};
-use xv_record::{Record, RecordError, chosen, read_record};
+use xv_record::{Ending, Record, RecordError, Taken, chosen, take_record};
 use xv_report::Sources;
 use xv_session::Session;
 
@@ -26,8 +28,8 @@ fn no_record(alloc: Global, path: &str, why: RecordError) -> Failure<'static> {
     Failure::in_words(format!(in alloc; "{path}: {why}"))
 }
 
-// The record in the file of this path.
-fn record_in<'a>(rt: &HostRuntime, path: &'a str) -> Result<Record, Failure<'a>> {
+// The record in the file of this path, as far as the file has it.
+fn record_in<'a>(rt: &HostRuntime, path: &'a str) -> Result<Taken, Failure<'a>> {
     let text = match fs::read_to_string(rt, path) {
         Ok(text) => text,
         Err(error) if error.kind() == ErrorKind::OutOfMemory => return Err(Failure::OutOfMemory),
@@ -36,10 +38,25 @@ fn record_in<'a>(rt: &HostRuntime, path: &'a str) -> Result<Record, Failure<'a>>
         }
         Err(_) => return Err(Failure::File(FileRefusal::CannotBeRead(path))),
     };
-    match read_record(rt.alloc(), text.as_str()) {
-        Ok(record) => Ok(record),
+    match take_record(rt.alloc(), text.as_str()) {
+        Ok(taken) => Ok(taken),
         Err(error) => Err(no_record(rt.alloc(), path, error)),
     }
+}
+
+// Says what is left out of the file of a record, if anything is.
+fn tell_ending<E: Write>(path: &str, ending: Ending, errors: &mut E) {
+    let _ = match ending {
+        Ending::Whole => Ok(()),
+        Ending::Cut => writeln!(
+            errors,
+            "{NAME}: {path}: cut off: it is played up to its last whole line"
+        ),
+        Ending::Longer => writeln!(
+            errors,
+            "{NAME}: {path}: what stands after its line `end` is left out"
+        ),
+    };
 }
 
 // A session of programs that was just booted.
@@ -52,18 +69,15 @@ fn boot(
     Session::boot(alloc, Config { frames, trace }, programs)
 }
 
-// The file that the record is written into, made anew, if there is to be one.
+// The file that the record is kept in, if there is to be one.
 fn record_file<'a>(
     rt: &HostRuntime,
     settings: &'a Settings,
-) -> Result<Option<Counted<File>>, Failure<'a>> {
+) -> Result<Option<HostFile>, Failure<'a>> {
     let Some(path) = &settings.record else {
         return Ok(None);
     };
-    match fs::create(rt, path.as_str()) {
-        Ok(file) => Ok(Some(Counted::new(file))),
-        Err(_) => Err(Failure::CannotBeWritten(path.as_str())),
-    }
+    Ok(Some(open_record(rt, path.as_str(), settings.overwrite)?))
 }
 
 // Attends to a session at the keyboard up to its end, which is told. A terminal is told first what there is to type.
@@ -72,6 +86,7 @@ fn attend_to<W: ByteSink, E: Write>(
     session: &mut Session,
     debugger: &mut Debugger,
     settings: &Settings,
+    recorder: &mut Recorder<HostFile>,
     screen: &mut Screen<W, Notes<E>>,
 ) -> u8 {
     if settings.terminal && !settings.apart {
@@ -87,10 +102,37 @@ fn attend_to<W: ByteSink, E: Write>(
         settings.woken,
         tick,
     );
-    live(session, &mut desk, debugger, screen)
+    live(session, &mut desk, debugger, recorder, screen)
 }
 
-// A session that has booted, up to its end, which is told; then its record is written.
+// Begins to keep a session's record in a file, if there is one.
+fn begin_recording<E: Write>(
+    session: &Session,
+    file: Option<HostFile>,
+    frames: u32,
+    notes: &mut Notes<E>,
+) -> Result<Recorder<HostFile>, Failure<'static>> {
+    let mut recorder = Recorder::none(notes.alloc);
+    let Some(file) = file else {
+        return Ok(recorder);
+    };
+    let head = head_of(notes.alloc, session, frames)?;
+    if let Err(why) = recorder.begin(file, head, session) {
+        notes.tell_unrecorded(why);
+    }
+    Ok(recorder)
+}
+
+// The exit status of a session: that of its end, or that its record couldn't be written.
+fn status_with(status: u8, recorder: &Recorder<HostFile>) -> u8 {
+    match recorder.failure {
+        Some(_) => DEVICE_FAILED,
+        None => status,
+    }
+}
+
+// A session that has booted, up to its end, which is told. Its record is kept meanwhile; that of a session that plays a
+// record is written at its end.
 fn go_through<'a>(
     rt: &HostRuntime,
     session: &mut Session,
@@ -111,16 +153,14 @@ fn go_through<'a>(
         sink: Counted::new(rt.stdout()),
         teller: notes,
     };
-    let status = match record {
-        Some(record) => replay(session, record, &mut screen),
-        None => attend_to(rt, session, debugger, settings, &mut screen),
+    let Some(record) = record else {
+        let mut recorder = begin_recording(session, file, settings.frames, &mut screen.teller)?;
+        let status = attend_to(rt, session, debugger, settings, &mut recorder, &mut screen);
+        return Ok(status_with(status, &recorder));
     };
-    let Some(mut file) = file else {
-        return Ok(status);
-    };
-    let frames = record.map_or(settings.frames, |record| record.frames);
-    write_record(rt.alloc(), session, frames, &mut file)?;
-    Ok(status)
+    let status = replay(session, record, &mut screen);
+    let recorder = begin_recording(session, file, record.frames, &mut screen.teller)?;
+    Ok(status_with(status, &recorder))
 }
 
 // Boots the machine that the settings ask for, and attends to it.
@@ -134,7 +174,8 @@ fn begin<'a>(rt: &HostRuntime, settings: &'a Settings) -> Result<u8, Failure<'a>
         let mut session = boot(rt.alloc(), settings.frames, settings.trace, made.programs)?;
         return go_through(rt, &mut session, &mut debugger, settings, None);
     };
-    let record = record_in(rt, path.as_str())?;
+    let Taken { record, ending } = record_in(rt, path.as_str())?;
+    tell_ending(path.as_str(), ending, &mut rt.stderr());
     begin_record(rt, settings, made.programs, &record)
 }
 

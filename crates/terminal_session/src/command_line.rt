@@ -48,7 +48,11 @@ const COMMAND_LINE: CommandLine = CommandLine {
         CommandWord::Text {
             name: "record",
             value: "PATH",
-            help: "Writes the session's record into this file",
+            help: "Keeps the session's record in this file",
+        },
+        CommandWord::Flag {
+            name: "overwrite",
+            help: "The record's file may be written over",
         },
         CommandWord::Text {
             name: "replay",
@@ -95,6 +99,7 @@ pub fn settings<R: Env + AllocGlobal>(rt: &R) -> Result<Settings, WordsError>
         trace,
         tick,
         record: given.text("record")?,
+        overwrite: given.flag("overwrite"),
         replay: given.text("replay")?,
         lines: given.text("lines")?,
         terminal: given.flag("terminal"),

@@ -23,6 +23,7 @@ mod keys;
 mod line;
 mod line_editor;
 mod notes;
+mod record_file;
 mod recording;
 mod stopping;
 mod telling;

@@ -11,6 +11,8 @@ pub struct Settings {
     pub tick: u32,
     /// The path of the file that the record is written into.
     pub record: Option<String>,
+    /// Whether that file may be written over, if it has bytes.
+    pub overwrite: bool,
     /// The path of the record that is played.
     pub replay: Option<String>,
     /// The path of a table of lines.

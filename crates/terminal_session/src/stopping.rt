@@ -1,18 +1,20 @@
 //! The prompt at which the machine is stopped, and the debugger is asked.
-ghost use Rattle.std.specs.Prelude.{◌≡◌};
+ghost use Rattle.std.specs.Prelude.{◌≡◌, OnOk};
 ghost use Rattle.xv_debug.specs.Conversations.{Converses, MovesByWord};
+ghost use Rattle.xv_live.specs.Keeps.{GoesOn, IsKept};
 
 use crate::completing::rest_of_word;
 use crate::history::History;
 use crate::keys::{Key, Keys};
 use crate::line_editor::{Edit, LineEditor};
 use crate::notes::Notes;
-use crate::telling::tell_waits;
+use crate::telling::{record_anew, tell_waits};
 use program_files::Failure;
 use std::alloc::Global;
 use std::io::Write;
 use xv_debug::{Debugger, Next, Patience};
-use xv_live::{Host, Look};
+use xv_live::{Host, Look, Recorder};
+use xv_record::RecordFile;
 use xv_session::Session;
 
 /// What stands before a line that is typed at the prompt.
@@ -200,26 +202,31 @@ fn exchange<H: Host + Patience, E: Write>(
 }
 
 /// Stops the machine at the prompt, up to a word that lets it go on or ends it. The first lines tell why each process
-/// doesn't go on. The lines that are typed are the debugger's. Ctrl-C breaks off a word that runs.
+/// doesn't go on. The lines that are typed are the debugger's. Ctrl-C breaks off a word that runs. After each line the
+/// record is that of the session.
 ///
 /// # Errors
 ///
 /// That of the keyboard; [`Failure::OutOfMemory`] if there is too little for an answer.
-#[tactic(auto, using(xv_debug::proofs::Conversed::no_line, xv_debug::proofs::Conversed::one_more))]
-pub fn stop<H: Host + Patience, E: Write>(
+#[tactic(auto, using(xv_debug::proofs::Conversed::no_line, xv_debug::proofs::Conversed::one_more, xv_live::proofs::Kept::on_still, xv_live::proofs::Kept::on_join))]
+pub fn stop<F: RecordFile, H: Host + Patience, E: Write>(
     session: &mut Session,
     host: &mut H,
     debugger: &mut Debugger,
+    recorder: &mut Recorder<F>,
     notes: &mut Notes<E>,
 ) -> Result<Next, Failure<'static>>
     ensures lines { Converses H.may_end debugger.old.quantum session.old session.new }
     ensures quantum { debugger.new.quantum ≡ debugger.old.quantum }
+    ensures kept { OnOk result (IsKept F.held recorder.old session.old.events → IsKept F.held recorder.new session.new.events) }
+    ensures goes_on { GoesOn recorder.old recorder.new }
 {
     notes.break_line();
     notes.write_note(WELCOME);
     tell_waits(session, notes);
     'lines: for _ in 0..u64::MAX {
         let next = exchange(session, host, debugger, notes)?;
+        record_anew(session, recorder, notes);
         if next != Next::Stays {
             notes.end_notes();
             return Ok(next);

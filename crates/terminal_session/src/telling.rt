@@ -1,12 +1,17 @@
 //! What is told of the processes, beside what the machine sends.
+ghost use Rattle.xv_live.specs.Keeps.{GoesOn, IsKept};
+
+use crate::NAME;
 use crate::notes::Notes;
+use program_files::Failure;
 use std::alloc::Global;
 use std::fmt;
 use std::io::Write;
 use xk_base::Pid;
 use xk_base::limits::NPROC;
-use xv_live::{FaultNote, Teller};
+use xv_live::{FaultNote, Recorder, Teller};
 use xv_machine::Machine;
+use xv_record::{GrowError, RecordFile};
 use xv_report::text::{FaultText, Name, ProcessLine, WaitLine};
 use xv_report::{cause_text, report_at, source_of};
 use xv_session::Session;
@@ -82,6 +87,17 @@ impl fmt::Display for ShortFault<'_> {
     }
 }
 
+// That a record can't be written any more, and why.
+#[derive(Drop)]
+struct Unrecorded(Failure<'static>);
+
+impl fmt::Display for Unrecorded {
+    fn fmt<W: fmt::Write>(&self, f: &mut fmt::Formatter<W>) -> fmt::Result {
+        let why = &self.0;
+        write!(f, "{NAME}: {why}; the machine goes on without it")
+    }
+}
+
 // The first line of a text.
 #[derive(Drop)]
 struct FirstLine<'a>(&'a str);
@@ -105,12 +121,13 @@ fn long_line(
 ) -> Option<String> {
     let before = session.at().checked_sub(1)?;
     *plays_left = plays_left.checked_sub(before)?;
-    let report = report_at(alloc, session, before).ok()??;
+    let source = source_of(None, session, place);
+    let report = report_at(alloc, session, before, &source).ok()??;
     let program = session.machine().programs().get(place?)?;
     let text = FaultText {
         report: &report,
         program: Some(program.name.as_slice()),
-        source: source_of(None, session, place),
+        source,
     };
     text.to_string(alloc).ok()
 }
@@ -121,6 +138,20 @@ fn tell_one<E: Write>(session: &Session, fault: FaultNote, notes: &mut Notes<E>)
     match long_line(session, notes.alloc, fault.program, &mut notes.plays_left) {
         Some(line) => notes.note(FirstLine(line.as_str())),
         None => notes.note(ShortFault { session, fault }),
+    }
+}
+
+/// Writes all of a record anew, if one is kept. That it can't be written any more is told.
+pub fn record_anew<F: RecordFile, E: Write>(
+    session: &Session,
+    recorder: &mut Recorder<F>,
+    notes: &mut Notes<E>,
+)
+    ensures kept { IsKept F.held recorder.new session.now.events }
+    ensures goes_on { GoesOn recorder.old recorder.new }
+{
+    if let Err(why) = recorder.keep_anew(session) {
+        notes.tell_unrecorded(why);
     }
 }
 
@@ -137,5 +168,13 @@ impl<E: Write> Teller for Notes<E> {
         self.begin_notes();
         tell_all(session, self);
         self.end_notes();
+    }
+
+    fn tell_unrecorded(&mut self, why: GrowError) {
+        let failure = match why {
+            GrowError::Unwritten => Failure::RecordUnwritten,
+            GrowError::Memory => Failure::OutOfMemory,
+        };
+        self.note(Unrecorded(failure));
     }
 }

@@ -12,6 +12,7 @@ use Rattle.debug_words.specs.declared.vocabulary.Word.{Word}
 use Rattle.debug_words.specs.declared.vocabulary.Word.TheVariants.{Step, Next, Back, BackUntil, Until, Run, Tick, Key, Send, ToMark, Finish}
 use Rattle.debug_views.specs.Written.{Writes}
 use Rattle.xv_debug.specs.motion.Aims.{aim_in}
+use Rattle.xv_report.specs.declared.sources.Sources.{Sources}
 use Rattle.xv_debug.specs.motion.Finishing.{IsFinishAim}
 use Rattle.xv_debug.specs.motion.Backwards.{GoesBackUntil}
 use Rattle.xv_debug.specs.declared.motion.aiming.Aim.{Aim}
@@ -51,8 +52,8 @@ AimTells may_end quantum word (Some aim) why old new before after = SearchTells 
 abbrev pub GoalTells : (may_end : Bool) → (quantum : ℕ) → Word → Goal → (old new : Recorded) → (before after : List ℕ) → Type 0
 GoalTells may_end quantum word goal old new before after = (aim : Option Aim) × IsAimOf goal old aim × AimTells may_end quantum word aim nobody old new before after
 
-abbrev pub FinishTells : (may_end : Bool) → (quantum : ℕ) → Word → (old new : Recorded) → (before after : List ℕ) → Type 0
-FinishTells may_end quantum word old new before after = (aim : Option Aim) × IfSome aim (IsFinishAim old.machine.world) × AimTells may_end quantum word aim no_return old new before after
+abbrev pub FinishTells : (known : Option Sources) → (may_end : Bool) → (quantum : ℕ) → Word → (old new : Recorded) → (before after : List ℕ) → Type 0
+FinishTells known may_end quantum word old new before after = (aim : Option Aim) × IfSome aim (IsFinishAim known old) × AimTells may_end quantum word aim no_return old new before after
 
 abbrev pub SendsTell : (may_end : Bool) → Word → (wanted : ℕ → List Event) → (all : ℕ) → (old new : Recorded) → (before after : List ℕ) → Type 0
 SendsTell may_end word wanted all old new before after =
@@ -97,17 +98,17 @@ SeekBackTells may_end goal old new before after = (aim : Option Aim) × IsAimOf 
 
 -- ---- all words
 
--- What is written behind an answer, of the session as the word found it and as it left it; `shown` is where the memory that was shown last ends, `may_end` says whether the word may be broken off, and `quantum` how many Runs a round has
-abbrev pub Answers : (may_end : Bool) → (quantum shown : ℕ) → Word → (old new : Recorded) → (before after : List ℕ) → Type 0
-Answers may_end quantum shown (Step count) old new before after = StepTells may_end (Step count) count old new before after
-Answers may_end quantum shown Next old new before after = SearchTells may_end quantum Next (met_from old (aim_in old.machine.world) []) old new before after
-Answers may_end quantum shown (Until goal) old new before after = GoalTells may_end quantum (Until goal) goal old new before after
-Answers may_end quantum shown (Run rounds) old new before after = RoundsTell may_end quantum (Run rounds) rounds old new before after
-Answers may_end quantum shown (Tick count) old new before after = SendsTell may_end (Tick count) (λ n. replicate n runs.Tick) count old new before after
-Answers may_end quantum shown (Send count) old new before after = SendsTell may_end (Send count) (λ n. replicate n runs.Send) count old new before after
-Answers may_end quantum shown (Key keys) old new before after = SendsTell false (Key keys) (λ n. map runs.Key (take n keys.items)) (length keys.items) old new before after
-Answers may_end quantum shown (ToMark marks) old new before after = SearchTells may_end quantum (ToMark marks) (met_from old (On Fault) marks.items) old new before after
-Answers may_end quantum shown Finish old new before after = FinishTells may_end quantum Finish old new before after
-Answers may_end quantum shown (BackUntil goal) old new before after = SeekBackTells may_end goal old new before after
-Answers may_end quantum shown (Back count) old new before after = BackTells may_end count old new before after
-Answers may_end quantum shown word old new before after = Shows shown old word before after
+-- What is written behind an answer, of the session as the word found it and as it left it; `shown` is where the memory that was shown last ends, `known` is what is known of the sources of programs, `may_end` says whether the word may be broken off, and `quantum` how many Runs a round has
+abbrev pub Answers : (known : Option Sources) → (may_end : Bool) → (quantum shown : ℕ) → Word → (old new : Recorded) → (before after : List ℕ) → Type 0
+Answers known may_end quantum shown (Step count) old new before after = StepTells may_end (Step count) count old new before after
+Answers known may_end quantum shown Next old new before after = SearchTells may_end quantum Next (met_from old (aim_in old.machine.world) []) old new before after
+Answers known may_end quantum shown (Until goal) old new before after = GoalTells may_end quantum (Until goal) goal old new before after
+Answers known may_end quantum shown (Run rounds) old new before after = RoundsTell may_end quantum (Run rounds) rounds old new before after
+Answers known may_end quantum shown (Tick count) old new before after = SendsTell may_end (Tick count) (λ n. replicate n runs.Tick) count old new before after
+Answers known may_end quantum shown (Send count) old new before after = SendsTell may_end (Send count) (λ n. replicate n runs.Send) count old new before after
+Answers known may_end quantum shown (Key keys) old new before after = SendsTell false (Key keys) (λ n. map runs.Key (take n keys.items)) (length keys.items) old new before after
+Answers known may_end quantum shown (ToMark marks) old new before after = SearchTells may_end quantum (ToMark marks) (met_from old (On Fault) marks.items) old new before after
+Answers known may_end quantum shown Finish old new before after = FinishTells known may_end quantum Finish old new before after
+Answers known may_end quantum shown (BackUntil goal) old new before after = SeekBackTells may_end goal old new before after
+Answers known may_end quantum shown (Back count) old new before after = BackTells may_end count old new before after
+Answers known may_end quantum shown word old new before after = Shows shown old word before after

@@ -12,6 +12,7 @@ use Rattle.debug_words.specs.declared.vocabulary.Word as words
 use Rattle.debug_words.specs.declared.vocabulary.Word.TheVariants.{Step, Next, Back, BackUntil, Until, Run, Tick, Key, Send, ToMark, Finish, Continue, Quit}
 use Rattle.debug_words.specs.Ranges.{IsInRange}
 use Rattle.xv_debug.specs.motion.Aims.{aim_in}
+use Rattle.xv_report.specs.declared.sources.Sources.{Sources}
 use Rattle.xv_debug.specs.motion.Finishing.{IsFinishAim}
 use Rattle.xv_debug.specs.motion.Backwards.{GoesBackUntil}
 use Rattle.xv_debug.specs.motion.Lines.{IsLineOf}
@@ -79,10 +80,11 @@ pub record SearchesGoal (may_end : Bool) (quantum : ℕ) (goal : Goal) (old new 
   pub is : IsAimOf goal old aim
   pub searches : SearchesAim may_end quantum aim old new
 
--- up to the end of the function in which the process that runs is, if it is known where that is
+-- up to the end of the function in which the process that runs is, if it is known where that is, by what is known of the sources of programs
 pub record Finishes (may_end : Bool) (quantum : ℕ) (old new : Recorded) : Type 0 where
+  pub known : Option Sources
   pub aim : Option Aim
-  pub is : IfSome aim (IsFinishAim old.machine.world)
+  pub is : IfSome aim (IsFinishAim known old)
   pub searches : SearchesAim may_end quantum aim old new
 
 -- These events were sent, or the first of them, where it was broken off, or the session keeps no more

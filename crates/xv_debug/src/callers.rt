@@ -1,7 +1,7 @@
 //! The calls that led a process to where it is, as they are told.
 use std::alloc::{AllocError, Global};
 use xk_base::Pid;
-use xv_report::{Callers, ProgramSource, Sources, callers_of, source_of};
+use xv_report::{Callers, Calls, ProgramSource, Sources, calls_of, source_of};
 use xv_session::Session;
 
 /// The address of a call, which stands in the four bytes before the address to which it returns.
@@ -25,31 +25,54 @@ fn show_call(
     }
 }
 
-/// Writes the calls that frames tell, from the last one on.
-fn show_frames(
+/// Writes the calls that return to these addresses, from the last one on.
+fn show_calls(
     source: &ProgramSource<'_>,
-    frames: &[u64],
+    addresses: &[u64],
     answer: &mut String,
 ) -> Result<(), AllocError> {
-    for place in 0..frames.len() {
-        show_call(source, place + 1, call_before(frames[place]), answer)?;
+    for place in 0..addresses.len() {
+        show_call(source, place + 1, call_before(addresses[place]), answer)?;
     }
     Ok(())
 }
 
-/// Writes the call that ra tells, if no frame tells one.
-fn show_by_ra(
+/// Writes the calls that a table of call frames tells.
+fn show_known(
+    source: &ProgramSource<'_>,
+    addresses: &[u64],
+    answer: &mut String,
+) -> Result<(), AllocError> {
+    if addresses.is_empty() {
+        return answer.push_str("(no caller: by its table of call frames the stack holds none)\n");
+    }
+    show_calls(source, addresses, answer)
+}
+
+/// Writes the calls from ra on, and that they are a guess.
+fn show_from_ra(
+    source: &ProgramSource<'_>,
+    addresses: &[u64],
+    answer: &mut String,
+) -> Result<(), AllocError> {
+    show_calls(source, addresses, answer)?;
+    answer.push_str("(a guess from ra on: no table of call frames has the function of #0)\n")
+}
+
+/// Writes the calls that are guessed, and that they are.
+fn show_guessed(
     source: &ProgramSource<'_>,
     callers: &Callers,
     answer: &mut String,
 ) -> Result<(), AllocError> {
     if !callers.frames.is_empty() {
-        return Ok(());
+        show_calls(source, callers.frames.as_slice(), answer)?;
+        return answer.push_str("(a guess, by the frame pointers)\n");
     }
     match callers.ra {
         Some(address) => {
             show_call(source, 1, call_before(address), answer)?;
-            answer.push_str("(by ra alone, which an earlier call may have left)\n")
+            answer.push_str("(a guess, by ra alone, which an earlier call may have left)\n")
         }
         None => answer.push_str("(no caller: s0 leads to no frame, and ra to no call)\n"),
     }
@@ -68,9 +91,11 @@ pub(crate) fn told_calls(
         return Ok(told);
     };
     show_call(&source, 0, regs.pc(), &mut told)?;
-    if let Some(callers) = callers_of(session.machine(), pid) {
-        show_frames(&source, callers.frames.as_slice(), &mut told)?;
-        show_by_ra(&source, &callers, &mut told)?;
+    match calls_of(alloc, session.machine(), pid, &source)? {
+        Some(Calls::Known(addresses)) => show_known(&source, addresses.as_slice(), &mut told)?,
+        Some(Calls::FromRa(addresses)) => show_from_ra(&source, addresses.as_slice(), &mut told)?,
+        Some(Calls::Guessed(callers)) => show_guessed(&source, &callers, &mut told)?,
+        None => {}
     }
     Ok(told)
 }

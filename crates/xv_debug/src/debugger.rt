@@ -363,7 +363,7 @@ impl Debugger {
         ensures done { IfOk result (λ _. Does P.may_end self.old.quantum word.now session.old session.new) }
         ensures next { IfOk result (λ next. next ≡ next_of word.now) }
         ensures told { OnOk result
-            (Answers P.may_end self.old.quantum self.old.shown word.now session.old session.new
+            (Answers self.old.sources P.may_end self.old.quantum self.old.shown word.now session.old session.new
             (string_bytes answer.old) (string_bytes answer.new)) }
         ensures failed { IfErr result (λ _. DoesOrStays P.may_end self.old.quantum word.now session.old session.new) }
         ensures quantum { self.new.quantum ≡ self.old.quantum }
@@ -383,7 +383,7 @@ impl Debugger {
     ) -> Result<(), AllocError>
         ensures done { IfOk result (λ _. Does P.may_end self.old.quantum word.now session.old session.new) }
         ensures told { OnOk result
-            (Answers P.may_end self.old.quantum self.old.shown word.now session.old session.new
+            (Answers self.old.sources P.may_end self.old.quantum self.old.shown word.now session.old session.new
             (string_bytes answer.old) (string_bytes answer.new)) }
         ensures failed { IfErr result (λ _. DoesOrStays P.may_end self.old.quantum word.now session.old session.new) }
         ensures quantum { self.new.quantum ≡ self.old.quantum }
@@ -586,11 +586,11 @@ impl Debugger {
     ) -> Result<(), AllocError>
         ensures done { IfOk result (λ _. Finishes P.may_end self.now.quantum session.old session.new) }
         ensures told { OnOk result
-            (FinishTells P.may_end self.now.quantum word.now session.old session.new
+            (FinishTells self.now.sources P.may_end self.now.quantum word.now session.old session.new
             (string_bytes answer.old) (string_bytes answer.new)) }
         ensures failed { IfErr result (λ _. (session.new ≡ session.old) ⊎ Finishes P.may_end self.now.quantum session.old session.new) }
     {
-        match motion::finish_aim(session, self.sources.as_ref()) {
+        match motion::finish_aim(alloc, session, self.sources.as_ref())? {
             Some(aim) => self.search(alloc, session, word, &aim, &[], patience, answer),
             None => show_no_return(answer),
         }

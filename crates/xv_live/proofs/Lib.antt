@@ -1,6 +1,8 @@
 pub mod Joined
+pub mod Kept
 pub mod Led
 pub mod Lines
 pub mod Played
 pub mod Typed
 pub mod Waits
+mod WorkedKeeps

@@ -112,6 +112,10 @@ attends-types s t h k c d w v same p = record {
   asked_for = refl;
 }
 
+-- and the screen wasn't written after it
+pub attends-seen : (l : List Pause) (s t : Recorded) (h k m c d : Option (List ℕ)) (w v : List ℕ) → m ≡ k → Attends l s t h k c d w v → Attends l s t h m c d w v
+attends-seen l s t h k m c d w v same a = subst (λ (x : Option (List ℕ)). Attends l s t h x c d w v) (sym same) a
+
 pub attends-join : (l n : List Pause) (s t u : Recorded) (h k m c d e : Option (List ℕ)) (w v x : List ℕ) → Attends l s t h k c d w v → Attends n t u k m d e v x → Attends (l ++ n) s u h m c e w x
 unfolding shown-join
 attends-join l n s t u h k m c d e w v x p q = record {

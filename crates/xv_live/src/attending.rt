@@ -1,6 +1,8 @@
 //! A machine that is attended to: keys go in, bytes come out, and the clock ticks.
-ghost use Rattle.std.specs.Prelude.{◌≡◌, [], ◌++◌, OnOk, IfOk, IfSome};
+ghost use Rattle.std.specs.Prelude.{◌≡◌, [], ◌++◌, List, OnOk, IfOk, IfSome};
+ghost use Rattle.kernel_spec.specs.runs.Run as runs;
 ghost use Rattle.xv_live.specs.Attends.{Types, TypesFirst, Attends};
+ghost use Rattle.xv_live.specs.Keeps.{GoesOn, IsKept};
 ghost use Rattle.xv_live.specs.Keys.{Looks, key_of, led_to, typed_by, waiting};
 ghost use Rattle.xv_live.specs.Pauses.{IsPauseOf};
 ghost use Rattle.xv_live.specs.Asks.{IsAskedOf, asked_by, led_by, led_if, pause_of};
@@ -10,10 +12,12 @@ use crate::host::{Host, Look};
 use crate::keys::Key;
 use crate::pauses::Pause;
 use crate::pending::{Pending, has_room};
+use crate::recorder::Recorder;
 use crate::resting::{goes_on_without_keys, may_run};
 use crate::screen::{Screen, Teller};
 use program_files::Failure;
 use xv_machine::{ByteSink, Event, Machine};
+use xv_record::RecordFile;
 use xv_session::Session;
 
 /// The Runs between two looks at the keyboard: far less than a hundredth of a second.
@@ -185,6 +189,21 @@ fn go_on<H: Host, W: ByteSink, T: Teller>(
     drain(session, screen)
 }
 
+// Lets the record have what the session got. That it can't be written any more is told.
+fn keep_record<F: RecordFile, W: ByteSink, T: Teller>(
+    session: &Session,
+    recorder: &mut Recorder<F>,
+    screen: &mut Screen<W, T>,
+)
+    ensures kept { (before more : List runs.Event) → session.now.events ≡ before ++ more → IsKept F.held recorder.old before → IsKept F.held recorder.new session.now.events }
+    ensures goes_on { GoesOn recorder.old recorder.new }
+    ensures sink { W.sink screen.new.sink ≡ W.sink screen.old.sink }
+{
+    if let Err(why) = recorder.keep(session) {
+        screen.teller.tell_unrecorded(why);
+    }
+}
+
 // Whether nothing can be done but to wait.
 fn rests(machine: &Machine, pending: &Pending) -> bool {
     !may_run(machine) && (pending.is_empty() || !has_room(machine))
@@ -209,11 +228,13 @@ fn pause_behind<H: Host>(
     Ok(None)
 }
 
-// A turn: a look at the keyboard, and then the machine goes on. A pause ends it.
-fn turn<H: Host, W: ByteSink, T: Teller>(
+// A turn: a look at the keyboard, and then the machine goes on, and the record has it before a rest. A pause ends it.
+#[tactic(auto, using(crate::proofs::Kept::on_still))]
+fn turn<F: RecordFile, H: Host, W: ByteSink, T: Teller>(
     session: &mut Session,
     host: &mut H,
     pending: &mut Pending,
+    recorder: &mut Recorder<F>,
     screen: &mut Screen<W, T>,
 ) -> Result<Option<Pause>, Failure<'static>>
     ensures pause { IfOk result (λ p. IfSome p (λ q. IsPauseOf session.new q)) }
@@ -221,6 +242,8 @@ fn turn<H: Host, W: ByteSink, T: Teller>(
         (λ p. Attends (led_if p) session.old session.new (W.sink screen.old.sink).held
         (W.sink screen.new.sink).held (H.coming host.old) (H.coming host.new) (waiting pending.old)
         (waiting pending.new)) }
+    ensures kept { OnOk result (IsKept F.held recorder.old session.old.events → IsKept F.held recorder.new session.new.events) }
+    ensures goes_on { GoesOn recorder.old recorder.new }
 {
     let most = looks_now(session, host, pending);
     let asked = look(session, host, most, pending, screen)?;
@@ -229,18 +252,21 @@ fn turn<H: Host, W: ByteSink, T: Teller>(
         None => {}
     }
     go_on(session, host, pending, screen)?;
+    keep_record(session, recorder, screen);
     pause_behind(session, host, pending)
 }
 
-/// Attends to the machine, up to a pause.
+/// Attends to the machine, up to a pause. The recorder keeps what the session gets, before each rest.
 ///
 /// # Errors
 ///
-/// Those of the host, the session and the screen. The session keeps what was sent.
-pub fn attend<H: Host, W: ByteSink, T: Teller>(
+/// Those of the host, the session and the screen. The session keeps what was sent. A record that can't be written any
+/// more is told, and is no error.
+pub fn attend<F: RecordFile, H: Host, W: ByteSink, T: Teller>(
     session: &mut Session,
     host: &mut H,
     pending: &mut Pending,
+    recorder: &mut Recorder<F>,
     screen: &mut Screen<W, T>,
 ) -> Result<Pause, Failure<'static>>
     ensures pause { IfOk result (λ p. IsPauseOf session.new p) }
@@ -249,9 +275,12 @@ pub fn attend<H: Host, W: ByteSink, T: Teller>(
         (λ p. Attends (led_to p) session.old session.new (W.sink screen.old.sink).held
         (W.sink screen.new.sink).held (H.coming host.old) (H.coming host.new) (waiting pending.old)
         (waiting pending.new)) }
+    // a record that was up to date is so again
+    ensures kept { OnOk result (IsKept F.held recorder.old session.old.events → IsKept F.held recorder.new session.new.events) }
+    ensures goes_on { GoesOn recorder.old recorder.new }
 {
     'turns: for _ in 0..u64::MAX {
-        match turn(session, host, pending, screen)? {
+        match turn(session, host, pending, recorder, screen)? {
             Some(pause) => return Ok(pause),
             None => {}
         }

@@ -1,5 +1,5 @@
 //! The events of a session as the lines of a record.
-ghost use Rattle.std.specs.Prelude.{◌≡◌, ◌++◌, ◌<◌, ◌≤◌, length, take, drop, replicate, OnOk, IfOk, IfSome, IfNone};
+ghost use Rattle.std.specs.Prelude.{◌≡◌, ◌++◌, ◌+◌, ◌<◌, ◌≤◌, length, take, drop, replicate, OnOk, IfOk, IfSome, IfNone};
 ghost use Rattle.kernel_spec.specs.runs.Run as runs;
 ghost use Rattle.xv_machine.specs.Events.{event_of};
 ghost use Rattle.xv_live.specs.Plays.{events_of_line, events_of_lines};
@@ -59,23 +59,54 @@ fn span_at(session: &Session, place: u64) -> Option<Span>
     }
 }
 
-/// The events of a session, in their order.
+// The same, if none of them stands at the place `end` or behind it.
+fn span_before(session: &Session, place: u64, end: u64) -> Option<Span>
+    requires { place ≤ length session.now.events }
+    ensures those { IfSome result (λ s. take s.count (drop place session.now.events) ≡ replicate s.count (event_of s.event)) }
+    ensures some { IfSome result (λ s. 0 < s.count) }
+    ensures before { IfSome result (λ s. place + s.count ≤ end) }
+    ensures none { length session.now.events ≤ end → IfNone result (length session.now.events ≤ place) }
+{
+    let span = span_at(session, place)?;
+    if span.count <= end.saturating_sub(place) {
+        Some(span)
+    } else {
+        None
+    }
+}
+
+/// Lines of events, and the place behind these events in the session.
+#[derive(Drop)]
+pub(crate) struct Stretch {
+    pub lines: Vec<Line>,
+    pub place: u64,
+}
+
+/// The events of a session from a place on, up to the place `end`. If the event there is equal to those before it, they
+/// are left out too, since one line stands for all of them.
 ///
 /// # Errors
 ///
 /// [`Failure::OutOfMemory`].
-pub fn lines_of(alloc: Global, session: &Session) -> Result<Vec<Line>, Failure<'static>>
-    ensures { IfOk result (λ lines. events_of_lines lines.items ≡ session.now.events) }
+pub(crate) fn stretch_of(
+    alloc: Global,
+    session: &Session,
+    from: u64,
+    end: u64,
+) -> Result<Stretch, Failure<'static>>
+    requires { from ≤ length session.now.events }
+    ensures lines { IfOk result (λ s. take from session.now.events ++ events_of_lines s.lines.items ≡ take s.place session.now.events) }
+    ensures within { IfOk result (λ s. s.place ≤ length session.now.events) }
+    ensures all { length session.now.events ≤ end → IfOk result (λ s. s.place ≡ length session.now.events) }
 {
     let mut lines = Vec::new(alloc);
-    let mut place = 0u64;
-    let end = session.at();
+    let mut place = from;
     'spans: while place < end {
-        let Some(span) = span_at(session, place) else {
+        let Some(span) = span_before(session, place, end) else {
             break;
         };
         push_span(&mut lines, span.event, span.count)?;
         place = place.saturating_add(span.count);
     }
-    Ok(lines)
+    Ok(Stretch { lines, place })
 }

@@ -5,6 +5,7 @@ ghost use Rattle.std.specs.Io.KnownBytes.{Appends};
 use program_files::Failure;
 use xk_base::{Cause, Pid};
 use xv_machine::ByteSink;
+use xv_record::GrowError;
 use xv_session::Session;
 
 /// A process that ended by a fault.
@@ -26,6 +27,9 @@ pub trait Teller {
 
     /// The processes are asked for.
     fn tell_processes(&mut self, session: &Session);
+
+    /// The record can't be written any more.
+    fn tell_unrecorded(&mut self, why: GrowError);
 }
 
 /// The screen, which shows what the machine sends, and who is told all else.

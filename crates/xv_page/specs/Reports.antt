@@ -4,12 +4,15 @@ use Rattle.std.specs.Str.{IsUtf8}
 use Rattle.std.specs.declared.boxed.Box.{Box}
 use Rattle.xk_base.specs.declared.access.Cause.{Cause}
 use Rattle.kernel_spec.specs.runs.Run.{World}
+use Rattle.kernel_spec.specs.views.State.{State}
 use Rattle.uasm_core.specs.FileFormat.{file_of}
 use Rattle.uasm_core.specs.LineTable.{LineTable, line_table, table_seen}
 use Rattle.uasm_core.specs.Written.{Fault}
 use Rattle.xv_report.specs.Hints.{hint_of}
 use Rattle.xv_report.specs.Reports.{AreCallersOf}
 use Rattle.xv_report.specs.declared.fault.FaultReport.{FaultReport}
+use Rattle.xv_report.specs.declared.unwinding.Calls.{Calls}
+use Rattle.xv_report.specs.declared.unwinding.Calls.TheVariants.{Known, FromRa, Guessed}
 use Rattle.xv_report.specs.declared.sources.Sources.{Sources}
 use Rattle.xv_session.specs.Looking.{next_step_of}
 use Rattle.xv_session.specs.Recorded.{Recorded}
@@ -94,10 +97,16 @@ TellsOf named None answer before after = (answer ≡ NotBooted) × (after ≡ be
 TellsOf None (Some s) answer before after = (answer ≡ Unknown) × (after ≡ before)
 TellsOf (Some named) (Some s) answer before after = TextTold answer before after
 
+-- the calls that led process p to where it is are guessed, by frame pointers and ra
+abbrev pub AreGuessed : State → (p : ℕ) → Calls → Type 0
+AreGuessed s p (Guessed callers) = AreCallersOf s p callers
+AreGuessed s p (Known addresses) = ⊥
+AreGuessed s p (FromRa addresses) = ⊥
+
 -- the step that process p is about to make, with this cause of its fault, the calls that led to it, and what may be wrong; none if it isn't live
 abbrev pub ReportOf : Cause → World → (p : ℕ) → Option FaultReport → Type 0
 ReportOf cause w p None = next_step_of w.state p ≡ None
-ReportOf cause w p (Some r) = (next_step_of w.state p ≡ Some r.fault.step) × (r.fault.cause ≡ cause) × AreCallersOf w.state p r.callers × (r.hint ≡ hint_of w.state r.fault)
+ReportOf cause w p (Some r) = (next_step_of w.state p ≡ Some r.fault.step) × (r.fault.cause ≡ cause) × AreGuessed w.state p r.calls × (r.hint ≡ hint_of w.state r.fault)
 
 -- of the process that runs, if one does
 abbrev pub ReportNow : Cause → World → (current : Option ℕ) → Option FaultReport → Type 0

@@ -17,7 +17,7 @@ use uasm_core::{AsmError, SourceLines, assemble_with_lines};
 use xk_base::{Cause, Pid};
 use xv_report::text::{FaultText, KillText, Place, RefusedText, WaitLine};
 use xv_report::{
-    FaultReport, Lines, Sources, call_name, callers_of, hint_of, program_name, source_of,
+    Calls, FaultReport, Lines, Sources, call_name, callers_of, hint_of, program_name, source_of,
 };
 use xv_session::{Fault, Session, next_step};
 
@@ -199,7 +199,7 @@ fn report_of(session: &Session, cause: Cause) -> Option<FaultReport>
     let hint = hint_of(machine, &fault);
     Some(FaultReport {
         fault,
-        callers,
+        calls: Calls::Guessed(callers),
         hint,
     })
 }

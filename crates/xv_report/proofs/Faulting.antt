@@ -1,5 +1,5 @@
 -- A fault is one of the process that runs, so its calls are that process's.
-use Rattle.std.proofs.Common.{◌≡◌, ℕ, Option, None, Some, refl, sym, ap, ◌∙◌, subst}
+use Rattle.std.proofs.Common.{◌≡◌, ℕ, List, Option, None, Some, refl, sym, ap, ◌∙◌, subst}
 use Rattle.std.specs.Prelude.{ℤ, option_map}
 use Rattle.rv64i_core.specs.Registers.{Registers}
 use Rattle.kernel_spec.specs.runs.Run.{Run, Outcome, Step_of, Turn, Idle, Ticked, Typed, Sent, Halted, TurnTaken, RunHappens}
@@ -12,9 +12,10 @@ use Rattle.xv_machine.specs.Reached.{IsEvent}
 use Rattle.xv_session.specs.Looking.{step_with, next_step_of, fault_of, fault_by, FaultTold}
 use Rattle.xv_session.specs.declared.looking.Fault.{Fault}
 use Rattle.xv_session.specs.declared.looking.NextStep.{NextStep}
-use Rattle.xv_report.specs.Reports.{AreCallersWith, AreCallersNow, Reported}
+use Rattle.dwarf.specs.Frames.{FramesOf}
+use Rattle.xv_report.specs.Reports.{AreCallsWith, AreCallsNow, Reported}
 use Rattle.xv_report.specs.Hints.{hint_if, hint_now, hint_of_next}
-use Rattle.xv_report.specs.declared.callers.Callers.{Callers}
+use Rattle.xv_report.specs.declared.unwinding.Calls.{Calls}
 use Rattle.xv_report.specs.declared.hints.Hint.{Hint}
 
 module _ (m n : Meaning) where
@@ -69,20 +70,20 @@ module _ (m n : Meaning) where
   told-of-current : (f : Fault) → FaultTold (Some f) m n → IsOfCurrent f
   told-of-current f (o, event, e) = by-outcome f o o event refl e
 
-  pub reported : (f : Fault) (c : Callers) (h : Option Hint) → FaultTold (Some f) m n → AreCallersNow m.world.state m.world.turns.current (Some c)
-      → h ≡ hint_now m.world.state m.world.turns.current → Reported (Some (record { fault = f; callers = c; hint = hint_if f.cause h })) m n
-  reported f c h told calls hint =
+  pub reported : (tables : List FramesOf) (f : Fault) (c : Calls) (h : Option Hint) → FaultTold (Some f) m n → AreCallsNow tables m.world.state m.world.turns.current (Some c)
+      → h ≡ hint_now m.world.state m.world.turns.current → Reported tables (Some (record { fault = f; calls = c; hint = hint_if f.cause h })) m n
+  reported tables f c h told calls hint =
       let of = told-of-current f told in
-      let those = subst (λ (p : Option ℕ). AreCallersNow m.world.state p (Some c)) of.current calls in
+      let those = subst (λ (p : Option ℕ). AreCallsNow tables m.world.state p (Some c)) of.current calls in
       let same : those.0 ≡ f.step.regs = cc (those.1, of.regs) in
       record {
         fault = told;
-        callers = subst (λ (regs : Registers). AreCallersWith m.world.state f.step.pid regs c) same those.2;
+        calls = subst (λ (regs : Registers). AreCallsWith tables m.world.state f.step.pid regs c) same those.2;
         hint = ap (hint_if f.cause) (hint ∙ ap (hint_now m.world.state) of.current ∙ ap (hint_of_next m.world.state) of.step);
       }
 
-  pub no-callers : (f : Fault) → FaultTold (Some f) m n → AreCallersNow m.world.state m.world.turns.current None → ⊥
-  no-callers f told calls =
+  pub no-calls : (tables : List FramesOf) (f : Fault) → FaultTold (Some f) m n → AreCallsNow tables m.world.state m.world.turns.current None → ⊥
+  no-calls tables f told calls =
       let of = told-of-current f told in
-      let none : registers_of m.world.state f.step.pid ≡ None = subst (λ (p : Option ℕ). AreCallersNow m.world.state p None) of.current calls in
+      let none : registers_of m.world.state f.step.pid ≡ None = subst (λ (p : Option ℕ). AreCallsNow tables m.world.state p None) of.current calls in
       let no_way : ⊥ = cc (none, of.regs) in no_way

@@ -1,6 +1,8 @@
 pub mod Sleepers
 pub mod Ends
 pub mod Frames
+pub mod Unwound
+pub mod Guesses
 pub mod Finding
 pub mod Faulting
 pub mod CallNames
@@ -8,3 +10,4 @@ pub mod Named
 mod WorkedCalls
 mod WorkedHints
 mod WorkedPlaces
+mod WorkedUnwound

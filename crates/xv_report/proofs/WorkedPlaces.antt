@@ -1,5 +1,5 @@
 -- Worked cases of names and lines of sources.
-use Rattle.std.proofs.Common.{◌≡◌, ◌-◌, ◌^◌, ℕ, List, [], codes, None, Some, refl}
+use Rattle.std.proofs.Common.{◌≡◌, ◌-◌, ◌^◌, [], codes, None, Some, refl}
 use Rattle.xv_report.specs.Locations.{distance, or_own, unless_empty}
 use Rattle.xv_report.specs.Places.{assembled_name}
 

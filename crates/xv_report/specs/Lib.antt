@@ -3,10 +3,12 @@ pub mod Waits
 pub mod Wakers
 pub mod Names
 pub mod NameLaws
+pub mod CallLaws
 pub mod Places
 pub mod Hints
 pub mod Jumps
 pub mod Callers
+pub mod Unwound
 pub mod Reports
 pub mod Lines
 pub mod Locations

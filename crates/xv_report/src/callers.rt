@@ -18,9 +18,9 @@ use xv_machine::Machine;
 pub const CALLERS_MAX: usize = 64;
 
 /// The registers ra and s0 (RISC-V ABIs, "Integer Register Convention").
-const RETURN_ADDRESS: u8 = 1;
+pub(crate) const RETURN_ADDRESS: u8 = 1;
 
-const FRAME_POINTER: u8 = 8;
+pub(crate) const FRAME_POINTER: u8 = 8;
 
 /// What stands below the frame of a call.
 #[derive(Clone, Copy)]
@@ -54,7 +54,7 @@ fn word_at(machine: &Machine, pid: Pid, address: u64) -> Option<u32>
 }
 
 /// The eight bytes at an address, the first as the lowest.
-fn double_at(machine: &Machine, pid: Pid, address: u64) -> Option<u64>
+pub(crate) fn double_at(machine: &Machine, pid: Pid, address: u64) -> Option<u64>
     requires { address % 8 ≡ 0 }
     ensures { result ≡ double_at machine.now.world.state pid address }
 {
@@ -110,7 +110,7 @@ fn is_call_at(machine: &Machine, pid: Pid, address: u64) -> bool
 }
 
 /// Whether a call of a process stands right before the address.
-fn is_return(machine: &Machine, pid: Pid, address: u64) -> bool
+pub(crate) fn is_return(machine: &Machine, pid: Pid, address: u64) -> bool
     ensures { result ≡ meant.is_return machine.now.world.state pid address }
 {
     address >= 4 && address % 4 == 0 && is_call_at(machine, pid, address - 4)

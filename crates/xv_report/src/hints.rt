@@ -10,7 +10,7 @@ use xv_machine::Machine;
 use xv_session::{Fault, NextStep, next_step};
 
 /// The register sp (RISC-V ABIs, "Integer Register Convention").
-const STACK_POINTER: u8 = 2;
+pub(crate) const STACK_POINTER: u8 = 2;
 
 /// What may be wrong, beside the calls that led to a fault.
 #[derive(Clone, Copy)]

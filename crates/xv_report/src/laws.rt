@@ -1,6 +1,7 @@
-//! What holds of the names of a program.
+//! What holds of the names of a program, and of its calls.
 //!
-//! The function here takes and gives nothing: it stands for a claim about the definitions that the contracts cite.
+//! The functions here take and give nothing: each stands for a claim about the definitions that the contracts cite.
+ghost use Rattle.xv_report.specs.CallLaws.{IsGuess};
 ghost use Rattle.xv_report.specs.NameLaws.{HasAddress, IsCounted};
 
 /// The names of a program are those that have an address: what is told as a name can be read as one.
@@ -10,4 +11,10 @@ pub fn names_have_addresses()
 
     // Each name that has an address is told of a place below [`ProgramSource::name_count`](crate::ProgramSource::name_count).
     ensures is_counted { IsCounted }
+{}
+
+/// Of a program without a table of call frames the calls are those of [`callers_of`](crate::callers_of).
+pub fn calls_without_a_table()
+    // They are said to be a guess, by frame pointers and ra alone.
+    ensures is_guess { IsGuess }
 {}

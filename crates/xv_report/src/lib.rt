@@ -3,9 +3,9 @@
 //!
 //! It looks at the machine of a session (`xv_session`), or at one that was played again up to a place of its run.
 //! [`waits_for`] and [`could_wake`] tell of sleepers what `kernel_spec` says of them (`specs/Waits.antt`), [`wakers`]
-//! lists all that could wake one (`specs/Wakers.antt`), [`callers_of`] follows a process's frames
-//! (`specs/Callers.antt`), and [`report_at`] tells a fault of the machine as it was before that step
-//! (`specs/Reports.antt`). [`program_name`] and [`call_name`] have the names that belong to these
+//! lists all that could wake one (`specs/Wakers.antt`), [`calls_of`] tells the calls that led to where a process is, by its
+//! program's table of call frames (`specs/Unwound.antt`) or by a guess, as [`callers_of`] does (`specs/Callers.antt`), and
+//! [`report_at`] tells a fault of the machine as it was before that step (`specs/Reports.antt`). [`program_name`] and [`call_name`] have the names that belong to these
 //! (`specs/Names.antt`). [`Sources`] is what is known of the sources of programs: symbols, the lines of those that were
 //! assembled, and a table of the lines of others, in which a line is found by `specs/Lines.antt`, and a name's or a
 //! line's address by `specs/Places.antt`. What is printed
@@ -24,6 +24,7 @@ mod places;
 mod sources;
 mod symbols;
 pub mod text;
+mod unwinding;
 mod waits;
 mod waking;
 
@@ -36,5 +37,6 @@ pub use lines::Lines;
 pub use names::{call_name, program_name};
 pub use places::LineNamed;
 pub use sources::{ProgramLines, ProgramSource, Sources, source_of};
+pub use unwinding::{Activation, Calls, calls_of};
 pub use waits::{EndsHeld, Wait, could_wake, ends_held, waits_for};
 pub use waking::wakers;

@@ -3,6 +3,7 @@ ghost use Rattle.std.specs.Prelude.{◌≡◌, ◌≤◌, ◌<◌, [], ◌∷◌
 ghost use Rattle.std.specs.Option.{option_or};
 ghost use Rattle.kernel_spec.specs.runs.Run as runs;
 ghost use Rattle.xv_machine.specs.Events.{event_of, outcome_of};
+ghost use Rattle.xv_machine.specs.Instructions.{NextIsOther};
 ghost use Rattle.xv_session.specs.Follows.{Follows, last_after};
 ghost use Rattle.xv_session.specs.LastStep.{stepper};
 ghost use Rattle.xv_session.specs.Names.{first_names};
@@ -105,6 +106,20 @@ impl Followed {
         let current = self.running.machine.current();
         let made = self.running.run(most);
         self.last = last_after(made.sent, current, self.last);
+        made
+    }
+
+    /// Sends Run as long as an instruction is done, `most` times at most, as [`Running::instructions`] does.
+    pub fn instructions(&mut self, most: u32) -> u32
+        requires sound { IsSound self.old.running }
+        ensures made { RunsMade result result None self.old.running self.new.running }
+        ensures within { result ≤ most }
+        ensures stops { result < most → NextIsOther self.new.running.machine }
+        ensures follows { Follows (replicate result runs.Run) self.old self.new }
+    {
+        let current = self.running.machine.current();
+        let made = self.running.instructions(most);
+        self.last = last_after(made, current, self.last);
         made
     }
 

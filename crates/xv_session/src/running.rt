@@ -2,6 +2,7 @@
 ghost use Rattle.std.specs.Prelude.{◌≡◌, ◌≤◌, ◌<◌, None, IsSome, option_map};
 ghost use Rattle.kernel_spec.specs.runs.Run as runs;
 ghost use Rattle.xv_machine.specs.Events.{event_of, outcome_of};
+ghost use Rattle.xv_machine.specs.Instructions.{NextIsOther};
 ghost use Rattle.xv_session.specs.Names.{first_names};
 ghost use Rattle.xv_session.specs.Steps.{Advances, IsSound, RunsMade, passed};
 
@@ -72,6 +73,17 @@ impl Running {
             return Outcome::Stepped { pid };
         }
         self.event(Event::Run)
+    }
+
+    /// Sends Run as long as an instruction is done, `most` times at most, and tells how often it was sent. So it stops
+    /// before a kernel call, before a fault, and if nobody runs.
+    pub fn instructions(&mut self, most: u32) -> u32
+        requires sound { IsSound self.old }
+        ensures made { RunsMade result result None self.old self.new }
+        ensures within { result ≤ most }
+        ensures stops { result < most → NextIsOther self.new.machine }
+    {
+        self.machine.instructions(most)
     }
 
     /// Sends Run where nobody runs: once where the next has its turn, and else so often.

@@ -108,11 +108,12 @@ impl Model for Session {
 }
 
 impl Session {
-    ghost use Rattle.std.specs.Prelude.{◌≡◌, [], IfOk, IfErr, IfSome, IsSome, length, map, option_map, slice_get, take};
+    ghost use Rattle.std.specs.Prelude.{◌≡◌, ◌<◌, ◌≤◌, [], None, IfOk, IfErr, IfSome, IsSome, length, map, option_map, slice_get, take};
     ghost use Rattle.kernel_spec.specs.views.State.{named_file, live};
     ghost use Rattle.kernel_spec.specs.runs.First.{first};
     ghost use Rattle.xv_machine.specs.Boots.{Boots};
     ghost use Rattle.xv_machine.specs.Events.{event_of, outcome_of};
+    ghost use Rattle.xv_machine.specs.Instructions.{NextIsOther};
     ghost use Rattle.xv_machine.specs.Sound.{IsSoundMachine};
     ghost use Rattle.xv_session.specs.Recorded.{IsPlayed, IsLed, IsRecorded};
     ghost use Rattle.xv_session.specs.Answers.{machine_of, IsNew, Sent, RunsSent, Found, Stopped, WentBack, AreEqualFrom, EndThere, IsReason, IsUnplayedBy};
@@ -172,6 +173,26 @@ impl Session {
         let runs = self.followed.run(most);
         self.history.add(runs.sent);
         Ok(runs)
+    }
+
+    /// Sends Run as long as an instruction is done, `most` times at most, and tells how often it was sent. If it was sent
+    /// less often, no done instruction comes of the next Run: whoever runs stands before a kernel call, before a fault, or
+    /// in a call; or nobody runs.
+    ///
+    /// # Errors
+    ///
+    /// As [`send`](Session::send): nothing is sent.
+    pub fn instructions(&mut self, most: u32) -> Result<u32, SessionError>
+        ensures sent { IfOk result (λ made. RunsSent made made None self.old self.new) }
+        ensures within { IfOk result (λ made. made ≤ most) }
+        ensures stops { IfOk result (λ made. made < most → NextIsOther self.new.machine) }
+        ensures refused { IfErr result (λ _. self.new ≡ self.old) }
+        ensures reason { IfErr result (λ e. IsReason e (length self.old.events)) }
+    {
+        self.history.make_room(Event::Run)?;
+        let made = self.followed.instructions(most);
+        self.history.add(made);
+        Ok(made)
     }
 
     /// Sends Run, one by one, up to the first that is what is waited for, `most` times at most. It is sent once at

@@ -1,15 +1,17 @@
-//! The programs around the machine, in one file: `xv_debugger`, `xv_explain`, `xv_gdb`, `xv_grade`, `xv_picture`,
-//! `xv_terminal` and `xv_why`.
+//! The programs around the machine, in one file: `xv_debugger`, `xv_explain`, `xv_gdb`, `xv_grade`, `xv_lines`,
+//! `xv_picture`, `xv_terminal` and `xv_why`.
 //!
 //! It is the one by whose name it is called (as in a release). Called by another name, as `xv_tools`, it
-//! is the one that its first word names. What each of them does is a library's, which is proved once. To prove a program
-//! means to read all modules below it, so one program costs what each of the seven would cost.
+//! is the one that its first word names. What each of them does is a library's, which is proved once. To prove a
+//! program means to read all modules below it, so one program costs what each of the eight would cost.
 #![tactic(auto)]
 
 mod behind;
+mod lines;
 mod tool;
 
 use crate::behind::Behind;
+use crate::lines::tell_lines;
 use crate::tool::{NAMES, Tool};
 use explained_run::explain_by_words;
 use gdb_target::serve_gdb;
@@ -43,6 +45,7 @@ fn use_tool<W: Env + AllocGlobal>(rt: &HostRuntime, words: &W, tool: Tool) -> u8
         Tool::Explain => explain_by_words(rt, words),
         Tool::Gdb => serve_gdb(rt, words),
         Tool::Grade => grade_by_words(rt, words),
+        Tool::Lines => tell_lines(rt),
         Tool::Picture => draw(rt),
         Tool::Terminal => run_at_terminal(rt, words),
         Tool::Why => run_and_tell(rt, words),

@@ -12,6 +12,8 @@ pub(crate) enum Tool {
     Gdb,
     /// `xv_grade`: grades what a student handed in.
     Grade,
+    /// `xv_lines`: writes what a reader of a program's source needs of its tables.
+    Lines,
     /// `xv_picture`: draws a trace.
     Picture,
     /// `xv_terminal`: the machine for people at a terminal.
@@ -22,7 +24,7 @@ pub(crate) enum Tool {
 
 /// The names, in the order of the alphabet.
 pub(crate) const NAMES: &str =
-    "xv_debugger, xv_explain, xv_gdb, xv_grade, xv_picture, xv_terminal, xv_why";
+    "xv_debugger, xv_explain, xv_gdb, xv_grade, xv_lines, xv_picture, xv_terminal, xv_why";
 
 /// The longest path of a program, in bytes. A host's paths have 4,095 at most.
 const PATH_BYTES: usize = 4096;
@@ -35,6 +37,7 @@ impl Tool {
             "xv_explain" => Some(Tool::Explain),
             "xv_gdb" => Some(Tool::Gdb),
             "xv_grade" => Some(Tool::Grade),
+            "xv_lines" => Some(Tool::Lines),
             "xv_picture" => Some(Tool::Picture),
             "xv_terminal" => Some(Tool::Terminal),
             "xv_why" => Some(Tool::Why),

@@ -3,7 +3,10 @@
 # made, which the program keeps beside its own stack.
     .section .text.start, "ax"
     .globl _start
+    .cfi_sections .debug_frame
 _start:
+    .cfi_startproc
+    .cfi_undefined ra           # nobody has called it
     .option push
     .option norelax
     la gp, __global_pointer$
@@ -11,14 +14,17 @@ _start:
     la sp, __stack_top
     la tp, __tls_base           # errno lies there
     call start_program
+    .cfi_endproc
 
 .macro kernel_function name, number
     .section .text.kernel_\name, "ax"
     .globl kernel_\name
 kernel_\name:
+    .cfi_startproc
     li a7, \number
     ecall
     ret
+    .cfi_endproc
 .endm
 
     kernel_function fork, 1

@@ -1,12 +1,12 @@
 //! What `finish` waits for: that the process which runs is back from its function.
-ghost use Rattle.std.specs.Prelude.{◌≡◌, IfSome};
-ghost use Rattle.kcall_core.specs.Observers.{registers_of};
-ghost use Rattle.xv_debug.specs.motion.Finishing.{IsFinishAim, IsReturnTold, return_aim};
+ghost use Rattle.std.specs.Prelude.{◌≡◌, IfOk, IfSome, option_map, slice_get};
+ghost use Rattle.xv_debug.specs.motion.Finishing.{IsFinishAim, IsReturnGuessed, IsReturnTold, return_aim};
 
 use crate::motion::aiming::{Aim, STACK_POINTER};
 use rv64i_core::Regs;
+use std::alloc::{AllocError, Global};
 use xk_base::{Pid, Reg};
-use xv_report::{Callers, ProgramSource, Sources, callers_of, source_of};
+use xv_report::{Callers, Calls, ProgramSource, Sources, calls_of, source_of};
 use xv_session::Session;
 
 /// Where the function begins that has an address.
@@ -32,23 +32,34 @@ fn is_return(source: &ProgramSource<'_>, pc: u64, address: u64) -> bool {
     function_start(source, pc) == Some(pc) || !is_inside(source, pc, address)
 }
 
-/// The address that the last frame tells, if there is one.
-fn by_frame(callers: &Callers) -> Option<u64>
-    ensures { IsReturnTold callers.now result }
+/// The first of these addresses.
+fn first(addresses: &[u64]) -> Option<u64>
+    ensures { result ≡ slice_get addresses.now 0 }
 {
-    match callers.frames.get(0) {
+    match addresses.get(0) {
         Some(address) => Some(*address),
         None => None,
     }
 }
 
-/// Where the function returns to in which a process is: the address in ra, or else the one of its frame.
-fn return_address(source: &ProgramSource<'_>, pc: u64, callers: &Callers) -> Option<u64>
-    ensures { IsReturnTold callers.now result }
+/// Where the function returns to in which a process is, by a guess: the address in ra, or else the one of its frame.
+fn guessed_return(source: &ProgramSource<'_>, pc: u64, callers: &Callers) -> Option<u64>
+    ensures { IsReturnGuessed callers.now result }
 {
     match callers.ra {
         Some(address) if is_return(source, pc, address) => Some(address),
-        _ => by_frame(callers),
+        _ => first(callers.frames.as_slice()),
+    }
+}
+
+/// Where the function returns to in which a process is.
+fn return_address(source: &ProgramSource<'_>, pc: u64, calls: &Calls) -> Option<u64>
+    ensures { IsReturnTold calls.now result }
+{
+    match calls {
+        Calls::Known(addresses) => first(addresses.as_slice()),
+        Calls::FromRa(addresses) => first(addresses.as_slice()),
+        Calls::Guessed(callers) => guessed_return(source, pc, callers),
     }
 }
 
@@ -64,13 +75,25 @@ fn return_aim(pid: Pid, regs: &Regs, address: u64) -> Aim
 }
 
 /// What `finish` waits for; `None` where nobody runs, and where it isn't known to which address the function returns.
-pub(crate) fn finish_aim(session: &Session, sources: Option<&Sources>) -> Option<Aim>
-    ensures { IfSome result (IsFinishAim session.now.machine.world) }
+pub(crate) fn finish_aim(
+    alloc: Global,
+    session: &Session,
+    sources: Option<&Sources>,
+) -> Result<Option<Aim>, AllocError>
+    ensures { IfOk result (λ aim. IfSome aim (IsFinishAim (option_map (λ s. s.now) sources.entry) session.now)) }
 {
-    let pid = session.machine().current()?;
-    let regs = session.machine().registers(pid)?;
-    let callers = callers_of(session.machine(), pid)?;
+    let Some(pid) = session.machine().current() else {
+        return Ok(None);
+    };
+    let Some(regs) = session.machine().registers(pid) else {
+        return Ok(None);
+    };
     let source = source_of(sources, session, session.program_of(pid));
-    let address = return_address(&source, regs.pc(), &callers)?;
-    Some(return_aim(pid, &regs, address))
+    let Some(calls) = calls_of(alloc, session.machine(), pid, &source)? else {
+        return Ok(None);
+    };
+    match return_address(&source, regs.pc(), &calls) {
+        Some(address) => Ok(Some(return_aim(pid, &regs, address))),
+        None => Ok(None),
+    }
 }

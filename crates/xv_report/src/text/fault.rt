@@ -1,10 +1,12 @@
 //! Faults.
+use crate::callers::Callers;
 use crate::fault::FaultReport;
 use crate::hints::Hint;
 use crate::jumps::jump_target;
 use crate::sources::ProgramSource;
 use crate::text::hint::HintLine;
 use crate::text::place::{Instruction, Place, Who};
+use crate::unwinding::Calls;
 use rv64i_core::Regs;
 use std::fmt;
 use uasm_text::register_name;
@@ -55,33 +57,75 @@ impl<'a> FaultText<'a> {
         }
     }
 
-    /// A call, which stands in the four bytes before its return address, and by what it is told.
+    /// A call, which stands in the four bytes before its return address, and after it whether it is a guess.
     fn write_call<W: fmt::Write>(
         &self,
         address: u64,
-        by: &str,
+        guess: &str,
         f: &mut fmt::Formatter<W>,
     ) -> fmt::Result {
         let call = self.place(address.wrapping_sub(4));
-        write!(f, "\n  called at {call}, by {by}")
+        write!(f, "\n  called at {call}{guess}")
+    }
+
+    /// Calls from the last on, and after each whether it is a guess.
+    fn write_calls<W: fmt::Write>(
+        &self,
+        addresses: &[u64],
+        guess: &str,
+        f: &mut fmt::Formatter<W>,
+    ) -> fmt::Result {
+        for &address in addresses {
+            self.write_call(address, guess, f)?;
+        }
+        Ok(())
+    }
+
+    /// The calls that a table of call frames tells, or that it tells none.
+    fn write_known<W: fmt::Write>(
+        &self,
+        addresses: &[u64],
+        f: &mut fmt::Formatter<W>,
+    ) -> fmt::Result {
+        if addresses.is_empty() {
+            return f.write_str(
+                "\n  no call is told: by its table of call frames the stack holds none",
+            );
+        }
+        self.write_calls(addresses, "", f)
     }
 
     /// The call that is told by the register ra, or that none is told.
-    fn write_last_call<W: fmt::Write>(&self, f: &mut fmt::Formatter<W>) -> fmt::Result {
-        let callers = &self.report.callers;
+    fn write_last_guess<W: fmt::Write>(
+        &self,
+        callers: &Callers,
+        f: &mut fmt::Formatter<W>,
+    ) -> fmt::Result {
         let has_frames = !callers.frames.as_slice().is_empty();
         // Where no instruction may be fetched, the call that led there has made no frame yet.
         let has_no_frame = self.report.fault.cause == Cause::FetchPageFault;
         match callers.ra {
             Some(address) if !has_frames => {
-                self.write_call(address, "ra alone: it may be of an earlier call", f)
+                let guess = ", a guess by ra alone: it may be of an earlier call";
+                self.write_call(address, guess, f)
             }
-            Some(address) if has_no_frame => self.write_call(address, "ra", f),
+            Some(address) if has_no_frame => self.write_call(address, ", a guess by ra", f),
             None if !has_frames => {
                 f.write_str("\n  no call is told: s0 leads to no frame, and ra to no call")
             }
             _ => Ok(()),
         }
+    }
+
+    /// The calls that are guessed, by frame pointers and ra.
+    fn write_guessed<W: fmt::Write>(
+        &self,
+        callers: &Callers,
+        f: &mut fmt::Formatter<W>,
+    ) -> fmt::Result {
+        self.write_last_guess(callers, f)?;
+        let guess = ", a guess by the frame pointers";
+        self.write_calls(callers.frames.as_slice(), guess, f)
     }
 }
 
@@ -92,11 +136,13 @@ struct CallsText<'a>(&'a FaultText<'a>);
 impl<'a> fmt::Display for CallsText<'a> {
     fn fmt<W: fmt::Write>(&self, f: &mut fmt::Formatter<W>) -> fmt::Result {
         let text = self.0;
-        text.write_last_call(f)?;
-        for &address in text.report.callers.frames.as_slice() {
-            text.write_call(address, "the frame pointers", f)?;
+        match &text.report.calls {
+            Calls::Known(addresses) => text.write_known(addresses.as_slice(), f),
+            Calls::FromRa(addresses) => {
+                text.write_calls(addresses.as_slice(), ", a guess from ra on", f)
+            }
+            Calls::Guessed(callers) => text.write_guessed(callers, f),
         }
-        Ok(())
     }
 }
 

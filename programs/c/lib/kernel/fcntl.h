@@ -2,8 +2,6 @@
 #ifndef KERNEL_FCNTL_H
 #define KERNEL_FCNTL_H
 
-#include "../fcntl.h"
-
-enum { O_CREATE = 0x200, O_TRUNC = 0x400 };
+enum { O_RDONLY = 0, O_WRONLY = 1, O_RDWR = 2, O_CREATE = 0x200, O_TRUNC = 0x400 };
 
 #endif

@@ -39,7 +39,8 @@ returns-then-is_ended c =
     let start : IsReached frames trace programs [] booted.session.machine =
     subst (λ (s : Recorded). IsReached frames trace programs [] s.machine) (sym c.begin-played.ensures.session)
     (booted-reached frames trace programs c.in-Ok.session c.begin-played.ensures.recorded c.in-Ok.ensures.fresh) in
-    run-of frames trace programs c.args.plan c.args.keys.now c.loop-round.round booted now start c.loop-round.invariant.played c.begin-played.ensures.kept c.begin-played.ensures.budget
+    run-of frames trace programs c.args.plan c.args.keys.now c.loop-round.round booted now start c.loop-round.invariant.played
+    c.begin-played.ensures.kept c.begin-played.ensures.notes c.begin-played.ensures.budget
     (plan-ended frames trace programs c.args.plan c.args.keys.now c.loop-round.round booted now start c.loop-round.invariant.played
     (omega (arith, c.loop-round-test.true)) (sym c.is_ended.ensures ∙ c.if-is_ended.true))
 
@@ -53,6 +54,7 @@ returns c =
     let start : IsReached frames trace programs [] booted.session.machine =
     subst (λ (s : Recorded). IsReached frames trace programs [] s.machine) (sym c.begin-played.ensures.session)
     (booted-reached frames trace programs c.in-Ok.session c.begin-played.ensures.recorded c.in-Ok.ensures.fresh) in
-    run-of frames trace programs c.args.plan c.args.keys.now c.loop-round.round booted now start c.loop-round.invariant.played c.begin-played.ensures.kept c.begin-played.ensures.budget
+    run-of frames trace programs c.args.plan c.args.keys.now c.loop-round.round booted now start c.loop-round.invariant.played
+    c.begin-played.ensures.kept c.begin-played.ensures.notes c.begin-played.ensures.budget
     (plan-done frames trace programs c.args.plan c.args.keys.now c.loop-round.round booted now start c.loop-round.invariant.played (omega (arith, c.loop-round.auto.round-end))
     (inl (omega (arith, c.loop-round-test.false, c.loop-round.auto.round-end))))

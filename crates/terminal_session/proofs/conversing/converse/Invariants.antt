@@ -1,4 +1,5 @@
 use Rattle.std.proofs.Common.{◌≡◌}
+use Rattle.xv_live.specs.Keeps.{GoesOn, IsKept}
 use Rattle.terminal_session.specs.Stretches.{Lives}
 use Rattle.terminal_session.proofs.conversing.converse.Given as goal
 
@@ -6,3 +7,5 @@ abbrev pub invariant-turns : goal.invariant-turns
 invariant-turns g l =
     Lives g.H.Patience.may_end l.fn.debugger.quantum l.fn.session l.session (g.W.ByteSink.sink l.fn.screen.sink).held (g.W.ByteSink.sink l.screen.sink).held
     × (l.debugger.quantum ≡ l.fn.debugger.quantum)
+    × (IsKept g.F.RecordFile.held l.fn.recorder l.fn.session.events → IsKept g.F.RecordFile.held l.recorder l.session.events)
+    × GoesOn l.fn.recorder l.recorder

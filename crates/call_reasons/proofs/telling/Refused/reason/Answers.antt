@@ -4,7 +4,7 @@ use Rattle.kernel_calls.specs.declared.call.KernelCall.TheVariants as calls
 use Rattle.call_reasons.specs.Shown.{facts_in}
 use Rattle.call_reasons.specs.declared.reason.Reason.{Reason}
 use Rattle.call_reasons.specs.declared.reason.Reason.TheVariants.{NoRoom}
-use Rattle.call_reasons.proofs.ByCall.{close_told, dup_told, exec_untold, exit_untold, fork_told, getpid_untold, kill_told, open_untold, pipe_told, read_told, reason_at, sbrk_told, sbrklazy_told}
+use Rattle.call_reasons.proofs.ByCall.{close_told, dup_told, exec_told, exit_untold, fork_told, getpid_untold, kill_told, open_told, pipe_told, read_told, reason_at, sbrk_told, sbrklazy_told}
 use Rattle.call_reasons.proofs.ByCall.{sleep_untold, uptime_untold, wait_told, write_told}
 use Rattle.call_reasons.proofs.telling.Refused.reason.Goals as goal
 
@@ -73,7 +73,7 @@ returns-in-Exit c =
 pub returns-in-Exec : goal.returns-in-Exec
 returns-in-Exec c =
     let f = facts_in c.args.self.now.machine.now.world.state c.args.self.now.pid in
-    reason_at c.args.self.now.call.now f (Some calls.Exec) _ (ap Some (sym c.in-Exec.is) ∙ sym c.in-Some.is ∙ c.call_of.ensures) (exec_untold c.args.self.now.call.now f _ refl)
+    reason_at c.args.self.now.call.now f (Some calls.Exec) _ (ap Some (sym c.in-Exec.is) ∙ sym c.in-Some.is ∙ c.call_of.ensures) (exec_told c.args.self.now.call.now f _ c.of_exec.ensures)
 
 pub returns-in-Getpid : goal.returns-in-Getpid
 returns-in-Getpid c =
@@ -93,4 +93,4 @@ returns-in-Uptime c =
 pub returns-in-Open : goal.returns-in-Open
 returns-in-Open c =
     let f = facts_in c.args.self.now.machine.now.world.state c.args.self.now.pid in
-    reason_at c.args.self.now.call.now f (Some calls.Open) _ (ap Some (sym c.in-Open.is) ∙ sym c.in-Some.is ∙ c.call_of.ensures) (open_untold c.args.self.now.call.now f _ refl)
+    reason_at c.args.self.now.call.now f (Some calls.Open) _ (ap Some (sym c.in-Open.is) ∙ sym c.in-Some.is ∙ c.call_of.ensures) (open_told c.args.self.now.call.now f _ c.of_open.ensures)

@@ -7,4 +7,5 @@ pub returns-clause-plays : goal.returns-clause-plays
 returns-clause-plays c =
     plays-event (event_of c.args.event) (outcome_of c.in_ok-outcome.outcome) c.args.self.now
     (record { session = c.send.new.self; kept = c.add_work.new.self }) c.requires.other c.in_ok-outcome.ensures.sent
+    (c.add_work.ensures.notes ∙ c.keep.ensures.notes)
     (c.add_work.ensures.told ∙ c.in_ok-keep.ensures.told) (c.add_work.ensures.budget ∙ c.in_ok-keep.ensures.budget)

@@ -15,7 +15,7 @@ returns-in-Step-clause-told g c =
     let new = c.step.new.session in
     let before = string_bytes c.args.answer.now in
     let after = string_bytes c.step.new.answer in
-    subst (λ (w : Word). OnOk c.step.result (Answers g.P.Patience.may_end q c.args.self.now.shown w old new before after)) (sym c.in-Step.is)
+    subst (λ (w : Word). OnOk c.step.result (Answers c.args.self.now.sources g.P.Patience.may_end q c.args.self.now.shown w old new before after)) (sym c.in-Step.is)
     (subst (λ (w : Word). OnOk c.step.result (StepTells g.P.Patience.may_end w c.in-Step.count old new before after)) c.in-Step.is c.step.ensures.told)
 
 pub returns-in-Next-clause-told : goal.returns-in-Next-clause-told
@@ -25,7 +25,7 @@ returns-in-Next-clause-told g c =
     let new = c.next.new.session in
     let before = string_bytes c.args.answer.now in
     let after = string_bytes c.next.new.answer in
-    subst (λ (w : Word). OnOk c.next.result (Answers g.P.Patience.may_end q c.args.self.now.shown w old new before after)) (sym c.in-Next.is)
+    subst (λ (w : Word). OnOk c.next.result (Answers c.args.self.now.sources g.P.Patience.may_end q c.args.self.now.shown w old new before after)) (sym c.in-Next.is)
     (subst (λ (w : Word). OnOk c.next.result (SearchTells g.P.Patience.may_end q w (met_from old (aim_in old.machine.world) []) old new before after)) c.in-Next.is c.next.ensures.told)
 
 pub returns-in-Until-clause-told : goal.returns-in-Until-clause-told
@@ -35,7 +35,7 @@ returns-in-Until-clause-told g c =
     let new = c.seek.new.session in
     let before = string_bytes c.args.answer.now in
     let after = string_bytes c.seek.new.answer in
-    subst (λ (w : Word). OnOk c.seek.result (Answers g.P.Patience.may_end q c.args.self.now.shown w old new before after)) (sym c.in-Until.is)
+    subst (λ (w : Word). OnOk c.seek.result (Answers c.args.self.now.sources g.P.Patience.may_end q c.args.self.now.shown w old new before after)) (sym c.in-Until.is)
     (subst (λ (w : Word). OnOk c.seek.result (GoalTells g.P.Patience.may_end q w c.in-Until.goal old new before after)) c.in-Until.is c.seek.ensures.told)
 
 pub returns-in-Run-clause-told : goal.returns-in-Run-clause-told
@@ -45,7 +45,7 @@ returns-in-Run-clause-told g c =
     let new = c.play.new.session in
     let before = string_bytes c.args.answer.now in
     let after = string_bytes c.play.new.answer in
-    subst (λ (w : Word). OnOk c.play.result (Answers g.P.Patience.may_end q c.args.self.now.shown w old new before after)) (sym c.in-Run.is)
+    subst (λ (w : Word). OnOk c.play.result (Answers c.args.self.now.sources g.P.Patience.may_end q c.args.self.now.shown w old new before after)) (sym c.in-Run.is)
     (subst (λ (w : Word). OnOk c.play.result (RoundsTell g.P.Patience.may_end q w c.in-Run.rounds old new before after)) c.in-Run.is c.play.ensures.told)
 
 pub returns-in-Tick-clause-told : goal.returns-in-Tick-clause-told
@@ -55,7 +55,7 @@ returns-in-Tick-clause-told g c =
     let new = c.send_often.new.session in
     let before = string_bytes c.args.answer.now in
     let after = string_bytes c.send_often.new.answer in
-    subst (λ (w : Word). OnOk c.send_often.result (Answers g.P.Patience.may_end q c.args.self.now.shown w old new before after)) (sym c.in-Tick.is)
+    subst (λ (w : Word). OnOk c.send_often.result (Answers c.args.self.now.sources g.P.Patience.may_end q c.args.self.now.shown w old new before after)) (sym c.in-Tick.is)
     (subst (λ (w : Word). OnOk c.send_often.result (SendsTell g.P.Patience.may_end w (λ n. replicate n runs.Tick) c.in-Tick.count old new before after)) c.in-Tick.is c.send_often.ensures.told)
 
 pub returns-in-Send-clause-told : goal.returns-in-Send-clause-told
@@ -65,7 +65,7 @@ returns-in-Send-clause-told g c =
     let new = c.send_often-in-Send.new.session in
     let before = string_bytes c.args.answer.now in
     let after = string_bytes c.send_often-in-Send.new.answer in
-    subst (λ (w : Word). OnOk c.send_often-in-Send.result (Answers g.P.Patience.may_end q c.args.self.now.shown w old new before after)) (sym c.in-Send.is)
+    subst (λ (w : Word). OnOk c.send_often-in-Send.result (Answers c.args.self.now.sources g.P.Patience.may_end q c.args.self.now.shown w old new before after)) (sym c.in-Send.is)
     (subst (λ (w : Word). OnOk c.send_often-in-Send.result (SendsTell g.P.Patience.may_end w (λ n. replicate n runs.Send) c.in-Send.count old new before after)) c.in-Send.is
     c.send_often-in-Send.ensures.told)
 
@@ -76,7 +76,7 @@ returns-in-Key-clause-told g c =
     let new = c.type_in.new.session in
     let before = string_bytes c.args.answer.now in
     let after = string_bytes c.type_in.new.answer in
-    subst (λ (w : Word). OnOk c.type_in.result (Answers g.P.Patience.may_end q c.args.self.now.shown w old new before after)) (sym c.in-Key.is)
+    subst (λ (w : Word). OnOk c.type_in.result (Answers c.args.self.now.sources g.P.Patience.may_end q c.args.self.now.shown w old new before after)) (sym c.in-Key.is)
     (subst (λ (w : Word). OnOk c.type_in.result (SendsTell false w (λ n. map runs.Key (take n c.in-Key.keys.items)) (length c.in-Key.keys.items) old new before after)) c.in-Key.is
     c.type_in.ensures.told)
 
@@ -87,7 +87,7 @@ returns-in-ToMark-clause-told g c =
     let new = c.go_on.new.session in
     let before = string_bytes c.args.answer.now in
     let after = string_bytes c.go_on.new.answer in
-    subst (λ (w : Word). OnOk c.go_on.result (Answers g.P.Patience.may_end q c.args.self.now.shown w old new before after)) (sym c.in-ToMark.is)
+    subst (λ (w : Word). OnOk c.go_on.result (Answers c.args.self.now.sources g.P.Patience.may_end q c.args.self.now.shown w old new before after)) (sym c.in-ToMark.is)
     (subst (λ (w : Word). OnOk c.go_on.result (SearchTells g.P.Patience.may_end q w (met_from old (On Fault) c.in-ToMark.marks.items) old new before after)) c.in-ToMark.is c.go_on.ensures.told)
 
 pub returns-in-Finish-clause-told : goal.returns-in-Finish-clause-told
@@ -97,5 +97,5 @@ returns-in-Finish-clause-told g c =
     let new = c.finish.new.session in
     let before = string_bytes c.args.answer.now in
     let after = string_bytes c.finish.new.answer in
-    subst (λ (w : Word). OnOk c.finish.result (Answers g.P.Patience.may_end q c.args.self.now.shown w old new before after)) (sym c.in-Finish.is)
-    (subst (λ (w : Word). OnOk c.finish.result (FinishTells g.P.Patience.may_end q w old new before after)) c.in-Finish.is c.finish.ensures.told)
+    subst (λ (w : Word). OnOk c.finish.result (Answers c.args.self.now.sources g.P.Patience.may_end q c.args.self.now.shown w old new before after)) (sym c.in-Finish.is)
+    (subst (λ (w : Word). OnOk c.finish.result (FinishTells c.args.self.now.sources g.P.Patience.may_end q w old new before after)) c.in-Finish.is c.finish.ensures.told)

@@ -1,0 +1,9 @@
+pub mod Facts
+pub mod FactsText
+pub mod Frames
+pub mod Lines
+pub mod Names
+pub mod NamesText
+pub mod Sections
+pub mod Table
+pub mod Texts

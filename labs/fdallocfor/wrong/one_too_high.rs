@@ -1,0 +1,6 @@
+        for number in 0..NOFILE {
+            if self.files.as_slice()[number].is_none() {
+                return Some(Fd::new((number + 1).min(NOFILE - 1) as u8));
+            }
+        }
+        None
