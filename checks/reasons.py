@@ -59,7 +59,7 @@ def c_int(register):
 
 
 class Unknown(Exception):
-    """The model doesn't know the bytes: those of text and of the stack."""
+    """The model doesn't know the bytes: those of text, of the stack, and of the table of calls, which isn't whole yet."""
 
 
 class File:
@@ -72,7 +72,8 @@ class File:
 class Process:
     """What the manual says of one process: why its calls are refused, and what they do if they aren't."""
 
-    def __init__(self, frames, data, programs, sleeper):
+    def __init__(self, frames, data, programs, sleeper, table):
+        self.table = range(PAGE, PAGE + table)
         count = -(-len(data) // PAGE)
         self.pages = {0: "rx"} | {1 + k: "rw" for k in range(count)} | {count + 1: "", count + 2: "rw"}
         self.bytes = {1 + k: bytearray(data[k * PAGE:(k + 1) * PAGE].ljust(PAGE, b"\0")) for k in range(count)}
@@ -123,7 +124,7 @@ class Process:
 
     def byte(self, address):
         page = address // PAGE
-        if page in self.pages and page not in self.bytes:
+        if page in self.pages and page not in self.bytes or address in self.table:
             raise Unknown
         return self.bytes[page][address % PAGE] if page in self.pages else 0
 
@@ -419,7 +420,7 @@ def program_of(seed, calls):
     sleeper = rng.random() < 0.5
     data, places = data_of(rng, calls)
     frames = rng.choice([33, 36, 40, 60, 100, 400, 4096])
-    process = Process(frames, data, {b"init": None, b"junk": None, b"small": 6}, sleeper)
+    process = Process(frames, data, {b"init": None, b"junk": None, b"small": 6}, sleeper, 32 * (calls + 1))
     process.programs[b"init"] = process.price()
     lazy = rng.random() < 0.3
     done = []

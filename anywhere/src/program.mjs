@@ -5,6 +5,7 @@ import {
   closeSync, constants, existsSync, fstatSync, ftruncateSync, lstatSync, openSync, readFileSync, realpathSync,
 } from "node:fs";
 import { join, resolve } from "node:path";
+import { isatty } from "node:tty";
 import { fileURLToPath } from "node:url";
 import { isMainThread } from "node:worker_threads";
 import { read_into, rest, write_all } from "./streams.mjs";
@@ -73,7 +74,7 @@ function told(about) {
   return { kind, size: about.size };
 }
 
-/** An open file of this host. In a plain one, `at` is the place that is read or written next. */
+/** An open file of this host. In a plain one, and in a device that is no terminal, `at` is read or written next. */
 class HostFile extends PlacedFile {
   constructor(path, { creates, excludes, empties, appends, reads, writes }) {
     super();
@@ -82,7 +83,8 @@ class HostFile extends PlacedFile {
     const flags = (creates && O_CREAT) | (excludes && O_EXCL) | (empties && O_TRUNC) | (appends && O_APPEND);
     this.fd = openSync(path, way | flags);
     Object.assign(this, told(fstatSync(this.fd)));
-    this.at = this.kind === REGULAR_FILE && !appends ? 0 : null;
+    const has_places = this.kind === REGULAR_FILE || (this.kind === CHARACTERS && !isatty(this.fd));
+    this.at = has_places && !appends ? 0 : null;
   }
 
   read(room) {

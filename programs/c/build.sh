@@ -77,7 +77,7 @@ build_own() {
         -o "$program" $objects "$file" -lgcc)
     "${tools}objcopy" --only-keep-debug "$program" "$program.debug"
     "${tools}strip" "$program"
-    "$here/../../bin/xv_lines" <"$program.debug" >"$program.lines"
+    "$here/../../bin/xv_lines" <"$program.debug" >"$program.lines" || rm "$program.lines"
 }
 
 names() {
