@@ -56,7 +56,7 @@ class Command:
 
     def is_for_hands(self, folder):
         """It needs what isn't in this folder, or not here: a terminal, a file, the kit, the compiler."""
-        at_terminal = self.shown is not None and re.match(r"(\./|\$top/)xv|node", self.words) and not re.search(r"[<|>]", self.words)
+        at_terminal = self.shown is not None and re.match(r"(\./|\$top/)xv|node", self.words) and not re.search(r"[<|>]|--check\b", self.words)
         unnamed = re.search(r"(^| )init\.s", self.words) and not self.program
         missing = [it for it in self.files if not list(folder.glob(it))]
         wants_more = BY_HAND.search(re.sub(r"'[^']*'|CFLAGS=\S+", "", self.words))

@@ -1,8 +1,8 @@
 #!/bin/sh
 # Finds the bug of gdb/game.c with GDB, by the commands of gdb/game.gdb, and compares what GDB says with
 # gdb/game.wanted: checks/gdb.sh [PROGRAM], where PROGRAM serves GDB under its name, xv_gdb, and is without a word the
-# one that is proved and built. Then it holds the sessions in gdb/sessions (gdb/sessions.py says how), and one with a
-# machine that starts slowly. `checks/gdb.sh --by-hand [PROGRAM]` leaves you in GDB at the start. It takes half a minute.
+# one that is proved and built. Then it holds the sessions in gdb/sessions (gdb/sessions.py says how), one with a machine
+# that starts slowly, and one over a record that the terminal beside PROGRAM has kept (gdb/recorded.py). `checks/gdb.sh --by-hand [PROGRAM]` leaves you in GDB at the start. It takes half a minute.
 #
 # It needs gdb-multiarch and a C compiler: apt-get install gdb-multiarch gcc-riscv64-unknown-elf.
 set -eu
@@ -55,4 +55,7 @@ else
     exit 1
 fi
 echo both >rc
-exec python3 -B "$here/gdb/sessions.py" "$program" .
+python3 -B "$here/gdb/sessions.py" "$program" .
+# A session that the terminal beside it has recorded.
+terminal=${program%/*}/xv_terminal
+[ ! -x "$terminal" ] || python3 -B "$here/gdb/recorded.py" "$program" "$terminal" .

@@ -21,6 +21,8 @@ OTHERS = {
         "programs/host/build.sh", "programs/host/kit.sh", "programs/host/jobs.sh"],
     "grade, by a shell and by Node: a program with words of its own, which xv doesn't start": [
         "programs/course/*.sh", "anywhere/grade.mjs", "anywhere/src/grading/*.mjs"],
+    "make marks of what the grader gives, and check what is about to be handed in: xv hands these words on whole": [
+        "anywhere/marks.mjs", "anywhere/src/marking/*.mjs"],
     "compile and link programs in C": ["anywhere/src/c_*.mjs"],
     "edit a line at a prompt": ["anywhere/src/editing.mjs"],
     "are the host of WASI, which modules of programs, of the grader and of the C compiler stand on": [

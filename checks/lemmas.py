@@ -19,7 +19,7 @@ TOP = pathlib.Path(__file__).resolve().parents[1]
 COLUMNS = 200
 
 # What is there today. A change that makes a count smaller writes it here.
-BOUNDS = {"statements that are proved again": 0, "lemmas that nothing names": 2, "lines of more than 200 columns": 26}
+BOUNDS = {"statements that are proved again": 0, "lemmas that nothing names": 0, "lines of more than 200 columns": 26}
 
 # Lemmas of std that were proved again more than once; `rt lemma WORDS` finds these and all others.
 STD = """

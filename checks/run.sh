@@ -2,7 +2,8 @@
 # The checks beside the proofs: checks/run.sh gives the programs the words that are stored, plays the sessions, also those
 # at a terminal and of the debugger, the stored runs, random programs and random words in rows and by single events, the
 # reports and the conversations with GDB by the programs that are built, reads the lines of all sources a second time, compares
-# why calls are refused with a table of its own, lets the debugger show words as others' disassemblers do, grades submissions, runs the commands that the pages show, looks at
+# why calls are refused with a table of its own, lets the debugger show words as others' disassemblers do, grades submissions and
+# makes marks of a class for other systems, runs the commands that the pages show, looks at
 # their links, at the cases by name and at the numbers of calls, counts what the proofs can do without, what stands twice, the
 # launcher's lines and what has to be believed, hands in answers of labs and compares their signs with labs/NOTATION.md, and
 # tells of which state the modules and page/nektavoly.html are, in some 40 seconds. The gate does the same after `rt ci`.
@@ -54,8 +55,10 @@ tell_others() {
     tell exercise_8.py 'exercise_8.py' "what the kit says of the mistake in the course's exercise 8 is what the page shows: a minute; needs rt"
     tell cases.py 'cases.py --tell [WORD]' 'what tries a case that a reader would ask for by name'
     tell commands.py 'commands.py --tell' 'which commands of the pages are run by hand alone; the others are run here'
+    tell terminal/replayed.py 'terminal/replayed.py --runs 50 [--node]' 'fifty recorded sessions in every tool, at the same event each: a minute, by Node too some minutes'
     tell terminal/by_hand.sh 'terminal/by_hand.sh [FOLDER]' 'sessions at a real terminal, with their screens: a minute; needs tmux'
     tell terminal/measure.py 'terminal/measure.py' 'the terminal'"'"'s speed beside xv_run, its echo, and what it takes while all sleep: a minute'
+    tell grading/course.py 'grading/course.py SEED' '200 other damaged submissions, in which --check and the grader agree: half a minute; needs nodejs'
     tell grading/run.sh 'grading/run.sh --all' '210 submissions, twice, in two orders, with a kill and a second start: a minute'
     tell grading/run.sh 'grading/run.sh --many' 'a thousand submissions by GNU parallel (Debian: parallel): two minutes'
     tell c-lines.py 'c-lines.py' 'the lines of the programs in C are those of addr2line: half a minute; needs the C compiler'
@@ -99,7 +102,7 @@ begin_node() {
 
 # What needs a program: the quick ones first.
 quick='checks/words/run.sh checks/refusals/run.sh checks/sessions/run.sh checks/rows/wild.sh'
-longer='checks/stored-runs/run.sh checks/rows/run.sh checks/why/run.sh checks/c-programs/run.sh checks/gdb/run.sh checks/terminal/run.sh checks/terminal/kept.py checks/debugger/run.sh checks/debugger/typed.py checks/lines.py checks/reasons.py checks/beside-disassemblers/sample.py checks/grading/run.sh'
+longer='checks/stored-runs/run.sh checks/rows/run.sh checks/why/run.sh checks/c-programs/run.sh checks/gdb/run.sh checks/terminal/run.sh checks/terminal/kept.py checks/terminal/replayed.py checks/debugger/run.sh checks/debugger/typed.py checks/lines.py checks/reasons.py checks/beside-disassemblers/sample.py checks/grading/run.sh checks/grading/course.py'
 
 # shellcheck disable=SC2086
 case "$*" in

@@ -347,7 +347,13 @@ export class Adapter {
   // ---- what is evaluated
 
   on_evaluate(args) {
-    const { own } = this, pid = args.frameId === undefined ? this.shown.pid : this.shown.frame_in(args).pid;
+    const { own } = this, frame = args.frameId === undefined ? null : this.shown.frame_in(args);
+    const variable = frame && this.shown.variable_named(frame, text_in(args, "expression") ?? "");
+    if (variable) {
+      const { value, type, variablesReference, memoryReference } = variable;
+      return { result: value, type, variablesReference, ...(memoryReference ? { memoryReference } : {}) };
+    }
+    const pid = frame ? frame.pid : this.shown.pid;
     const options = { may_do: [undefined, null, "repl"].includes(args.context), base: this.base };
     const { text, address, then } = evaluated(own, pid, text_in(args, "expression") ?? "", options);
     const more = address === undefined ? {} : { memoryReference: hex(address) };

@@ -2,16 +2,18 @@
 import { existsSync, readFileSync, readdirSync, realpathSync, statSync } from "node:fs";
 import { basename, dirname, join, resolve } from "node:path";
 import { fileURLToPath } from "node:url";
+import { entry_of } from "../machine/elf_files.mjs";
 import { MOST_FILES, files_refused } from "../machine/file_refusals.mjs";
 import { file_of_bytes, file_of_source, name_first } from "../machine/program_files.mjs";
 import { function_at, line_at, name_at } from "../machine/source_places.mjs";
+import { TABLES, has_tables } from "../machine/variables.mjs";
 import { refuse } from "./arguments.mjs";
 import { recorded } from "./records.mjs";
 
 const TOP = fileURLToPath(new URL("../../", import.meta.url));
 // Where sources and tables of the shell's own programs lie.
 const OWN_SOURCES = ["programs/c/src", "programs/c/lib"].map((it) => TOP + it), OWN_TABLES = `${TOP}programs/c/tables`;
-const TABLE = ".lines", NO_PROGRAMS = [TABLE, ".debug", ".o", ".c", ".h", ".md"]; // ends of names
+const TABLE = ".lines", NO_PROGRAMS = [TABLE, TABLES, ".o", ".c", ".h", ".md"]; // ends of names
 
 const SOURCE_IN_C = ".c";
 
@@ -36,11 +38,6 @@ function paths_of(word, base) {
   return readdirSync(path).filter((name) => !is_left_out(name)).sort().map((name) => join(path, name))
     .filter((it) => statSync(it).isFile());
 }
-
-// Where an ELF-64 file has the address at which the program begins (ELF-64 Object File Format, "e_entry").
-const ENTRY = 24;
-
-const entry_of = (bytes) => new DataView(bytes.buffer, bytes.byteOffset, bytes.byteLength).getBigUint64(ENTRY, true);
 
 export class Programs {
   /** Reads the files that words name; `folders` are where sources in C are looked for, too. */
@@ -73,6 +70,17 @@ export class Programs {
     const table = () => read_if_there(path + TABLE) || read_if_there(join(OWN_TABLES, name + TABLE));
     const source_of = (file) => read_if_there(this.source_path(file, path) ?? "");
     return { ...file_of_bytes(name, readFileSync(path), table, source_of), from, path };
+  }
+
+  /**
+   * The tables of a program in C, by which its variables are told: those of NAME.debug, or its own; null if there are
+   * none.
+   */
+  tables_of(place) {
+    const file = place === null ? undefined : this.files[place];
+    if (!file?.path) return null;
+    const beside = file.path + TABLES, own = () => (has_tables(file.bytes) ? file.bytes : null);
+    return (file.tables ??= existsSync(beside) ? readFileSync(beside) : own());
   }
 
   /** Where a source in C lies that the table of the program at a path names; undefined if it isn't found. */

@@ -1,11 +1,13 @@
 // What an editor is shown of a machine that stands: threads, which are processes, calls, variables, memory,
 // instructions. What it is handed is of this place of the run alone: a number of another place is refused.
-import { calls_of } from "../machine/line_steps.mjs";
+import { frames_of } from "../machine/line_steps.mjs";
 import { word_at } from "../machine/memory.mjs";
 import { hex, number } from "../machine/number_words.mjs";
 import { REGISTERS } from "../machine/registers.mjs";
+import { GLOBALS, LOCALS } from "../machine/variables.mjs";
 import { address_in, number_in, refuse } from "./arguments.mjs";
 import { kernel_variables, state_words } from "./kernel_scope.mjs";
+import { part_named, variable_of, variables_of } from "./variables.mjs";
 
 const MOST_READ = 65536, MOST_INSTRUCTIONS = 4096; // of one answer
 const INSTRUCTION = 4n; // bytes
@@ -54,26 +56,26 @@ export class Shown {
     const { run, programs } = this.own, pid = pid_in(this.own, args), pc = this.own.pc(pid);
     const first = number_in(args, "startFrame", 0, MOST) ?? 0, count = number_in(args, "levels", 0, MOST) ?? 0;
     const program = run.program_of(pid), { frames } = programs.known(program, pc ?? 0n);
-    const addresses = pc === null ? [] : this.calls(pid, program, frames);
-    const end = count ? first + count : addresses.length;
+    const calls = pc === null ? [] : this.calls(pid, program, frames);
+    const end = count ? first + count : calls.length;
     return {
-      totalFrames: addresses.length,
-      stackFrames: addresses.slice(first, end).map((address) => this.frame(pid, program, address)),
+      totalFrames: calls.length,
+      stackFrames: calls.slice(first, end).map((it) => this.frame(pid, program, it)),
     };
   }
 
-  /** The addresses of the calls of a process, up to the function at which its program begins. */
+  /** The calls of a process, up to the function at which its program begins. */
   calls(pid, program, frames) {
-    const { machine, programs } = this.own, all = calls_of(machine, pid, frames);
-    const last = all.findIndex((it) => programs.is_first(program, it));
+    const { machine, programs } = this.own, all = frames_of(machine, pid, frames);
+    const last = all.findIndex((it) => programs.is_first(program, it.address));
     return last < 0 ? all : all.slice(0, last + 1);
   }
 
-  frame(pid, program, address) {
+  frame(pid, program, { address, call }) {
     const { line, source, name } = this.own.programs.place(program, address), told = line && this.owner.line_told(line);
     const where = { line: told ?? 0, column: line ? this.owner.column : 0, instructionPointerReference: hex(address) };
     const told_source = source ? { source: this.owner.source_told(source) } : {};
-    return { id: this.handle({ pid, address }), name, ...told_source, ...where };
+    return { id: this.handle({ pid, program, call }), name, ...told_source, ...where };
   }
 
   frame_in(args) {
@@ -81,16 +83,36 @@ export class Shown {
   }
 
   on_scopes(args) {
-    const { pid } = this.frame_in(args);
+    const frame = this.frame_in(args), { pid } = frame;
     this.pid = pid;
+    const of_c = (name, scope, more) => (
+      { name, ...more, variablesReference: this.handle(() => this.variables(frame, scope)), expensive: false }
+    );
+    const has_tables = this.own.programs.tables_of(frame.program) !== null;
+    const scopes = has_tables ? [of_c("Locals", LOCALS, { presentationHint: "locals" }), of_c("Globals", GLOBALS)] : [];
     const registers = this.handle(() => this.registers(pid));
     const kernel = this.handle(() => kernel_variables(this.own, pid, (it) => this.handle(it)));
     return {
       scopes: [
+        ...scopes,
         { name: "Registers", presentationHint: "registers", variablesReference: registers, expensive: false },
         { name: "Kernel", variablesReference: kernel, expensive: false },
       ],
     };
+  }
+
+  /** The variables of C of a call. */
+  variables(frame, scope) {
+    return variables_of(this.own, frame, scope).map((it) => variable_of(it, (tell) => this.handle(tell)));
+  }
+
+  /** The variable, or the part of one, that a text names in a call; undefined if it names none. */
+  variable_named(frame, text) {
+    for (const scope of [LOCALS, GLOBALS]) {
+      const found = part_named(variables_of(this.own, frame, scope), text);
+      if (found) return variable_of(found, (tell) => this.handle(tell));
+    }
+    return undefined;
   }
 
   registers(pid) {

@@ -158,13 +158,17 @@ function asked(run, { kind, pid, number, value }) {
   return told(`${name}(${ARGUMENTS[name]?.(call.words, reading) ?? call.words.map(hex).join(", ")})`, name);
 }
 
-/** What came of it, as the machine is asked after it. */
-function answer_of({ kind, number, value }, { call, name, reading }) {
+/** What came of it, as the machine is asked after it: of a refused call also why. */
+function answer_of({ kind, pid, number, value }, { call, name, reading }) {
   if (kind === KIND.WAIT) return "sleeps";
   if (kind === KIND.EXIT) return `ends with ${number}`;
   if (kind !== KIND.CALL) return "";
+  if (value === -1 && call) {
+    const reason = reading.machine.reason_text(pid, call);
+    return reason ? `-1, refused: ${reason}` : "-1, refused";
+  }
   const left = LEFT[name]?.(call.words, value, reading) ?? "";
-  return `${value}${value === -1 ? ", refused" : left ? `, ${left}` : ""}`;
+  return `${value}${left ? `, ${left}` : ""}`;
 }
 
 /**

@@ -63,20 +63,39 @@ function returns_of(machine, pid, { frames }) {
 
 const MOST_CALLS = 64; // that are told
 
-/** The addresses of the calls that led to where a process stands, its own place first. */
-export function calls_of(machine, pid, frames) {
+/** The registers of a process that are known in a call: [number, value]. */
+function registers_of(machine, pid, { sp, s0 }, is_first) {
+  if (is_first) return [...(machine.registers(pid) ?? [])].map((value, number) => [number, value]).slice(1);
+  return [[2, sp], [8, s0]].filter(([, value]) => value !== null);
+}
+
+/** Where the caller's part of the stack begins, by a row of the table; null if it doesn't tell. */
+function base_of(frames, at) {
+  const row = last_before(frames, at.pc), register = row ? at[row.base] ?? null : null;
+  return register === null ? null : register + row.size;
+}
+
+/**
+ * The calls that led to where a process stands, its own place first: {address, call}; `address`: where it stands;
+ * `call`: what `Machine.variables` wants to know of it.
+ */
+export function frames_of(machine, pid, frames) {
   let at = place_of(machine, pid);
   const found = [];
   while (at !== null && found.length < MOST_CALLS) {
     // A call stands before the address to which it returns.
-    const pc = found.length ? at.pc - 4n : at.pc;
-    found.push(pc);
+    const is_first = !found.length, pc = is_first ? at.pc : at.pc - 4n, base = base_of(frames, { ...at, pc });
+    const call = { address: is_first ? pc : at.pc - 1n, base, registers: registers_of(machine, pid, at, is_first) };
+    found.push({ address: pc, call });
     const caller = caller_of(machine, pid, { ...at, pc }, frames);
     if (!caller || caller.pc < 4n) break;
     at = caller;
   }
   return found;
 }
+
+/** The addresses of the calls that led to where a process stands, its own place first. */
+export const calls_of = (machine, pid, frames) => frames_of(machine, pid, frames).map((it) => it.address);
 
 const NONE = { addresses: [], bytes: [] };
 

@@ -2,8 +2,10 @@
 // lines of its source, and how its calls lie on the stack.
 
 export const FUNCTION = 2; // of an ELF file: STT_FUNC
-const SYMBOLS = 2, STRINGS = 3; // SHT_SYMTAB, SHT_STRTAB
-const HEAD = 64, SYMBOL = 24; // bytes of an ELF file's header and of a section's; of a symbol
+export const SYMBOLS = 2; // SHT_SYMTAB
+export const SYMBOL = 24; // bytes of a symbol
+const STRINGS = 3; // SHT_STRTAB
+const HEAD = 64; // bytes of an ELF file's header and of a section's
 
 export const is_table = (text) => /^(function|label) \d+ \d+ \S+\n/.test(text ?? "");
 

@@ -388,11 +388,56 @@ export class Machine {
     return this.told_text(calls.xv_page_kill(session, sources, ...of, told, room, ROOM_SIZE));
   }
 
+  /**
+   * Why a call of a process, {number, words}, is refused; null if it isn't. The machine stands before the call's answer, or
+   * right after it.
+   */
+  reason_text(pid, { number, words }) {
+    const { calls, session, told, room } = this;
+    const of = [whole(pid), number, ...words.map((it) => BigInt.asUintN(64, it))];
+    return this.told_text(calls.xv_page_reason(session, ...of, told, room, ROOM_SIZE));
+  }
+
   /** That a process was refused a growth, by its call of this number at an address. It stands right after that call. */
   refused_text(pid, number, address) {
     const { calls, session, sources, told, room } = this;
     const of = [whole(pid), whole(number), BigInt.asUintN(64, address)];
     return this.told_text(calls.xv_page_refused(session, sources, ...of, told, room, ROOM_SIZE));
+  }
+
+  /** The text that a call tells in a room; null where it names nothing. A longer text gets a room of its own. */
+  told_whole(call) {
+    const answer = call(this.room, ROOM_SIZE);
+    if ((answer & 255) === UNKNOWN) return null;
+    this.done(answer);
+    const length = this.u64(0);
+    if (length <= ROOM_SIZE) return this.text(this.room, length);
+    const room = this.calls.page_take(length);
+    if (room === 0n) throw new Error(ANSWERS[2]);
+    this.done(call(room, length));
+    const text = this.text(room, length);
+    this.calls.page_give(room);
+    return text;
+  }
+
+  /**
+   * The variables of a call of a process, by the tables in the file of its program: `scope` 0 those of its function, 1
+   * those of the program. Of the call: {address, base, registers}, where it stands, where its caller's part of the stack
+   * begins, or null, and the registers that are known, [number, value]. Answers {rows, wrong}: of each variable {role,
+   * inlined, name, type, address, value}; `wrong`: why the tables are refused, or nothing.
+   */
+  variables(pid, scope, { address, base, registers }, file) {
+    const pairs = registers.flatMap(([number, value]) => [BigInt(number), value]);
+    const words = BigUint64Array.of(address, base ?? 0n, base === null ? 0n : 1n, ...pairs);
+    const asked = new Uint8Array(words.buffer);
+    const { calls, session, told } = this, at = this.put(asked), tables = this.put(file);
+    const known = [at, at + CALL_ASKED, BigInt(registers.length), tables, BigInt(file.length)];
+    const tell = (room, size) => calls.xv_page_variables(session, whole(pid), scope, ...known, told, room, size);
+    try {
+      return rows_of_variables(this.told_whole(tell) ?? "");
+    } finally {
+      [at, tables].forEach((it) => calls.page_give(it));
+    }
   }
 
   /**
@@ -468,6 +513,17 @@ export class Machine {
   }
 }
 const NO_BYTES = new Uint8Array(0);
+const CALL_ASKED = 24n; // bytes of what is asked of a call, before its registers
+
+/** The rows of variables, as `debug_info` writes them. */
+function rows_of_variables(text) {
+  if (text.startsWith("!")) return { rows: [], wrong: text.slice(1) };
+  const row_of = (line) => {
+    const [role, inlined, name, type, address, ...value] = line.split("\t");
+    return { role, inlined, name, type, address, value: value.join("\t") };
+  };
+  return { rows: text.split("\n").filter((it) => it).map(row_of), wrong: "" };
+}
 
 /** The signed number of 8 bytes at a place, as near as a double comes. */
 function signed(data, at) {

@@ -1,7 +1,8 @@
 // Names of places in a program: the labels and lines of a source, as the assembler tells them; of a program in C its
 // functions and lines, by the table that stands beside it; or the functions of an ELF file that has symbols.
+import { sections_of, text_at } from "./elf_files.mjs";
+import { FUNCTION, SYMBOL, SYMBOLS, elf_of, read_table, rows_of } from "./line_tables.mjs";
 import { last_before } from "./ordered.mjs";
-import { elf_of, read_table, rows_of } from "./line_tables.mjs";
 
 /** The places of a source: its text, with the lines and labels that the assembler told. */
 export function places_of(text, { lines, names }) {
@@ -40,23 +41,12 @@ export class PlacesInC {
 function functions_of(bytes) {
   const names = [];
   try {
-    const d = new DataView(bytes.buffer, bytes.byteOffset, bytes.byteLength);
-    const from = Number(d.getBigUint64(40, true)), size = d.getUint16(58, true), count = d.getUint16(60, true);
-    const section = (k) => {
-      const head = from + k * size, half = (place) => d.getUint32(head + place, true);
-      const number = (place) => Number(d.getBigUint64(head + place, true));
-      return { type: half(4), offset: number(24), bytes: number(32), link: half(40) };
-    };
-    for (let k = 0; k < count; k++) {
-      const table = section(k);
-      if (table.type !== 2) continue;
-      const texts = section(table.link);
-      for (let at = table.offset; at + 24 <= table.offset + table.bytes; at += 24) {
-        if ((d.getUint8(at + 4) & 15) !== 2) continue;
-        let end = texts.offset + d.getUint32(at, true);
-        const start = end;
-        while (bytes[end]) end++;
-        const name = new TextDecoder().decode(bytes.subarray(start, end));
+    const d = new DataView(bytes.buffer, bytes.byteOffset, bytes.byteLength), sections = sections_of(bytes);
+    for (const table of sections.filter((it) => it.type === SYMBOLS)) {
+      const texts = sections[table.link];
+      for (let at = table.offset; at + SYMBOL <= table.offset + table.bytes; at += SYMBOL) {
+        if ((d.getUint8(at + 4) & 15) !== FUNCTION) continue;
+        const name = text_at(bytes, texts.offset + d.getUint32(at, true));
         names.push({ name, address: d.getBigUint64(at + 8, true) });
       }
     }

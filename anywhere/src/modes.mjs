@@ -48,6 +48,7 @@ async function answered(words) {
     case "--dap": // it takes no words: the editor sends them
       return words.length > 1 ? tell(said("no-value", "--dap")) : (await import("../editor/main.mjs")).main("xv");
     case "--cc": case "--run": return (await import("./c_compiler.mjs")).compile_by(...words.map(String));
+    case "--check": return (await import("./marking/check.mjs")).check(...words.slice(1).map(String));
     default: return words;
   }
 }

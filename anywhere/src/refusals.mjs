@@ -8,7 +8,7 @@ import { module_of, path_of, run } from "./program.mjs";
 import { HeldFile } from "./wasi.mjs";
 import { KINDS, MODES, OPTIONS, option_of, options_of, rows_of, said, takes } from "./words.mjs";
 
-const MOST = rows_of("most"), MEANINGS = rows_of("mistake");
+const MOST = rows_of("most"), MEANINGS = rows_of("mistake"), PROCESSORS = rows_of("processor"), RISC_V = 243;
 const SOURCE = "dev/source.s";
 
 /** Why words are refused: texts, and the status. */
@@ -123,8 +123,22 @@ function copy_as_init(file, bytes) {
   return path_of(copy);
 }
 
+/**
+ * Tells for which other processor the ELF file of init is, if it is for one (ELF-64 Object File Format, "File header";
+ * RISC-V ELF psABI, "File Header": flag 1 stands for compressed instructions).
+ */
+function look_at_processor(file, say) {
+  if (!about(file)?.isFile()) return;
+  const bytes = bytes_of(file);
+  if (bytes.length < 64 || bytes.readUInt32BE(0) !== 0x7f454c46) return;
+  const kind = bytes.readUInt16LE(18), form = bytes[4] === 1 ? "/32" : bytes[48] % 2 ? "/c" : "";
+  const called = PROCESSORS.get(kind === RISC_V ? `${kind}${form}` : `${kind}`) ?? `the processor of e_machine ${kind}`;
+  if (kind !== RISC_V || form) say(said("other-processor", file, called).text);
+}
+
 /** The parts with an init among their FILEs: a single FILE is taken as init. */
 function with_init(parts, names, say) {
+  if (names.has("init")) look_at_processor(names.get("init"), say);
   if (names.size === 0 || names.has("init")) return parts;
   if (names.size > 1) refuse("no-init");
   const [[name, file]] = names, there = about(file);
@@ -133,6 +147,7 @@ function with_init(parts, names, say) {
   if (file.endsWith(".c")) refuse("in-c", file);
   const bytes = bytes_of(file);
   say(said(name === "sh" ? "shell-as-init" : "as-init", file, file).text);
+  look_at_processor(file, say);
   const copy = copy_as_init(file, bytes);
   return parts.map((part) => (part.kind === "file" ? { ...part, word: copy } : part));
 }

@@ -6,6 +6,7 @@ import { pathToFileURL } from "node:url";
 import { Client } from "./client.mjs";
 
 const WC = { path: "programs/c/src/wc.c" }, HELLO = { path: "programs/examples/hello/init.s" };
+const POINTS = { path: "checks/dap/points.c" };
 const LOOP = { path: "programs/examples/fork/init.s" };
 const room = mkdtempSync(join(tmpdir(), "dap-")); // for files that the conversations leave
 process.on("exit", () => rmSync(room, { recursive: true }));
@@ -235,7 +236,38 @@ async function playing() {
   await left(client);
 }
 
-const CONVERSATIONS = { refusals, pipeline, fault, stops, typed, looked, recorded, early, playing };
+/** What a pointer over a word tells in a call. */
+async function hovered(client, frameId, expression) {
+  const asked = client.ask("evaluate", { expression, frameId, context: "hover" });
+  await asked.then(({ result, type }) => say(`    ${expression}: ${type ? `(${type}) ` : ""}${result}`),
+    ({ message }) => say(`    ${expression}: refused:`, message.split(":")[0]));
+}
+
+/** Variables of C: each call's own, the program's, and parts of them. */
+async function of_c() {
+  const client = await begun({ program: POINTS.path.slice(0, -2), keys: "", stopOnEntry: false }, async (it) => {
+    await it.ask("setBreakpoints", { source: POINTS, breakpoints: [{ line: 20, hitCondition: "2" }] });
+  });
+  const pid = await stopped(client, "the loop", await client.event("stopped"));
+  const { stackFrames } = await client.ask("stackTrace", { threadId: pid });
+  for (const { id, name } of stackFrames.slice(0, 2)) {
+    const { scopes } = await client.ask("scopes", { frameId: id });
+    say(`  ${name}:`, scopes.map((it) => it.name).join(", "));
+    for (const { name: scope, variablesReference } of scopes.slice(0, 2)) {
+      const { variables: all } = await client.ask("variables", { variablesReference });
+      for (const it of all) say(`    ${scope}: ${it.type} ${it.name} = ${it.value}`);
+    }
+    for (const word of ["total", "shapes[1].corners[0].x", "shapes[0].name", "title", "all", "sp"]) {
+      await hovered(client, id, word);
+    }
+  }
+  await client.ask("setBreakpoints", { source: POINTS, breakpoints: [] });
+  await client.ask("continue", { threadId: pid });
+  say("ended with", (await client.event("exited")).exitCode);
+  await left(client);
+}
+
+const CONVERSATIONS = { refusals, pipeline, fault, stops, typed, looked, recorded, early, playing, of_c };
 for (const [name, plays] of Object.entries(CONVERSATIONS)) {
   say(`== ${name}`);
   await plays();

@@ -35,7 +35,8 @@ async function standing(client, pid) {
   const [at, end] = (await client.ask("evaluate", { expression: "at", context: "repl" })).result.match(/\d+/g).map(Number);
   const { stackFrames: [top] } = await client.ask("stackTrace", { threadId: pid });
   if (!top) return { at, end, pid, registers: null };
-  const { scopes: [{ variablesReference }] } = await client.ask("scopes", { frameId: top.id });
+  const { scopes } = await client.ask("scopes", { frameId: top.id });
+  const { variablesReference } = scopes.find((it) => it.name === "Registers");
   const { variables } = await client.ask("variables", { variablesReference });
   return { at, end, pid, registers: Object.fromEntries(variables.map((it) => [it.name, BigInt(it.value)])) };
 }

@@ -78,6 +78,13 @@ for n in $(seq 25); do echo "wrong$n a0"; done >worse.s
 printf 'nop\n\377' >odd.s
 head -c 1048577 /dev/zero >big
 head -c 1048577 /dev/zero | tr '\0' '#' >big.s
+# Heads of ELF files, by their class, the lower byte of e_machine and of e_flags, in octal digits.
+head_of() {
+    printf '\177ELF%b\001\001' "\\0$1" && head -c 9 /dev/zero && printf '\002\000%b\000' "\\0$2"
+    head -c 28 /dev/zero && printf %b "\\0$3" && head -c 15 /dev/zero
+}
+mkdir other && head_of 002 076 000 >other/init
+head_of 002 363 001 >rvc && head_of 001 363 000 >rv32 && head_of 002 363 000 >rv64 && head_of 002 010 000 >mips
 mkfifo pipe
 head -c 1048577 /dev/zero >pipe &
 writer=$!

@@ -4,22 +4,29 @@ import { $, app, ask, element, on, program_name, say, tell, write } from "./app.
 import { function_at, line_at, name_at } from "../../anywhere/machine/source_places.mjs";
 import { program_of, symbols_of } from "./instruction.mjs";
 import { stops_in, toggle_stop } from "./breaks.mjs";
+import { show_variables } from "./c_variables.mjs";
 
+const NO_FILE = "\0"; // no source has this name
+const NO_LINES = "No lines are known, and of outer calls no variables.";
 const shown = { file: "", program: null, rows: [], line: 0, coded: new Set(), chosen: null };
 let asked = 0, calls = { key: "", list: [] };
 
 const key_of = () => `${app.booted.id} ${app.view.edits} ${app.view.at} ${app.view.pid}`;
 
-/** The places in C of the process that is looked at; null if its program has none. */
+/** The places in C of the process that is looked at; null if of its program neither lines nor variables are known. */
 function places() {
   const symbols = app.view?.registers && symbols_of(app.view.pid);
-  return symbols?.table?.lines.length ? symbols : null;
+  if (!symbols?.table) return null;
+  return symbols.table.lines.length || app.booted.tables[program_of(app.view.pid)] ? symbols : null;
 }
 
 /** Steps by a line: over calls, into them, or out of the function. */
 export function step_line(how, back) {
   const symbols = places();
-  if (!symbols) { say("The process that is looked at runs no program whose lines in C are known"); return; }
+  if (!symbols?.table.lines.length) {
+    say("The process that is looked at runs no program whose lines in C are known");
+    return;
+  }
   ask("line_step", {
     how, back, pid: app.view.pid, lines: symbols.table.lines.map(({ address, line }) => ({ address, line })),
     frames: symbols.table.frames, within: function_at(symbols, app.view.registers[0]),
@@ -92,6 +99,14 @@ function show_line(number) {
   }
 }
 
+/** The place for a source of a program of which no line is known. */
+function show_no_file() {
+  if (shown.file === NO_FILE) return;
+  Object.assign(shown, { file: NO_FILE, rows: [], line: 0 });
+  const name = app.booted.files[program_of(app.view.pid)].from.name;
+  $("c-text").replaceChildren(element("p", { class: "dim" }, `${NO_LINES} Drop ${name}.lines beside ${name}.`));
+}
+
 // ---- the calls
 
 /** The calls that led to where the process stands: its own place first. */
@@ -124,11 +139,15 @@ function draw() {
   const at = call_shown(told), { name, line } = told[at] ?? told[0];
   write($("c-where"), line ? `${name ? `${name}, ` : ""}${line.file}:${line.line}` : name || "no line is known here");
   if (line) { show_file(symbols, line.file); show_line(line.line); }
+  else if (!symbols.table.lines.length) show_no_file();
   show_calls(told, at);
-  if (!view.playing && !view.ended && calls.key !== key_of() && asked !== key_of()) {
+  const { frames } = symbols.table, place = view.ended?.at ?? view.at;
+  if (!view.playing && calls.key !== key_of() && asked !== key_of()) {
     asked = key_of();
-    ask("calls", { key: asked, pid: view.pid, frames: symbols.table.frames });
+    ask("calls", { key: asked, pid: view.pid, place, frames });
   }
+  const { pc } = told[at] ?? told[0], within = function_at(symbols, pc), program = program_of(view.pid);
+  show_variables({ key: key_of(), name, place, frames, depth: at, within, program, is_told: calls.key === key_of() });
 }
 
 export function start() {

@@ -4,6 +4,7 @@
 import { $, app, ask, on, say, tell } from "./app.mjs";
 import { line_at, places_of } from "../../anywhere/machine/source_places.mjs";
 import { is_c, is_c_program, is_elf, is_source } from "../../anywhere/machine/file_kinds.mjs";
+import { TABLES } from "../../anywhere/machine/variables.mjs";
 import { check } from "./c_programs.mjs";
 import { coloured_c, lines_in_comments } from "./c_colours.mjs";
 import { mistake_words } from "../../anywhere/machine/assembler_mistakes.mjs";
@@ -272,11 +273,14 @@ function break_at_caret() {
 
 // ---- a file
 
+const words_of_tables = (name, bytes) => (
+  `${name}: ${bytes.length} bytes, the tables of the variables of ${name.slice(0, -TABLES.length)}.\n\n`
+    + "They are shown at the right, below its source, when it runs. This is no file of the machine."
+);
+
 const words_of_bytes = ({ name, bytes }) => (
-  is_elf(
-    bytes
-  )
-    ? `${name}: a program file of ${bytes.length} bytes, built from C.\n\nIts source is shown at the right when it runs, if ${name}.lines is known (the page has it of its own programs), and its functions and instructions.`
+  name.endsWith(TABLES) ? words_of_tables(name, bytes)
+    : is_elf(bytes) ? `${name}: a program file of ${bytes.length} bytes, built from C.\n\nIts source is shown at the right when it runs, if ${name}.lines is known (the page has it of its own programs), and its functions and instructions.`
     : `${name}: a file of ${bytes.length} bytes, which are no text.\n\nPrograms open it and read its bytes.`
 );
 

@@ -15,6 +15,7 @@ import * as breaks from "./breaks.mjs";
 import * as processes from "./processes.mjs";
 import * as instruction from "./instruction.mjs";
 import * as c_source from "./c_source.mjs";
+import * as c_variables from "./c_variables.mjs";
 import * as c_programs from "./c_programs.mjs";
 import * as pages from "./pages.mjs";
 import * as descriptors from "./descriptors.mjs";
@@ -111,6 +112,7 @@ function heard({ data }) {
   else if (data.last_told) tell("last told", data.last_told);
   else if (data.explained) tell("explained", data.explained);
   else if (data.calls_told) tell("calls told", data.calls_told);
+  else if (data.variables_told) tell("variables told", data.variables_told);
   else if (data.sought) tell("sought", data.sought);
   else if (data.reached) tell("reached", data.reached);
   else if (data.record) app.on_record?.(data.record);
@@ -217,8 +219,8 @@ async function first_machine() {
 }
 
 const PARTS = {
-  messages, terminal, editor, works, time, breaks, processes, instruction, c_source, c_programs, pages, descriptors, why, programs,
-  sharing, lessons, session, happened, missing_stretches, translate, manual, slides, first_minute,
+  messages, terminal, editor, works, time, breaks, processes, instruction, c_source, c_variables, c_programs, pages, descriptors, why,
+  programs, sharing, lessons, session, happened, missing_stretches, translate, manual, slides, first_minute,
   your_runs, frame, pictures, beside,
 };
 

@@ -7,6 +7,7 @@ import { shipped_source, shipped_table } from "./shipped_sources.mjs";
 import { is_c, is_c_program, is_elf, is_source } from "../../anywhere/machine/file_kinds.mjs";
 import { c_texts, is_compiled, program_of } from "./c_programs.mjs";
 import { MOST_BYTES, boot_words, files_refused, too_large } from "../../anywhere/machine/file_refusals.mjs";
+import { TABLES, has_tables } from "../../anywhere/machine/variables.mjs";
 import {
   add, bring_back, bytes_of_file, example_of, forget_work, is_changed, own_names, put_away, put_beside, ship_anew,
   title_of, touch, work_of,
@@ -266,10 +267,24 @@ const of_bytes = (name, bytes, from) => {
   const made = file_of_bytes(name, bytes, () => table_of(from), (file) => text_named(file) || shipped_source(file));
   return { ...made, from, text: from.text };
 };
-/** What belongs to a program and is no file of the machine: the table of its lines, and sources in C without a main. */
+/**
+ * What belongs to a program and is no file of the machine: the tables of its lines and of its variables, and sources in
+ * C without a main.
+ */
 const stands_beside = (file) => (
-  (file.name.endsWith(".lines") && is_table(file.text)) || (is_c(file) && !is_c_program(file))
+  (file.name.endsWith(".lines") && is_table(file.text)) || file.name.endsWith(TABLES)
+    || (is_c(file) && !is_c_program(file))
 );
+
+const all_bytes_of = (file) => (file.text === undefined ? bytes_of_file(file) : new TextEncoder().encode(file.text));
+
+/** The tables of the variables of a program: those that stand beside it, or its own; null if there are none. */
+function variables_of({ from, bytes, is_compiled: is_own }) {
+  const name = is_own ? from.name.slice(0, -2) : from.name;
+  const beside = app.files.find((it) => it.name === name + TABLES);
+  if (beside) return all_bytes_of(beside);
+  return has_tables(bytes) ? bytes : null;
+}
 
 /**
  * The file of the machine that a file of the list is: {name, bytes, from, text, symbols}. `mistake`: what is wrong with
@@ -278,7 +293,7 @@ const stands_beside = (file) => (
 export async function made_of(file, list = app.files) {
   if (is_compiled(file, list)) return program_of(file, list);
   if (file.text === undefined) return of_bytes(file.name, bytes_of_file(file), file);
-  if (!is_source(file)) return of_bytes(file.name, new TextEncoder().encode(file.text), file);
+  if (!is_source(file)) return of_bytes(file.name, all_bytes_of(file), file);
   const { text } = file, made = await assembled(text);
   return { ...file_of_source(file.name, text, made), from: file, text };
 }
@@ -315,10 +330,12 @@ export function refuse(words) {
 export function begin(what, { files, config, how, ...more }) {
   const id = ++boots;
   const keys = more.keys ?? [], sent = { keys: [...keys], given: keys.length };
-  const booted = { files, config, how, work: app.work.name, symbols: files.map((it) => it.symbols), sent };
+  const tables = files.map(variables_of), symbols = files.map((it) => it.symbols);
+  const booted = { files, config, how, work: app.work.name, symbols, tables, sent };
   bootings.set(id, booted);
   ask(what, {
-    id, config, how, files: files.map(({ name, bytes }) => ({ name, bytes })), breaks: counting(booted), ...more,
+    id, config, how, files: files.map(({ name, bytes }) => ({ name, bytes })), tables, breaks: counting(booted),
+    ...more,
   });
   return id;
 }

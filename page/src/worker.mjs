@@ -15,6 +15,7 @@ import { Reach } from "../../anywhere/machine/named_place.mjs";
 import { Run } from "../../anywhere/machine/run.mjs";
 import { seek } from "../../anywhere/machine/backward_search.mjs";
 import { told_event } from "../../anywhere/machine/event_words.mjs";
+import { VariablesOfRun, at_place } from "../../anywhere/machine/variable_stops.mjs";
 
 const SLICE = 14; // ms of play between two looks at the messages: less than a frame of the page
 const WHOLE = 90; // ms between two views with the processes and what the panels show, while the machine plays
@@ -37,6 +38,7 @@ let wanted = {
 };
 let next_whole = 0;
 let stopped = "";
+let variables = null; // of the programs in C of the machine
 let counts = new InstructionCounts();
 const ended = new Map(); // processes as they ended: what was told of them last, by what was asked
 let trap = { key: "", told: null }; // the last trap of the process that is looked at
@@ -281,6 +283,9 @@ function begin_play() {
 
 // ---- questions about the run
 
+/** Whether it may be looked at how the machine stands at a place. */
+const can_look = (place) => !playing && run?.booted && place <= run.end;
+
 /** Tells of events what the record doesn't have, of as many as there is time for: the page asks again. */
 function tell_events({ id, key, places }) {
   if (playing || !run?.booted) return;
@@ -330,7 +335,7 @@ const with_conditions = (list) => (
 );
 
 /** Boots a machine, and tells the page; false if it is refused. */
-function boot({ id, how = {}, breaks = [], ...asked }) {
+function boot({ id, how = {}, breaks = [], tables = [], ...asked }) {
   const before = performance.now(), order = { ...settings, ...how };
   const refusal = player.boot({ ...asked, how: order, breaks: with_conditions(breaks) });
   if (refusal !== null) {
@@ -339,6 +344,7 @@ function boot({ id, how = {}, breaks = [], ...asked }) {
     return false;
   }
   ended.clear();
+  variables = new VariablesOfRun(run, tables);
   counts = new InstructionCounts();
   Object.assign(wanted, { edits: -1, pid: 1 });
   settings = order;
@@ -411,9 +417,14 @@ const obey = {
     const text = (fault ? fault_in_words : kill_in_words)(run, it, { program: it.told.program, known });
     postMessage({ explained: { at, edits: run.edits, text } });
   },
-  /** Tells the calls that led to where a process stands. */
-  calls({ key, pid, frames: rows }) {
-    postMessage({ calls_told: { key, list: playing || !run?.booted ? [] : calls_of(machine, pid, rows) } });
+  /** Tells the calls that led to where a process stands at a place. */
+  calls({ key, pid, place, frames: rows }) {
+    const tell = () => at_place(run, place, () => calls_of(machine, pid, rows));
+    postMessage({ calls_told: { key, list: can_look(place) ? tell() : [] } });
+  },
+  /** Tells the variables of a call of a process. */
+  variables({ key, ...asked }) {
+    postMessage({ variables_told: { key, ...(can_look(asked.place) ? variables.since(asked) : { is_left: true }) } });
   },
   /** Steps by a line of a program's source: over calls, into them, or out of the function; back too. */
   line_step(wants) { stand(); stopped = line_step(run, player.plan, wants); view(); },
@@ -481,7 +492,7 @@ function safely(action) {
 // What a search goes on beside.
 const ASIDE = new Set([
   "look", "assemble", "breaks", "tell_events", "round", "last_of", "stretches", "explain", "calls", "record",
-  "settings",
+  "settings", "variables",
 ]);
 
 onmessage = ({ data }) => {

@@ -145,5 +145,14 @@ machine.memory().fill(0, machine.room_at, machine.room_at + 4);
 is(machine.calls.xv_page_call(0n, machine.told, machine.room, 3n) & 255, 0, "a call");
 is(machine.memory()[machine.room_at], 0, "its name in a room of 3 bytes");
 
+// Why a call is refused: of process 1, which has just booted; of any other there is no reason.
+const reason = (number, ...words) => machine.reason_text(1, { number, words });
+for (const [words, told] of [[[21, 7n, 0n, 0n], "descriptor 7 isn't open"], [[15, 0n, 9n, 0n], "nothing has this name"],
+  [[12, BigInt.asUintN(64, -1n << 40n), 0n, 0n], null], [[12, BigInt.asUintN(64, -(1n << 30n)), 0n, 0n], "its memory can't have such a size"],
+  [[6, 99n, 0n, 0n], "no process has the pid 99"], [[-5, 0n, 0n, 0n], "no call has this number"], [[11, 0n, 0n, 0n], null],
+]) is(reason(...words), told, `the reason of call ${words}`);
+is(machine.reason_text(2, { number: 21, words: [7n, 0n, 0n] }), null, "a reason of no process");
+is(thrown(() => none.reason_text(1, { number: 21, words: [7n, 0n, 0n] })), MISSING, "a reason of no machine");
+
 console.log(bad ? `${bad} answers to bad input are not as they should be` : "bad input is told by name, and changes nothing");
 process.exit(bad ? 1 : 0);

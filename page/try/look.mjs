@@ -1,6 +1,6 @@
 // look.mjs PAGE.html FOLDER [NAME..]: tries the page in Chromium as a student would, and takes pictures of each panel
 // into FOLDER. It ends with the status 1 where something isn't as it should be. With names only these parts are tried.
-import { mkdirSync } from "node:fs";
+import { mkdirSync, readFileSync } from "node:fs";
 import { pathToFileURL } from "node:url";
 import { full, sieve } from "./exercises.mjs";
 import { crowd, instructions, steps_back } from "./measures.mjs";
@@ -232,7 +232,83 @@ async function exercises(page) {
   await sieve(page, holds, folder);
 }
 
-const PARTS = { session: async (page) => { await session(page); await panels(page, "shell"); await time(page); }, programs: async (page) => { await programs(page); await keys(page); }, signs: (page) => signs(page, "light"), lessons, exercises, share, speed };
+// ---- variables of C
+
+const POINTS = new URL("../../checks/dap/", import.meta.url); // a small program in C, and its tables
+
+/** Boots the program of points.c with these files beside it, each {name, bytes}, and goes to its main. */
+async function points(page, beside) {
+  const program = ["points", "points.lines", "points.c"].map((name) => ({ name, bytes: readFileSync(new URL(name, POINTS)) }));
+  const files = [...program, ...beside].map(({ name, bytes }) => ({ name, letters: Buffer.from(bytes).toString("base64") }));
+  await page.eval("page.programs.set_files([], { rounds: true }, 'points')");
+  await page.eval(`page.programs.take(${JSON.stringify(files)}.map(({ name, letters }) => new File([Uint8Array.from(atob(letters), (it) => it.charCodeAt(0))], name)))`);
+  await page.eval("page.programs.boot({ play: false }); show_tab('instruction')");
+  await page.until("page.app.booted.files[0].from.name === 'points' && page.app.view?.at === 0");
+  await into(page, "main, points.c:27");
+}
+
+const element_text = (page, id) => page.eval(`document.getElementById(${JSON.stringify(id)}).textContent`);
+
+/** Goes on by lines, into functions too, up to a place. */
+async function into(page, where) {
+  for (let k = 0; k < 30 && (await element_text(page, "c-where")) !== where; k++) {
+    const before = await at(page);
+    await page.click('[data-line-step="into"]:not([data-way])');
+    await page.until(`page.app.view?.at !== ${before} && !page.app.view.playing`);
+    await page.sleep(300);
+  }
+  await page.until("document.getElementById('c-locals').getAttribute('aria-busy') !== 'true'");
+}
+
+/** The rows of a table of variables: name, type and value, with a sign before a name that has changed. */
+const variables_in = (page, id) => page.eval(`[...document.querySelectorAll('#${id} tbody tr')].map((row) => [...row.children].slice(0, 3).map((it) => it.textContent.replace("changed since the last stop", "").replace(/[▸▾]/, "")).join(" | "))`);
+
+async function open_globals(page) {
+  await page.eval("document.querySelector('#c-globals').open || document.querySelector('#c-globals summary').click()");
+  await page.until("document.querySelector('#c-globals-told .opens[aria-expanded]')");
+}
+
+async function variables_of_c(page) {
+  await points(page, [{ name: "points.debug", bytes: readFileSync(new URL("points.debug", POINTS)) }]);
+  holds(await page.eval("page.app.booted.files.length === 2"), "tables of variables are no file of the machine");
+  await into(page, "weight, points.c:20");
+  const told = await variables_in(page, "c-locals");
+  holds(told.includes("✱part | long int | -1") && told.includes("letter | char | 97 'a'"), `arguments and locals, and which has changed: ${told.join("; ")}`);
+  await page.eval("document.querySelector('#c-locals .to-memory').click()");
+  await page.until("document.getElementById('memory').textContent.startsWith('0x1000')");
+  holds(await page.eval("document.getElementById('address').value === '0x1000'"), "a pointer leads to its memory");
+  await open_globals(page);
+  await page.eval("document.querySelector('#c-globals-told .opens[aria-expanded]').focus()");
+  await page.key("Enter");
+  holds((await variables_in(page, "c-globals-told")).length === 3, "an array opens by a key");
+  holds(await page.eval("document.activeElement.getAttribute('aria-label') === 'Parts of shapes' && document.activeElement.getAttribute('aria-expanded') === 'true'"), "and the keys stay there");
+  await page.picture(`${folder}/variables.png`, { full: true });
+  await page.eval("document.querySelectorAll('#c-calls button')[1].click()");
+  await page.until("document.querySelector('#c-locals caption')?.textContent.endsWith(' main')");
+  holds((await variables_in(page, "c-locals")).includes("all | int | 0"), "the variables of a call that is chosen");
+  const before = await at(page);
+  await page.eval("document.querySelector('#c-locals .stored').click()");
+  await page.until(`page.app.view?.at < ${before}`);
+  holds((await element_text(page, "c-where")).startsWith("main, points.c:2"), "who stored last in a variable");
+}
+
+/** Tables that aren't there, are damaged, or of another program. */
+async function no_variables(page) {
+  const bytes = readFileSync(new URL("points.debug", POINTS)), other = Uint8Array.from(bytes);
+  await points(page, []);
+  holds((await element_text(page, "c-variables-none")).includes("there is no points.debug"), "without tables it says which file has them");
+  for (const [name, tables] of [["cut off", bytes.subarray(0, 3000)], ["empty", bytes.subarray(0, 0)], ["a text", Buffer.from("none\n")]]) {
+    await points(page, [{ name: "points.debug", bytes: tables }]);
+    await page.until("document.getElementById('c-locals').textContent.includes('there is no .debug_info in them')").catch(() => {});
+    holds((await element_text(page, "c-locals")).includes("there is no .debug_info in them"), `tables that are ${name} are refused in words`);
+  }
+  other[64 + 40] ^= 1; // the size of its first part that is loaded
+  await points(page, [{ name: "points.debug", bytes: other }]);
+  await page.until("document.getElementById('c-locals').textContent.includes('another program')").catch(() => {});
+  holds((await element_text(page, "c-locals")).includes("they are of another program"), "tables of another program are refused in words");
+}
+
+const PARTS = { session: async (page) => { await session(page); await panels(page, "shell"); await time(page); }, programs: async (page) => { await programs(page); await keys(page); }, signs: (page) => signs(page, "light"), lessons, exercises, share, variables: async (page) => { await variables_of_c(page); await no_variables(page); }, speed };
 const is_wanted = (name) => !names.length || names.includes(name);
 const page = await open(url, { width: 1400, height: 950 });
 try {

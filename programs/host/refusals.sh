@@ -7,7 +7,7 @@
 #                             is the single FILE that is to be taken as init, or nothing
 #
 # What it knows nothing of, as the numbers of options, it leaves to the programs.
-# shellcheck shell=sh disable=SC2034,SC2154
+# shellcheck shell=sh disable=SC2034,SC2046,SC2154
 
 # Kinds in words: `a run in rounds, --why and --gdb`.
 in_words() {
@@ -111,10 +111,25 @@ is_short() {
     [ "$(wc -c <"$1")" -le "$row" ]
 }
 
+# Tells for which other processor the ELF file $1 is, if it is for one (ELF-64 Object File Format, "File header";
+# RISC-V ELF psABI, "File Header": flag 1 stands for compressed instructions).
+look_at_processor() {
+    [ -f "$1" ] && [ -r "$1" ] || return 0
+    set -- "$1" $(od -An -v -tu1 -N 64 <"$1")
+    [ "${2-} ${3-} ${4-} ${5-} $#" = '127 69 76 70 65' ] || return 0
+    processor=$((${20} + 256 * ${21}))
+    case $processor/$6/$((${50} % 2)) in 243/1/*) processor=243/32 ;; 243/2/1) processor=243/c ;; 243/*) return ;; esac
+    row processor "$processor" || row="the processor of e_machine $processor"
+    tell other-processor "$1" "$row"
+}
+
 # Looks whether there is an init among the FILES, of which $file is the last.
 look_for_init() {
     alone=
-    case $names in */init/* | /) return ;; esac
+    case $names in
+        /) return ;;
+        */init/*) look_at_processor "$(first_of_name init)"; return ;;
+    esac
     [ "$files" = 1 ] || refuse no-init
     [ -f "$file" ] || [ -p "$file" ] || refuse not-plain "$file"
     [ -r "$file" ] || refuse unread "$file" 'cannot be read'
@@ -125,6 +140,7 @@ look_for_init() {
         /sh/) tell shell-as-init "$file" ;;
         *) tell as-init "$file" "$file" ;;
     esac
+    look_at_processor "$file"
 }
 
 find_help() {

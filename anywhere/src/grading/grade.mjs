@@ -10,9 +10,9 @@ import { has_result, named, stage } from "./stage.mjs";
 import { Refusal, read_words } from "./words.mjs";
 import { own_words } from "../words.mjs";
 
-/** The text at the head of anywhere/grade.mjs. */
-function help() {
-  const lines = readFileSync(new URL("../../grade.mjs", import.meta.url), "utf8").split("\n").slice(1);
+/** The text at the head of a program's file. */
+export function head_of(file) {
+  const lines = readFileSync(file, "utf8").split("\n").slice(1);
   const head = lines.slice(0, lines.findIndex((line) => !line.startsWith("//")));
   return head.map((line) => `${line.replace(/^\/\/ ?/, "")}\n`).join("");
 }
@@ -72,7 +72,7 @@ async function grade(options) {
 export async function main(name) {
   try {
     const options = read_words(own_words());
-    if (options.help) show(Buffer.from(help()));
+    if (options.help) show(Buffer.from(head_of(new URL("../../grade.mjs", import.meta.url))));
     else await grade(options);
     return 0;
   } catch (error) {

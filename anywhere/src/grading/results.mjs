@@ -21,7 +21,7 @@ function write_whole(work, name, parts) {
 }
 
 /** A name as text of UTF-8: in one that isn't, what isn't ASCII is shown as \\xff. */
-function shown(bytes) {
+export function shown(bytes) {
   if (isUtf8(bytes)) return bytes.toString();
   return [...bytes].map(
     (byte) => (byte < 0x80 ? String.fromCharCode(byte) : `\\x${byte.toString(16).padStart(2, "0")}`)
@@ -32,7 +32,7 @@ function shown(bytes) {
 const field = (text) => (/[,"\n\r]/.test(text) ? `"${text.replaceAll('"', '""')}"` : text);
 
 /** The first line of what a job without a result says. */
-function failure_of(job) {
+export function failure_of(job) {
   try {
     const bytes = readFileSync(inside(job, "failed"));
     const end = bytes.indexOf(10);

@@ -48,7 +48,7 @@ function bytes_of(fd) {
  *
  * @returns its bytes, or null if it is no plain file any more
  */
-function plain_bytes(path) {
+export function plain_bytes(path) {
   let fd = -1;
   try {
     fd = openSync(path, constants.O_RDONLY | (constants.O_NOFOLLOW ?? 0) | (constants.O_NONBLOCK ?? 0));

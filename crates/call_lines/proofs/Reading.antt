@@ -6,7 +6,7 @@ use Rattle.std.proofs.lemmas.Result.{on_ok_weaker}
 use Rattle.kernel_spec.specs.views.State.{State}
 use Rattle.kernel_calls.specs.Table.{call_at}
 use Rattle.kernel_calls.specs.declared.call.KernelCall.{KernelCall}
-use Rattle.call_lines.specs.declared.asked.Asked.{Asked}
+use Rattle.call_reasons.specs.declared.asked.Asked.{Asked}
 use Rattle.kernel_calls.specs.Arguments.{kind_of}
 use Rattle.kernel_calls.specs.declared.argument.Argument.{Argument}
 use Rattle.kernel_calls.specs.declared.argument.ArgumentKind.{ArgumentKind}

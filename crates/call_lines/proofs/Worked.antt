@@ -9,13 +9,14 @@ use Rattle.xk_base.specs.Access.{data_rights}
 use Rattle.xk_base.specs.declared.access.Rights.{Rights}
 use Rattle.kernel_calls.specs.Table.{call_at}
 use Rattle.kernel_spec.specs.views.State.{State}
+use Rattle.call_reasons.specs.Asked.{call_asked}
 use Rattle.call_reasons.specs.Shown.{reason_in}
+use Rattle.call_reasons.specs.declared.asked.Asked.{Asked}
 use Rattle.call_reasons.specs.declared.reason.Reason.{Reason}
 use Rattle.call_reasons.specs.declared.reason.Reason.TheVariants.{NotOpen}
 use Rattle.call_reasons.proofs.ByCall.{none_of_other}
-use Rattle.call_lines.specs.Line.{answer_shown, call_asked, call_shown, reason_text, whole_or_place}
+use Rattle.call_lines.specs.Line.{answer_shown, call_shown, reason_text, whole_or_place}
 use Rattle.call_lines.specs.Memory.{read_of}
-use Rattle.call_lines.specs.declared.asked.Asked.{Asked}
 use Rattle.call_lines.specs.Strings.{c_string, ending, escaped}
 
 -- ---- strings

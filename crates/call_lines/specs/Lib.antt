@@ -1,4 +1,3 @@
-pub mod Asked
 pub mod Line
 pub mod Memory
 pub mod Strings

@@ -13,13 +13,13 @@ use Rattle.kernel_calls.specs.declared.call.KernelCall.{KernelCall}
 use Rattle.kernel_calls.specs.declared.call.KernelCall.TheVariants.{Read, Write, Sbrk, Sbrklazy, Wait}
 use Rattle.kernel_spec.specs.views.State.{State}
 use Rattle.kernel_spec.specs.views.Words.{c_int}
-use Rattle.proc_table.specs.declared.process.Call.{Call}
+use Rattle.call_reasons.specs.Asked.{call_asked}
 use Rattle.call_reasons.specs.Shown.{reason_in}
 use Rattle.call_reasons.specs.Words.{reason_words}
+use Rattle.call_reasons.specs.declared.asked.Asked.{Asked}
 use Rattle.call_reasons.specs.declared.reason.Reason.{Reason}
 use Rattle.call_lines.specs.Memory.{address_at, bytes_from, int_at, read_at, text_from}
 use Rattle.call_lines.specs.Strings.{c_string}
-use Rattle.call_lines.specs.declared.asked.Asked.{Asked}
 use Rattle.call_lines.specs.declared.line.TheConstants.{TEXTS_MOST}
 use Rattle.call_lines.specs.declared.strings.TheConstants.{SHOWN_MOST}
 
@@ -171,10 +171,6 @@ stores_status asked _ _ = false
 -- that status
 abbrev pub stored_shown : State → (p : ℕ) → Asked → Option KernelCall → ℤ → List ℕ
 stored_shown s p asked call value = if stores_status asked call value then codes ", its status " ++ int_shown (int_at s p asked.a0) else []
-
--- the call as the kernel notes it at its first step, before it has moved bytes
-abbrev pub call_asked : Asked → Call
-call_asked asked = record { number = asked.number; a0 = asked.a0; a1 = asked.a1; a2 = asked.a2; moved = 0; clock = 0 }
 
 -- a reason, in brackets
 abbrev pub reason_text : Option Reason → List ℕ

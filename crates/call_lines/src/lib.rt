@@ -5,11 +5,10 @@
 //! in `specs/Line.antt`.
 #![tactic(auto)]
 
-mod asked;
 mod line;
 mod memory;
 mod strings;
 
-pub use asked::{Asked, asked_of};
+pub use call_reasons::{Asked, asked_of};
 pub use line::{TEXTS_MOST, show_answer, show_call};
 pub use strings::{CString, SHOWN_MOST};

@@ -8,15 +8,14 @@ ghost use Rattle.call_lines.specs.Line as meant;
 ghost use Rattle.call_lines.specs.Memory.{text_from};
 ghost use Rattle.call_lines.specs.Strings.{c_string};
 
-use crate::asked::{Asked, c_int};
 use crate::memory::{address_at, bytes_from, int_at, read_at, text_from};
 use crate::strings::{CString, SHOWN_MOST};
-use call_reasons::{Reason, reason_told};
+use call_reasons::{Asked, Reason, c_int, reason_of};
 use debug_words::texts::Hexadecimal;
 use kernel_calls::{Argument, ArgumentKind, KernelCall};
 use std::alloc::{AllocError, Global};
 use xk_base::Pid;
-use xv_machine::{Call, Machine};
+use xv_machine::Machine;
 
 /// The most texts of an array that are shown: exec takes no more.
 pub const TEXTS_MOST: u32 = 31;
@@ -463,20 +462,6 @@ fn show_stored(
     }
 }
 
-// The call, before it has moved bytes.
-fn as_call(asked: &Asked) -> Call
-    ensures { result ≡ meant.call_asked asked.now }
-{
-    Call {
-        number: asked.number,
-        a0: asked.a0,
-        a1: asked.a1,
-        a2: asked.a2,
-        moved: 0,
-        clock: 0,
-    }
-}
-
 // Writes a reason, if there is one.
 fn show_reason_text(reason: Option<Reason>, answer: &mut String) -> Result<(), AllocError>
     ensures { OnOk result (Appends answer.old answer.new (meant.reason_text reason)) }
@@ -498,7 +483,7 @@ fn show_reason(
     ensures { OnOk result
         (Appends answer.old answer.new (meant.reason_shown machine.now.world.state pid asked.now value)) }
 {
-    show_reason_text(reason_told(machine, pid, &as_call(asked), value), answer)
+    show_reason_text(reason_of(machine, pid, asked, value), answer)
 }
 
 /// Writes what a call has answered, with the memory that a machine has after it, and why it was refused if it was

@@ -5,8 +5,8 @@ ghost use Rattle.sv39_core.specs.Sv39.{permits};
 ghost use Rattle.call_lines.specs.Memory.{address_at, address_of, bytes_from, int_at, int_of, is_below, read_at};
 ghost use Rattle.call_lines.specs.Memory.{text_from};
 
-use crate::asked::c_int;
 use byteorder::{ByteOrder, LittleEndian};
+use call_reasons::c_int;
 use std::alloc::{AllocError, Global};
 use xk_base::limits::ADDRESS_END;
 use xk_base::{Perm, Pid, Vpn};

@@ -1,6 +1,6 @@
 -- What is told of a call, by the call and by the process.
-use Rattle.std.proofs.Common.{◌≡◌, ◌≢◌, ℕ, Bool, true, false, cond, Option, Some, None, refl, sym, ap, ◌∙◌}
-use Rattle.std.specs.Prelude.{ℤ, pos, negsuc, is_none, option_map}
+use Rattle.std.proofs.Common.{◌≡◌, ℕ, true, false, cond, Option, Some, None, refl, sym, ap, ◌∙◌}
+use Rattle.std.specs.Prelude.{ℤ, is_none, option_map}
 use Rattle.std.specs.Option.{option_and_then}
 use Rattle.std.specs.Ordering.{int_eq}
 use Rattle.proc_table.specs.declared.process.Call.{Call}
@@ -11,7 +11,7 @@ use Rattle.kernel_calls.proofs.Found.{same_numbers}
 use Rattle.kernel_spec.specs.rows.Calls.{row_of}
 use Rattle.kernel_spec.specs.views.Processes.{Live}
 use Rattle.kernel_spec.specs.views.State.{State, live}
-use Rattle.kernel_spec.specs.views.View.{View, view, view_of}
+use Rattle.kernel_spec.specs.views.View.{View, view}
 use Rattle.kernel_spec.specs.views.Words.{minus_one}
 use Rattle.kcall_core.specs.Observers.{size_of}
 use Rattle.call_reasons.specs.Facts.{Facts, facts_of}

@@ -1,5 +1,5 @@
 -- Each row is refused exactly if one of its tests holds.
-use Rattle.std.proofs.Common.{◌≡◌, ◌≢◌, ℕ, zero, suc, ◌+◌, ◌<◌, ◌≤◌, ◌&&◌, ◌||◌, ◌++◌, not, Bool, cond, true, false, List, [], ◌∷◌, Option, Some, None, refl, sym, ap, ◌∙◌, subst, arith, ne_eqb}
+use Rattle.std.proofs.Common.{◌≡◌, ◌≢◌, ℕ, ◌+◌, ◌&&◌, ◌||◌, ◌++◌, not, Bool, cond, true, false, List, [], ◌∷◌, Option, Some, None, refl, sym, ap, ◌∙◌, arith, ne_eqb}
 use Rattle.std.specs.Prelude.{ℤ, pos, negsuc, IsSome, nat_lt, nat_le, is_none, is_some, bytes_eq, option_map, ◌==◌}
 use Rattle.std.specs.Ordering.{int_eq}
 use Rattle.std.specs.List.{list_any, position_from}
@@ -17,15 +17,15 @@ use Rattle.proc_table.specs.declared.process.Call.{Call}
 use Rattle.kernel_spec.specs.rows.Buffers as buffers
 use Rattle.kernel_spec.specs.rows.Buffers.{no_slashes, readable, writable, reaches_touching}
 use Rattle.kernel_spec.specs.rows.Calls.{Row, Fork, Exit, Wait, Pipe_row, Read, Kill, Exec, Dup, Getpid, Sbrk, Sleep, Uptime, Open, Write, Close, Sbrklazy}
-use Rattle.kernel_spec.specs.rows.Calls.{fork, exit, wait, make_pipe, read, kill, exec, dup, getpid, sbrk, sleep, uptime, open_file, write, close, sbrklazy}
-use Rattle.kernel_spec.specs.rows.Calls.{answered, done, done_at, has_child, has_mode, least_zombie, perform, refused, row, row_of, waits}
+use Rattle.kernel_spec.specs.rows.Calls.{fork, exit, wait, make_pipe, read, kill, exec, dup, sbrk, sleep, open_file, write, close, sbrklazy}
+use Rattle.kernel_spec.specs.rows.Calls.{answered, done, has_child, has_mode, least_zombie, perform, refused, row, row_of, waits}
 use Rattle.kernel_spec.specs.rows.Lines.{◌>>=◌, ◌>>◌, ◌when◌, ◌or◌, natural, result_of}
 use Rattle.kernel_spec.specs.rows.Tables.{lowest_free, lowest_free_above}
 use Rattle.kernel_spec.specs.rows.Touches.{touch}
 use Rattle.kernel_spec.specs.steps.Own.{Own, Blocked, Called}
 use Rattle.kernel_spec.specs.views.Programs.{place_of, program_named}
 use Rattle.kernel_spec.specs.views.State.{ProgramFile}
-use Rattle.kernel_spec.specs.views.View.{View, Descriptor, Descriptors, Shown, Shown_terminal, Shown_file, Shown_pipe, in_use}
+use Rattle.kernel_spec.specs.views.View.{View, Descriptor, Shown, Shown_terminal, Shown_file, Shown_pipe, in_use}
 use Rattle.kernel_spec.specs.views.Words.{c_int, minus_one}
 use Rattle.call_reasons.specs.Facts.{Facts, can_reach, facts_of, is_file, is_unread, names_process, opened_of}
 use Rattle.call_reasons.specs.Reasons.{at_least_zero, costs_too_much, first, has_no_frame, has_no_reader, is_bad_size, is_below_zero, is_on_file, is_short, cannot_hold, cannot_load}
@@ -33,7 +33,7 @@ use Rattle.call_reasons.specs.Reasons.{may_be_read, may_be_written, opens_in, re
 use Rattle.call_reasons.specs.Laws.{Answers, EndsLow, OthersHaveNone, ReasonsRefuse, RefusalsHaveReasons, ToldAfterwards, ToldIsReason}
 use Rattle.call_reasons.specs.declared.opened.Opened.{Opened}
 use Rattle.call_reasons.specs.declared.reason.Reason.{Reason}
-use Rattle.call_reasons.specs.declared.reason.Reason.TheVariants.{NoCall, NotOpen, NotForReading, NotForWriting, BelowZero, NotReadable, NotWritable, NoReader, NoChild, NoProcess, NoDescriptor}
+use Rattle.call_reasons.specs.declared.reason.Reason.TheVariants.{NotOpen, NotForReading, NotForWriting, BelowZero, NotReadable, NotWritable, NoReader, NoProcess, NoDescriptor}
 use Rattle.call_reasons.specs.declared.reason.Reason.TheVariants.{BadSize, NoFrames, NoRoom, NoPath, NoList, NotNamed, NoProgram, NotInMode, NotLoaded}
 use Rattle.call_reasons.specs.Texts.{has_texts, is_console, is_named, name_in, text_at}
 use Rattle.call_reasons.proofs.Reach.{is_reached, not_reached}

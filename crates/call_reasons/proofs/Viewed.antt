@@ -1,9 +1,9 @@
 -- The facts that a machine shows of a live process are those of its view.
-use Rattle.std.proofs.Common.{◌≡◌, ℕ, zero, suc, ◌+◌, ◌/◌, ◌%◌, ◌<◌, ◌≤◌, ◌&&◌, ◌||◌, not, Bool, cond, true, false, List, [], ◌∷◌, Option, Some, None, refl, sym, ap, ◌∙◌}
-use Rattle.std.proofs.Common.{subst, arith, lt-ltb, le-ltb, inl, inr}
+use Rattle.std.proofs.Common.{◌≡◌, ℕ, ◌/◌, ◌%◌, ◌<◌, ◌≤◌, ◌&&◌, not, Bool, cond, false, List, Option, Some, None, refl, sym, ap, ◌∙◌}
+use Rattle.std.proofs.Common.{lt-ltb, le-ltb, inl, inr}
 use Rattle.std.proofs.Math.Path.{fun_ext}
 use Rattle.std.proofs.lemmas.Bool.{cases_lt}
-use Rattle.std.specs.Prelude.{ℤ, pos, negsuc, IsSome, is_none, is_some, option_map, ◌==◌, nat_lt, nat_eq, slice_index}
+use Rattle.std.specs.Prelude.{ℤ, pos, negsuc, is_none, is_some, option_map, ◌==◌, slice_index}
 use Rattle.std.specs.List.{list_any}
 use Rattle.std.specs.FinMap.{get, keys}
 use Rattle.std.specs.Option.{option_and_then}
@@ -21,18 +21,17 @@ use Rattle.kernel_spec.specs.views.Processes.{Live}
 use Rattle.kernel_spec.specs.views.Programs.{program_named}
 use Rattle.kernel_spec.specs.views.State.{State, live}
 use Rattle.kernel_spec.specs.views.Words.{◌>>=◌, or_zero}
-use Rattle.kernel_spec.specs.views.View.{view, view_of, named, numbered, rename, show, child_of, or_gone, Descriptor, Shown, Shown_terminal, Shown_file, Shown_pipe}
+use Rattle.kernel_spec.specs.views.View.{view_of, named, numbered, rename, show, child_of, or_gone, Descriptor}
 use Rattle.kernel_spec.proofs.Common.{count_below-same}
 use Rattle.kernel_spec.proofs.steps.SeenByParts.{descriptor_at, descriptor_on, file_of}
 use Rattle.kernel_spec.proofs.steps.NamesAreChosenAgain.{named_at}
 use Rattle.kernel_spec.proofs.turns.KeepsSlots.{listed}
 use Rattle.kcall_core.specs.Observers as observers
 use Rattle.kcall_core.specs.Observers.{child_at, descriptor_of, opened}
-use Rattle.kcall_core.specs.ObservedPipes.{counts_of, pipe_counts_of}
-use Rattle.call_reasons.specs.Facts.{Facts, facts_of, is_file, is_unread, names_process, opened_of}
+use Rattle.kcall_core.specs.ObservedPipes.{counts_of}
+use Rattle.call_reasons.specs.Facts.{Facts, facts_of, opened_of}
 use Rattle.call_reasons.specs.Reasons.{reason_told}
-use Rattle.call_reasons.specs.Shown.{counts_no_reader, facts_in, has_child_in, is_free_in, is_on_unread, is_pid_in, is_program, opened_in, reach_in, reason_in, shown_as}
-use Rattle.call_reasons.specs.declared.opened.Opened.{Opened}
+use Rattle.call_reasons.specs.Shown.{counts_no_reader, facts_in, has_child_in, is_free_in, is_pid_in, opened_in, reach_in, reason_in, shown_as}
 
 same_facts : (f g : Facts) → f.opened ≡ g.opened → f.free_descriptors ≡ g.free_descriptors → f.reads ≡ g.reads → f.writes ≡ g.writes → f.byte ≡ g.byte → f.size ≡ g.size
     → f.has_child ≡ g.has_child → f.is_pid ≡ g.is_pid → f.is_program ≡ g.is_program → f.free ≡ g.free → f ≡ g

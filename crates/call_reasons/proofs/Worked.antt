@@ -1,5 +1,5 @@
 -- Worked cases of reasons.
-use Rattle.std.proofs.Common.{◌≡◌, ℕ, ◌+◌, ◌-◌, ◌++◌, ◌∷◌, List, replicate, Bool, true, false, cond, Option, None, Some, codes, refl}
+use Rattle.std.proofs.Common.{◌≡◌, ℕ, ◌+◌, ◌-◌, ◌++◌, ◌∷◌, List, replicate, true, false, cond, Option, None, Some, codes, refl}
 use Rattle.std.specs.Prelude.{ℤ, pos, negsuc, ◌==◌, ◌&&◌, nat_le, slice_index, bytes_eq}
 use Rattle.std.specs.Fmt.{digits}
 use Rattle.proc_table.specs.declared.process.Call.{Call}

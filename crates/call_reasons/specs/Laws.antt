@@ -1,11 +1,11 @@
 -- What holds of the reasons.
-use Rattle.std.specs.Prelude.{◌≡◌, ◌≢◌, ◌≤◌, ℕ, ℤ, false, Option, None, Some, IsSome}
+use Rattle.std.specs.Prelude.{◌≡◌, ◌≢◌, ◌≤◌, ℕ, ℤ, false, None, IsSome}
 use Rattle.xk_base.specs.declared.access.Access.{Access}
 use Rattle.xk_base.specs.declared.limits.TheConstants.{ADDRESS_END}
 use Rattle.proc_table.specs.declared.process.Call.{Call}
 use Rattle.kernel_spec.specs.rows.Buffers.{may_touching}
 use Rattle.kernel_spec.specs.rows.Calls.{answered, perform, refused}
-use Rattle.kernel_spec.specs.steps.Own.{Own, Called}
+use Rattle.kernel_spec.specs.steps.Own.{Called}
 use Rattle.kernel_spec.specs.views.View.{View}
 use Rattle.kernel_spec.specs.views.Words.{minus_one}
 use Rattle.call_reasons.specs.Facts.{Facts, facts_of}

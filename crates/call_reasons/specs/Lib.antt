@@ -1,4 +1,6 @@
+pub mod Asked
 pub mod Facts
+pub mod Last
 pub mod Laws
 pub mod Reasons
 pub mod Shown

@@ -12,7 +12,7 @@ use Rattle.addr_space.specs.Absent.{pages_at}
 use Rattle.proc_table.specs.declared.process.Call.{Call}
 use Rattle.kernel_spec.specs.rows.Buffers as buffers
 use Rattle.kernel_spec.specs.rows.Buffers.{grown, shrunk}
-use Rattle.kernel_spec.specs.rows.Calls.{Row, Fork, Exit, Wait, Pipe_row, Read, Kill, Exec, Dup, Getpid, Sbrk, Sleep, Uptime, Open, Write, Close, Sbrklazy, row_of}
+use Rattle.kernel_spec.specs.rows.Calls.{Row, Fork, Wait, Pipe_row, Read, Kill, Exec, Dup, Sbrk, Open, Write, Close, Sbrklazy, row_of}
 use Rattle.kernel_spec.specs.rows.Lines.{result_of}
 use Rattle.kernel_spec.specs.rows.Touches.{touch}
 use Rattle.kernel_spec.specs.views.Programs.{program_named}

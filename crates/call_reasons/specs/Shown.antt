@@ -11,7 +11,7 @@ use Rattle.addr_space.specs.Absent.{is_absent}
 use Rattle.addr_space.specs.Changes.{perm_of_page}
 use Rattle.user_copy.specs.Reach.{allows}
 use Rattle.file_table.specs.declared.open_file.Target.{Target}
-use Rattle.file_table.specs.declared.open_file.Target.TheVariants.{Console as Terminal, Program as File, Pipe as Pipe_end}
+use Rattle.file_table.specs.declared.open_file.Target.TheVariants.{Program as File, Pipe as Pipe_end}
 use Rattle.proc_table.specs.declared.process.Call.{Call}
 use Rattle.kernel_spec.specs.runs.Run.{World}
 use Rattle.kernel_spec.specs.waking.Turns.{HasSlot}

@@ -4,7 +4,7 @@ ghost use Rattle.xk_base.specs.Words.{count_below};
 ghost use Rattle.xk_base.specs.declared.limits.TheConstants.{ADDRESS_END, NOFILE, VPN_END};
 ghost use Rattle.sv39_core.specs.Sv39.{permits};
 ghost use Rattle.kernel_spec.specs.views.State.{live};
-ghost use Rattle.kernel_spec.specs.views.Words.{c_int, or_zero};
+ghost use Rattle.kernel_spec.specs.views.Words.{or_zero};
 ghost use Rattle.kcall_core.specs.Observers.{descriptor_of, size_of};
 ghost use Rattle.xv_machine.specs.Sound.{IsSoundMachine};
 ghost use Rattle.call_reasons.specs.Shown as meant;
@@ -13,13 +13,6 @@ use crate::opened::Opened;
 use xk_base::limits::{ADDRESS_END, NOFILE, NPROC, VPN_END};
 use xk_base::{Access, Fd, Perm, Pid, Vpn};
 use xv_machine::{Descriptor, Machine, PipeCounts, Target};
-
-/// A C int: the low 32 bits of a register, read as signed.
-pub(crate) fn c_int(register: u64) -> i32
-    ensures { result ≡ c_int register }
-{
-    ((register % (1 << 32)) as u32).cast_signed()
-}
 
 // Whether it is a program's file.
 fn is_program(target: &Target) -> bool

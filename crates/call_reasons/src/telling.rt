@@ -8,14 +8,17 @@ ghost use Rattle.kernel_spec.specs.views.Words.{c_int, minus_one, or_zero};
 ghost use Rattle.kcall_core.specs.Observers.{size_of};
 ghost use Rattle.xk_base.specs.declared.access.Access.TheVariants.{Store};
 ghost use Rattle.xk_base.specs.declared.limits.TheConstants.{MAXPATH};
+ghost use Rattle.call_reasons.specs.Asked.{call_asked};
 ghost use Rattle.call_reasons.specs.Reasons as meant;
 ghost use Rattle.call_reasons.specs.Shown.{facts_in, opened_in, reach_in, reason_in};
 ghost use Rattle.call_reasons.specs.Texts.{is_named, text_at};
 ghost use Rattle.call_reasons.specs.declared.reason.Reason.TheVariants.{NoFrames};
 
+use crate::asked::{Asked, c_int};
+use crate::last::REFUSED;
 use crate::opened::Opened;
 use crate::reason::Reason;
-use crate::shown::{c_int, free_descriptors, has_child, is_pid, opened, reaches, size};
+use crate::shown::{free_descriptors, has_child, is_pid, opened, reaches, size};
 use crate::texts::{has_texts, is_console, is_program, name_in, text_at};
 use arrayvec::ArrayVec;
 use kernel_calls::KernelCall;
@@ -107,7 +110,7 @@ fn is_bad_size(size: u64, change: i32) -> bool
 fn is_refusal(value: i64) -> bool
     ensures { result ≡ int_eq value minus_one }
 {
-    value == -1
+    value == REFUSED
 }
 
 impl<'a> Refused<'a> {
@@ -397,4 +400,12 @@ pub fn reason_told(machine: &Machine, pid: Pid, call: &Call, value: i64) -> Opti
     } else {
         None
     }
+}
+
+/// Why a process has got this answer to what it asks for, by the machine before the answer or right after it; `None` if it
+/// wasn't refused, and for any other pid.
+pub fn reason_of(machine: &Machine, pid: Pid, asked: &Asked, value: i64) -> Option<Reason>
+    ensures { result ≡ reason_in machine.now.world.state pid (call_asked asked.now) value }
+{
+    reason_told(machine, pid, &asked.call(), value)
 }

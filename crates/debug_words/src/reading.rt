@@ -617,6 +617,17 @@ fn events<'a>(tokens: &Tokens<'a>) -> Result<Word, WordErrorKind<'a>>
     ended(tokens, 2, Word::Events { from: Some(from) })
 }
 
+/// What `goto` asks for.
+fn goto<'a>(tokens: &Tokens<'a>) -> Result<Word, WordErrorKind<'a>>
+    ensures { IfOk result IsInRange }
+{
+    let Some(text) = tokens.get(1) else {
+        return Err(WordErrorKind::Missing("a number of events"));
+    };
+    let place = number_of(text)?;
+    ended(tokens, 2, Word::Goto { place })
+}
+
 /// What gdb's `info` asks for.
 fn info<'a>(tokens: &Tokens<'a>) -> Result<Word, WordErrorKind<'a>>
     ensures { IfOk result IsInRange }
@@ -852,6 +863,7 @@ fn asked<'a>(topic: Topic, tokens: &Tokens<'a>) -> Result<Word, WordErrorKind<'a
         Topic::Delete => deleted(tokens),
         Topic::Frames => frames(tokens),
         Topic::Events => events(tokens),
+        Topic::Goto => goto(tokens),
         Topic::Info => info(tokens),
         Topic::Next => ended(tokens, 1, Word::Next),
         Topic::Finish => ended(tokens, 1, Word::Finish),

@@ -6,6 +6,7 @@ pub enum Topic {
     Step,
     Next,
     Back,
+    Goto,
     Until,
     Finish,
     Break,
@@ -39,10 +40,11 @@ pub enum Topic {
 }
 
 /// All topics, in the order in which help shows them.
-pub(crate) const TOPICS: [Topic; 33] = [
+pub(crate) const TOPICS: [Topic; 34] = [
     Topic::Step,
     Topic::Next,
     Topic::Back,
+    Topic::Goto,
     Topic::Until,
     Topic::Finish,
     Topic::Break,
@@ -194,6 +196,11 @@ Also: rsi, reverse-stepi.
 back until GOAL goes back to the last Run before this place that was the goal
 (help until). The session is then as it was, exactly. The events after that
 place are forgotten. If there were fewer events, it goes back to the boot.",
+            Topic::Goto => "\
+goto N
+go back to the place after N events
+go back to the place after N events since the boot: 0 is the boot.
+at and events tell such places. The events after it are forgotten, as by back.",
             Topic::Until => "\
 until [GOAL]
 go on up to a goal: help until lists them
@@ -293,9 +300,10 @@ bt [of P]
 the calls that led to where the process is
 the calls that led to where the process is, from the last one on.
 Also: backtrace.
-By the frames of s0, for a program with frame pointers; else by ra alone, which
-an earlier call may have left. Each call is told by its own address, four bytes
-before the one to which it returns.",
+By the compiler's table of call frames, if the program's file or NAME.debug has
+one. Else it is a guess, and said to be one: by the frame pointers in s0, or by
+ra alone, which an earlier call may have left. Each call is told by its own
+address, four bytes before the one to which it returns.",
             Topic::Listing => "\
 disas [PLACE [N]] [of P]
 N instructions from PLACE on

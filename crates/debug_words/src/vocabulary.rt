@@ -90,6 +90,10 @@ pub enum Word {
     Back {
         count: u64,
     },
+    /// Back to the place after so many events.
+    Goto {
+        place: u64,
+    },
     /// Runs, up to the first that is the goal.
     Until(Goal),
     /// Back to the last Run that was the goal.

@@ -14,6 +14,13 @@ use Rattle.xv_machine.specs.declared.driving.RunPlan.{RunPlan}
 use Rattle.xv_machine.specs.Devices.{OneFailed}
 use Rattle.xv_machine.specs.Drives.{Done, IsEndOf, OnRead, OnWrite, StoppedByPlayer}
 use Rattle.xv_machine.specs.Meaning.{Meaning}
+use Rattle.xv_machine.specs.declared.devices.DeviceFault.{DeviceFault}
+use Rattle.xv_machine.specs.Stretches.{BrokeOff, Played, PlayedFirst}
+use Rattle.kernel_spec.specs.runs.Run.{Event}
+use Rattle.recorded_runs.specs.Replays as replays
+use Rattle.recorded_runs.specs.Replays.{Screen, TellsReplay}
+use Rattle.recorded_runs.specs.declared.ending.RecordEnd.{RecordEnd}
+use Rattle.recorded_runs.proofs.Ends.{tells-end, tells-stopped}
 use Rattle.explained_run.specs.Handed.{Holds}
 
 -- the exit status, by how the rounds ended
@@ -30,6 +37,21 @@ ends-so (Ok end) status plan old new before after is over done ended read write 
     rw is (ended-driven plan old before after (status_of end) (tells plan old new before after end done ended read write))
 ends-so (Err stop) status plan old new before after is over done ended read write stopped failures =
     rw over (ended-over plan old before after (record { ended = new; stopped = stopped; reads = failures.0; writes = failures.1 }))
+
+-- and by how a record ended
+pub tells-so : {S : Type 0} (played : Result (Result RecordEnd DeviceFault) S) (status : ℕ) (events : List Event) (old new : Meaning) (before after : Screen)
+    → IfOk played (λ end. status ≡ replays.status_of end) → OnErr played (status ≡ 6)
+    → IfOk played (λ end. OnOk end (Played events old new before.sink after.sink))
+    → IfOk played (λ end. IfOk end (λ e. replays.IsEndOf e new))
+    → IfOk played (λ end. OnErr end (BrokeOff events old new before.sink after.sink))
+    → IfOk played (λ end. replays.CountsFailure end before.failed_writes after.failed_writes)
+    → IfErr played (λ _. PlayedFirst events old new before.sink after.sink)
+    → IfErr played (λ _. after.failed_writes ≡ before.failed_writes)
+    → TellsReplay status events old before after
+tells-so (Ok end) status events old new before after is over done ended broke failures first none =
+    rw is (tells-end events old new before after end done ended broke failures)
+tells-so (Err stop) status events old new before after is over done ended broke failures first none =
+    rw over (tells-stopped events old new before after first none)
 
 -- ---- a text that grows
 

@@ -3,3 +3,4 @@ pub mod Joined
 pub mod Rows
 pub mod Texts
 mod WorkedCounts
+mod WorkedLines

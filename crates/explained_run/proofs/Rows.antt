@@ -1,5 +1,5 @@
 -- The rows of processes, as more is done.
-use Rattle.std.proofs.Common.{◌≡◌, ◌∙◌, ℕ, zero, suc, ◌+◌, ◌-◌, ◌<◌, Bool, true, false, List, [], ◌∷◌, ◌++◌, length, replicate}
+use Rattle.std.proofs.Common.{◌≡◌, ◌∙◌, ℕ, zero, suc, ◌+◌, ◌<◌, Bool, true, false, List, [], ◌∷◌, ◌++◌, length, replicate}
 use Rattle.std.proofs.Common.{Option, None, Some, cond, ◌⊎◌, inl, inr, Result, Ok, Err, OnOk, arith, refl, sym, ap, subst}
 use Rattle.std.specs.Prelude.{◌^◌, nat_eq, if◌then◌else◌, slice_get, slice_set, position, is_ok}
 use Rattle.std.specs.List.{position_from}

@@ -9,7 +9,7 @@ use Rattle.explained_run.specs.Counts.{added, counted, done_by, done_if, program
 use Rattle.explained_run.specs.declared.choice.Choice.{Choice}
 
 abbrev chosen : (call : Option KernelCall) → (failed : Bool) → Choice
-chosen call failed = record { lines = false; pid = None; call = call; failed = failed }
+chosen call failed = record { lines = false; pid = None; call = call; failed = failed; numbers = false }
 
 abbrev all : Choice
 all = chosen None false
@@ -47,10 +47,10 @@ the_call : done_by (chosen (Some Kill) false) 3 (Some 1) false (Step_of 3 (Calle
 the_call = refl
 
 -- a process that isn't asked for has no row
-another_process : counted (record { lines = false; pid = Some 2; call = None; failed = false }) [] (row 3 (Some 1) 1 1 0) ≡ []
+another_process : counted (record { lines = false; pid = Some 2; call = None; failed = false; numbers = false }) [] (row 3 (Some 1) 1 1 0) ≡ []
 another_process = refl
 
-the_process : counted (record { lines = false; pid = Some 3; call = None; failed = false }) [] (row 3 (Some 1) 1 1 0) ≡ row 3 (Some 1) 1 1 0 ∷ []
+the_process : counted (record { lines = false; pid = Some 3; call = None; failed = false; numbers = false }) [] (row 3 (Some 1) 1 1 0) ≡ row 3 (Some 1) 1 1 0 ∷ []
 the_process = refl
 
 -- the first of a process makes a row behind the others; more of it is added there, and its program is the last one

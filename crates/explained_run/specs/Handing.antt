@@ -10,8 +10,9 @@ use Rattle.explained_run.specs.declared.counts.Count.{Count}
 pub record HandsOn (handed : Option (List ℕ)) : Type 0 where
   pub choice : Choice
   pub running : Running
+  pub at : ℕ
   pub text : List ℕ
   pub counted : Bool
   pub counts : List Count
-  pub told : ∥ IsTold choice running true text counted counts ∥₁
+  pub told : ∥ IsTold choice running at true text counted counts ∥₁
   pub held : ∥ Holds handed text ∥₁

@@ -1,5 +1,5 @@
 -- That the named are live has one proof at most, so a struct can keep it.
-use Rattle.std.specs.Prelude.{◌≡◌, ℕ, true, List, [], ◌∷◌, is_some}
+use Rattle.std.specs.Prelude.{◌≡◌, true, List, [], ◌∷◌, is_some}
 use Rattle.std.specs.Coded.{×_prop, Unit-prop, Coded-set, coded_bool}
 use Rattle.kernel_spec.specs.views.State.{State, live}
 use Rattle.xv_session.specs.Names.{Among, Apart, AreLive}

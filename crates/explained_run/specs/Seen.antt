@@ -1,5 +1,5 @@
 -- What is seen of a process right before a step of its that is no done instruction.
-use Rattle.std.specs.Prelude.{ℕ, ℤ, Bool, true, false, List, [], ◌++◌, codes, decimal, string_bytes, Option, None, Some, option_map}
+use Rattle.std.specs.Prelude.{ℕ, ℤ, ◌^◌, ◌-◌, min, Bool, true, false, List, [], ◌++◌, codes, decimal, string_bytes, Option, None, Some, option_map}
 use Rattle.debug_views.specs.Focus.{nth_of}
 use Rattle.debug_words.specs.Texts.{named}
 use Rattle.proc_table.specs.declared.process.Call.{Call}
@@ -10,13 +10,13 @@ use Rattle.kcall_core.specs.declared.kernel.observers.ProcessState.{ProcessState
 use Rattle.kcall_core.specs.declared.kernel.observers.ProcessState.TheVariants as state
 use Rattle.xv_session.specs.Names.{place_in}
 use Rattle.xv_session.specs.declared.names.Named.{Named}
-use Rattle.call_lines.specs.Asked.{asked_of}
+use Rattle.call_reasons.specs.Asked.{asked_of}
 use Rattle.call_lines.specs.Line.{call_shown}
-use Rattle.call_lines.specs.declared.asked.Asked.{Asked}
+use Rattle.call_reasons.specs.declared.asked.Asked.{Asked}
 use Rattle.explained_run.specs.declared.seen.Seen.{Seen}
 
 pub record Before : Type 0 where
-  -- its pid, and its program: `3 (wc): `
+  -- its pid, and its program: `3 (wc): `; the number of events before stands before it, if that is asked for
   pub who : List ℕ
   -- what it asks for, if its step is one of a call
   pub asked : Option Asked
@@ -33,8 +33,17 @@ pub record Before : Type 0 where
 abbrev pub name_in : World → List Named → (p : ℕ) → Option (List ℕ)
 name_in w names p = option_map (λ (f : ProgramFile). f.name) (nth_of w.state.programs (place_in p names))
 
-abbrev pub who_text : World → List Named → (p : ℕ) → List ℕ
-who_text w names p = decimal p ++ named (name_in w names p) ++ codes ": "
+-- how many events there were, 2 ^ 64 - 1 at most
+abbrev pub place_of : (events : ℕ) → ℕ
+place_of events = min events (2 ^ 64 - 1)
+
+-- how many there were before, if lines begin with that
+abbrev pub number_text : (numbers : Bool) → (place : ℕ) → List ℕ
+number_text false place = []
+number_text true place = decimal place ++ codes " "
+
+abbrev pub who_text : (numbers : Bool) → (place : ℕ) → World → List Named → (p : ℕ) → List ℕ
+who_text numbers place w names p = number_text numbers place ++ (decimal p ++ named (name_in w names p) ++ codes ": ")
 
 -- a call as text, if there is one
 abbrev pub asked_text : State → (p : ℕ) → Option Asked → (answered : Option ℤ) → List ℕ
@@ -53,10 +62,10 @@ abbrev pub is_marked : Option ProcessState → Bool
 is_marked (Some (state.Live parent marked call asleep)) = marked
 is_marked _ = false
 
--- process p of a world, in which processes run these programs
-abbrev pub before : World → List Named → (p : ℕ) → Before
-before w names p = record {
-  who = who_text w names p;
+-- process p of a world to which so many events led, in which processes run these programs
+abbrev pub before : (numbers : Bool) → (place : ℕ) → World → List Named → (p : ℕ) → Before
+before numbers place w names p = record {
+  who = who_text numbers place w names p;
   asked = asked_of w p;
   call = asked_text w.state p (asked_of w p) None;
   resumed = is_in_call (process_at w p);

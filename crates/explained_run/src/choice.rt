@@ -21,6 +21,8 @@ pub struct Choice {
     pub call: Option<KernelCall>,
     /// Those of calls that have failed, and of what ends a process.
     pub failed: bool,
+    /// Each begins with the number of events before its own.
+    pub numbers: bool,
 }
 
 impl Choice {

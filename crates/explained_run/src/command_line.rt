@@ -8,6 +8,7 @@ use crate::line::Settings;
 use program_files::{
     CommandLine, CommandWord, FRAMES, NumberOption, QUANTUM, ROUNDS, TRACE, WordsError, given_words,
 };
+use recorded_runs::{AT_WORD, REPLAY_WORD, replay_words};
 use run_work::BUDGET;
 use std::rt::Env;
 use xk_base::Pid;
@@ -28,14 +29,24 @@ const CALL: &str = "call";
 /// The word that asks for calls that failed.
 const FAILED: &str = "failed";
 
+/// The word that asks for the numbers of events.
+const NUMBERS: &str = "numbers";
+
 /// The word that asks for a table.
 const COUNT: &str = "count";
+
+/// The options that a record tells itself.
+const TOLD_BY_RECORD: [&NumberOption; 3] = [&FRAMES, &ROUNDS, &QUANTUM];
 
 /// What stands below the list of options in the text of `--help`.
 const MORE_HELP: &str = "\
 It runs programs as xv_run does: the FILEs, the rounds, the keys from standard input, what goes to
 standard output, and the exit status are the same. With --budget a run that does more work is
 broken off, and the exit status is 6.
+
+With --replay it tells a record that a terminal has kept, by its programs among the FILEs, up to its
+end, or with --at up to its Nth event. The record has its frames, rounds and keys itself. If init is
+not gone at the end, the exit status is 4.
 
 On standard error stands a line for each kernel call that is done, with what was passed to it and
 what it answered:
@@ -71,9 +82,15 @@ const COMMAND_LINE: CommandLine = CommandLine {
             help: "Tell only calls that answered less than 0, and faults and kills",
         },
         CommandWord::Flag {
+            name: NUMBERS,
+            help: "Begin each line with the number of events before it",
+        },
+        CommandWord::Flag {
             name: COUNT,
             help: "Count the calls of each process in place of the lines",
         },
+        REPLAY_WORD,
+        AT_WORD,
         CommandWord::Files,
     ],
 };
@@ -106,7 +123,9 @@ pub fn settings<R: Env + AllocGlobal>(rt: &R) -> Result<Settings, WordsError>
     let pid = given.number(&PID)?;
     let call = given.text(CALL)?;
     let failed = given.flag(FAILED);
+    let numbers = given.flag(NUMBERS);
     let count = given.flag(COUNT);
+    let replay = replay_words(rt, &given, &TOLD_BY_RECORD)?;
     let files = given.files()?;
     Ok(Settings {
         frames,
@@ -117,7 +136,9 @@ pub fn settings<R: Env + AllocGlobal>(rt: &R) -> Result<Settings, WordsError>
         pid: chosen_pid(pid),
         call,
         failed,
+        numbers,
         count,
+        replay,
         files,
     })
 }

@@ -21,13 +21,15 @@ pub(crate) struct Explained {
     /// Which lines are asked for.
     pub choice: Choice,
     pub running: Running,
+    /// How many events the machine has got, 2^64 - 1 at most.
+    pub at: u64,
     pub counts: Counts,
     /// Whether there was memory for each line.
     pub complete: bool,
     /// The lines since the boot. They and the counts are those of the same events.
     pub text: String,
     ghost live: { AreLive running.machine.world.state running.names } by { live-prop running.machine.world.state running.names },
-    ghost told: { ∥ IsTold choice running complete (string_bytes text) counts.complete counts.counts.items ∥₁ },
+    ghost told: { ∥ IsTold choice running at complete (string_bytes text) counts.complete counts.counts.items ∥₁ },
 }
 
 // Whether both are so.
@@ -70,6 +72,7 @@ impl Explained {
                 alloc,
                 choice,
                 running: Running::new(machine),
+                at: 0,
                 counts: Counts::new(alloc),
                 complete: true,
                 text: String::new(alloc),
@@ -90,10 +93,12 @@ impl Explained {
         let made = tell_step(
             self.alloc,
             &self.choice,
+            self.at,
             &mut self.running,
             pid,
             &mut self.text,
         );
+        self.at = self.at.saturating_add(1);
         let place = self.running.names.place(pid).or(place);
         self.counts
             .add_outcome(&self.choice, pid, place, marked, &made.outcome);
@@ -110,10 +115,13 @@ impl Explained {
         ensures text { self.new.complete ≡ true → (self.old.complete ≡ true) × StartsWith (string_bytes self.new.text) (string_bytes self.old.text) }
     {
         let Some(pid) = self.running.machine.current() else {
-            return self.running.run(most);
+            let runs = self.running.run(most);
+            self.at = self.at.saturating_add(u64::from(runs.sent));
+            return runs;
         };
         let place = self.running.names.place(pid);
         let made = self.running.machine.instructions(most);
+        self.at = self.at.saturating_add(u64::from(made));
         self.counts.add_instructions(&self.choice, pid, place, made);
         if made == most {
             return Runs {
@@ -137,6 +145,7 @@ impl Explained {
     {
         // (It says that the machine is sound.)
         let _halted = self.running.machine.halted();
+        self.at = self.at.saturating_add(1);
         self.running.event(event)
     }
 }

@@ -12,6 +12,7 @@ mod counts;
 mod explained;
 mod line;
 mod lines;
+mod replaying;
 mod running;
 mod seen;
 mod stepping;

@@ -1,4 +1,5 @@
 //! What a command line asks for.
+use recorded_runs::ReplayWords;
 use xk_base::Pid;
 
 /// What the words of a command line ask for.
@@ -20,8 +21,12 @@ pub struct Settings {
     pub call: Option<String>,
     /// Whether only calls that have failed are to be told, and faults and kills.
     pub failed: bool,
+    /// Whether each line begins with the number of events before its own.
+    pub numbers: bool,
     /// Whether a table of what each process has done is asked for, in place of the lines.
     pub count: bool,
+    /// What is said of a record that is to be told, in place of a run in rounds.
+    pub replay: ReplayWords,
     /// The path of each FILE, in the order of the words: at least one.
     pub files: Vec<String>,
 }

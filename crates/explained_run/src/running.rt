@@ -12,6 +12,7 @@ use crate::command_line::settings;
 use crate::explained::Explained;
 use crate::line::Settings;
 use crate::lines::{Lines, Written};
+use crate::replaying::replay_chosen;
 use crate::table::write_counts;
 use crate::watching::{Stop, Watched};
 use kernel_calls::{CALLS, KernelCall};
@@ -132,6 +133,7 @@ fn choice_of(settings: &Settings) -> Result<Choice, &str> {
         pid: settings.pid,
         call,
         failed: settings.failed,
+        numbers: settings.numbers,
     })
 }
 
@@ -188,13 +190,24 @@ fn run_chosen(rt: &HostRuntime, settings: &Settings, choice: Choice) -> u8
     }
 }
 
+// Tells the run of the settings, or the record that they name, and gives the exit status.
+fn tell_asked(rt: &HostRuntime, settings: &Settings, choice: Choice) -> u8
+    ensures { IsRunStatus result }
+{
+    match settings.replay.replay() {
+        Ok(Some(asked)) => replay_chosen(rt, settings, choice, asked),
+        Ok(None) => run_chosen(rt, settings, choice),
+        Err(refusal) => refusal.close(NAME, &mut rt.stderr()),
+    }
+}
+
 /// Runs the programs that the words of a command line name, tells their calls as they come, and gives the exit status.
 pub fn explain_by_words<W: Env + AllocGlobal>(rt: &HostRuntime, words: &W) -> u8
     ensures { IsRunStatus result }
 {
     match settings(words) {
         Ok(settings) => match choice_of(&settings) {
-            Ok(choice) => run_chosen(rt, &settings, choice),
+            Ok(choice) => tell_asked(rt, &settings, choice),
             Err(name) => refuse_call(name, &mut rt.stderr()),
         },
         Err(error) => error.close(NAME, &mut rt.stdout(), &mut rt.stderr()),

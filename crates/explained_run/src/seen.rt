@@ -2,7 +2,7 @@
 ghost use Rattle.std.specs.Prelude.{◌≡◌, None, OnOk, IfOk, option_map};
 ghost use Rattle.debug_views.specs.Written.{Appends};
 ghost use Rattle.kcall_core.specs.Observers.{process_at};
-ghost use Rattle.explained_run.specs.Seen.{asked_text, before, is_in_call, is_marked, name_in, seen_of, who_text};
+ghost use Rattle.explained_run.specs.Seen.{asked_text, before, is_in_call, is_marked, name_in, number_text, seen_of, who_text};
 
 use call_lines::{Asked, asked_of, show_call};
 use debug_words::texts::Named;
@@ -14,7 +14,7 @@ use xv_session::Running;
 /// What is seen of a process right before a step of its that is no done instruction.
 #[derive(Drop)]
 pub(crate) struct Seen {
-    /// Its pid, and its program: `3 (wc): `.
+    /// Its pid, and its program: `3 (wc): `; before it the number of events, if that is asked for.
     pub who: String,
     /// What it asks for, if its step is one of a call.
     pub asked: Option<Asked>,
@@ -35,10 +35,28 @@ pub(crate) fn name_of(running: &Running, pid: Pid) -> Option<&[u8]>
     Some(program.name.as_slice())
 }
 
-// Writes the pid of a process, and its program.
-fn show_who(running: &Running, pid: Pid, text: &mut String) -> Result<(), AllocError>
-    ensures { OnOk result (Appends text.old text.new (who_text running.now.machine.world running.now.names pid)) }
+// Writes how many events there were before, if lines begin with that.
+fn show_number(numbers: bool, place: u64, text: &mut String) -> Result<(), AllocError>
+    ensures { OnOk result (Appends text.old text.new (number_text numbers place)) }
 {
+    if numbers {
+        write!(text, "{place} ")
+    } else {
+        Ok(())
+    }
+}
+
+// Writes the pid of a process, and its program.
+fn show_who(
+    numbers: bool,
+    place: u64,
+    running: &Running,
+    pid: Pid,
+    text: &mut String,
+) -> Result<(), AllocError>
+    ensures { OnOk result (Appends text.old text.new (who_text numbers place running.now.machine.world running.now.names pid)) }
+{
+    show_number(numbers, place, text)?;
     let number = pid.number();
     let name = Named(name_of(running, pid));
     write!(text, "{number}{name}: ")
@@ -82,12 +100,18 @@ pub(crate) fn is_marked(state: &Option<ProcessState>) -> bool
 }
 
 impl Seen {
-    /// What is seen of a process now.
-    pub(crate) fn of(alloc: Global, running: &Running, pid: Pid) -> Result<Seen, AllocError>
-        ensures { IfOk result (λ s. seen_of s ≡ before running.now.machine.world running.now.names pid) }
+    /// What is seen of a process now, after so many events.
+    pub(crate) fn of(
+        alloc: Global,
+        numbers: bool,
+        place: u64,
+        running: &Running,
+        pid: Pid,
+    ) -> Result<Seen, AllocError>
+        ensures { IfOk result (λ s. seen_of s ≡ before numbers place running.now.machine.world running.now.names pid) }
     {
         let mut who = String::new(alloc);
-        show_who(running, pid, &mut who)?;
+        show_who(numbers, place, running, pid, &mut who)?;
         let asked = asked_of(&running.machine, pid);
         let mut call = String::new(alloc);
         show_asked(alloc, &running.machine, pid, &asked, None, &mut call)?;

@@ -21,10 +21,11 @@ pub(crate) struct Step {
     pub is_told: bool,
 }
 
-/// Sends Run to the process that runs, once, and tells what comes of it.
+/// Sends Run to the process that runs, once, after so many events, and tells what comes of it.
 pub(crate) fn tell_step(
     alloc: Global,
     choice: &Choice,
+    place: u64,
     running: &mut Running,
     pid: Pid,
     text: &mut String,
@@ -32,7 +33,7 @@ pub(crate) fn tell_step(
     requires current { running.old.machine.world.turns.current ≡ Some pid }
     requires sound { IsSound running.old }
     ensures advances { Advances running.old runs.Run (outcome_of result.outcome) running.new }
-    ensures told { result.is_told ≡ true → string_bytes text.new ≡ string_bytes text.old ++ told choice.now running.old.machine.world running.old.names (outcome_of result.outcome) running.new.machine.world.state }
+    ensures told { result.is_told ≡ true → string_bytes text.new ≡ string_bytes text.old ++ told choice.now place running.old.machine.world running.old.names (outcome_of result.outcome) running.new.machine.world.state }
 {
     if !choice.shows_process(pid) {
         return Step {
@@ -40,7 +41,7 @@ pub(crate) fn tell_step(
             is_told: true,
         };
     }
-    let seen = Seen::of(alloc, running, pid);
+    let seen = Seen::of(alloc, choice.numbers, place, running, pid);
     let outcome = running.event(Event::Run);
     let Ok(seen) = seen else {
         return Step {

@@ -1,10 +1,11 @@
--- Worked cases: whom vCont, c and s let run.
+-- Worked cases: whom vCont, c and s let run, and what monitor asks for.
 use Rattle.std.proofs.Common.{◌≡◌, refl}
 use Rattle.std.specs.Prelude.{codes}
 use Rattle.gdb_packets.specs.Commands.{asked}
 use Rattle.gdb_packets.specs.declared.command.Command.TheVariants as on
 use Rattle.gdb_packets.specs.declared.command.Resume.TheVariants.{Continue, Step}
 use Rattle.gdb_packets.specs.declared.command.Thread.TheVariants.{All, Any, One}
+use Rattle.gdb_packets.specs.declared.query.View.TheVariants.{Pages, Help}
 
 all_go_on : asked (codes "vCont;c") ≡ on.Resume Continue All
 all_go_on = refl
@@ -24,3 +25,9 @@ as_was_chosen = refl
 
 a_step_as_was_chosen : asked (codes "s") ≡ on.Resume (Step Any) Any
 a_step_as_was_chosen = refl
+
+monitor_pages : asked (codes "qRcmd,7061676573") ≡ on.Monitor Pages
+monitor_pages = refl
+
+monitor_with_another_word_is_help : asked (codes "qRcmd,7061676") ≡ on.Monitor Help
+monitor_with_another_word_is_help = refl

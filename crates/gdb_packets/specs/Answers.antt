@@ -1,6 +1,8 @@
 -- The payloads of answers (GDB manual, "Stop Reply Packets", "General Query Packets" and "Standard Replies").
 use Rattle.std.specs.Prelude.{ℕ, nat_lt, if◌then◌else◌, List, [], ◌∷◌, ◌++◌, length, take, drop, codes}
+use Rattle.std.specs.Int.{w64, to_le_bytes}
 use Rattle.std.specs.List.{flat_map}
+use Rattle.hex.specs.Hex.{encode_lower}
 use Rattle.gdb_packets.specs.Digits.{byte_digits}
 use Rattle.gdb_packets.specs.Numbers.{digits}
 use Rattle.gdb_packets.specs.declared.answers.Stop.{Stop}
@@ -61,3 +63,7 @@ stop_note Misaligned = []
 -- a stop: T, its signal, what else is told of it, and its thread
 abbrev pub stop_reply : Stop → List ℕ
 stop_reply s = 84 ∷ byte_digits (signal_number s.reason) ++ stop_note s.reason ++ codes "thread:" ++ digits s.thread ++ codes ";"
+
+-- a step of the thread has led to this address: T05, the register 32 (20 in hexadecimal digits), which is the pc, with its bytes, the lowest first, and the thread
+abbrev pub stepped_to : (thread address : ℕ) → List ℕ
+stepped_to thread address = codes "T0520:" ++ encode_lower (to_le_bytes w64 address) ++ codes ";thread:" ++ digits thread ++ codes ";"

@@ -13,6 +13,8 @@ use Rattle.gdb_packets.specs.declared.command.Point.TheVariants.{Breakpoint, Wat
 use Rattle.gdb_packets.specs.declared.packet_text.Numbers.{Numbers}
 use Rattle.gdb_packets.specs.declared.query.Document.{Document}
 use Rattle.gdb_packets.specs.declared.query.Document.TheVariants.{Registers, File}
+use Rattle.gdb_packets.specs.declared.query.View.{View}
+use Rattle.gdb_packets.specs.declared.query.View.TheVariants.{Pages, Descriptors, Frames, Console, Events, Help}
 
 -- ---- the parts of a text
 
@@ -161,11 +163,21 @@ abbrev pub file_part : Option (List ℕ) → Command
 file_part None = on.Malformed
 file_part (Some text) = part File (two_numbers text)
 
+-- the word of monitor that these hexadecimal digits stand for: pages, fds, frames, console or events, and help for any other
+abbrev pub view_of : List ℕ → View
+view_of text =
+    if is_text text (codes "7061676573") then Pages
+    else (if is_text text (codes "666473") then Descriptors
+    else (if is_text text (codes "6672616d6573") then Frames
+    else (if is_text text (codes "636f6e736f6c65") then Console
+    else (if is_text text (codes "6576656e7473") then Events else Help))))
+
 abbrev pub long_query : List ℕ → Command
 long_query text =
     if begins text (codes "ThreadExtraInfo,") then thread_info (thread_of (drop 16 text))
     else (if begins text (codes "Xfer:features:read:target.xml:") then part Registers (two_numbers (drop 30 text))
-    else (if begins text (codes "Xfer:exec-file:read:") then file_part (behind 58 (drop 20 text)) else on.Unknown))
+    else (if begins text (codes "Xfer:exec-file:read:") then file_part (behind 58 (drop 20 text))
+    else (if begins text (codes "Rcmd,") then on.Monitor (view_of (drop 5 text)) else on.Unknown)))
 
 abbrev pub named : (name text : List ℕ) → Command
 named name text =

@@ -221,3 +221,21 @@ pub fn no_resumed(alloc: Global) -> Result<Vec<u8>, AllocError>
 {
     Vec::from_slice(alloc, b"N")
 }
+
+/// A step of a thread has led to an address, and none of its registers but the pc is told: `T05`, the pc, and the thread.
+/// GDB knows the pc by the number 32, `20` in hexadecimal digits.
+///
+/// # Errors
+///
+/// [`AllocError`] if the host has too little memory.
+pub fn stepped_to(alloc: Global, thread: u64, address: u64) -> Result<Vec<u8>, AllocError>
+    ensures { IfOk result (λ text. text.items ≡ meant.stepped_to thread address) }
+{
+    let mut text = Vec::from_slice(alloc, b"T0520:")?;
+    let digits = hex_bytes(alloc, address.to_le_bytes().as_slice())?;
+    text.extend_from_slice(digits.as_slice())?;
+    text.extend_from_slice(b";thread:")?;
+    push_number(&mut text, thread)?;
+    text.extend_from_slice(b";")?;
+    Ok(text)
+}

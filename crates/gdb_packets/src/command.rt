@@ -4,7 +4,7 @@ ghost use Rattle.gdb_packets.specs.Commands as meant;
 ghost use Rattle.gdb_packets.specs.Digits as digits;
 
 use crate::packet_text::{before, behind, is_text, number, two_numbers};
-use crate::query::{Document, query};
+use crate::query::{Document, View, query};
 
 /// Which threads are meant.
 #[derive(Clone, Copy)]
@@ -98,6 +98,8 @@ pub enum Command {
         offset: u64,
         length: u64,
     },
+    /// `qRcmd`: what a word of `monitor` asks for.
+    Monitor(View),
     /// `qOffsets`: how far the program's sections were moved.
     Offsets,
     /// `qAttached`: whether the program was there before.

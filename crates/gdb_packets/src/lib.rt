@@ -17,9 +17,9 @@ mod reader;
 
 pub use answers::{
     Stop, StopReason, console, current_thread, exited, hex_bytes, no_resumed, part, refusal,
-    stop_reply, thread_list,
+    stepped_to, stop_reply, thread_list,
 };
 pub use command::{Command, Point, Resume, Thread, parse};
 pub use framing::packet;
-pub use query::Document;
+pub use query::{Document, View};
 pub use reader::{PacketReader, Phase, Piece};

@@ -14,6 +14,42 @@ pub enum Document {
     File,
 }
 
+/// What a word of GDB's `monitor` asks for, which GDB hands on as it is (`qRcmd`).
+#[derive(Clone, Copy)]
+pub enum View {
+    /// `pages`: the page table of the process that is looked at.
+    Pages,
+    /// `fds`: its descriptors.
+    Descriptors,
+    /// `frames`: who owns how many frames of RAM.
+    Frames,
+    /// `console`: the bytes that the console keeps.
+    Console,
+    /// `events`: the last events of the run.
+    Events,
+    /// `help`: which words there are. Any other word asks for it too.
+    Help,
+}
+
+/// The word of `monitor` that these hexadecimal digits stand for, two for each letter.
+fn view_of(digits: &[u8]) -> View
+    ensures { result ≡ meant.view_of digits.now }
+{
+    if is_text(digits, b"7061676573") {
+        View::Pages
+    } else if is_text(digits, b"666473") {
+        View::Descriptors
+    } else if is_text(digits, b"6672616d6573") {
+        View::Frames
+    } else if is_text(digits, b"636f6e736f6c65") {
+        View::Console
+    } else if is_text(digits, b"6576656e7473") {
+        View::Events
+    } else {
+        View::Help
+    }
+}
+
 /// The request for a part of a document: its offset and its length.
 fn part(document: Document, text: &[u8]) -> Command
     ensures { result ≡ meant.part document (meant.two_numbers text.now) }
@@ -60,6 +96,9 @@ fn long_query(text: &[u8]) -> Command
     }
     if let Some(rest) = text.strip_prefix(b"Xfer:exec-file:read:".as_slice()) {
         return file_part(rest);
+    }
+    if let Some(rest) = text.strip_prefix(b"Rcmd,".as_slice()) {
+        return Command::Monitor(view_of(rest));
     }
     Command::Unknown
 }

@@ -1,6 +1,8 @@
 pub mod Below
 pub mod Coming
+pub mod Halving
 pub mod LastPlaces
+pub mod Planned
 pub mod Telling
 pub mod Turning
 pub mod Ways
@@ -13,4 +15,5 @@ pub mod Stood
 pub mod Watching
 mod WorkedBefore
 mod WorkedLetRun
+mod WorkedRecord
 mod WorkedRows

@@ -1,6 +1,6 @@
 -- Runs that lead to no stop are so many stretches, at none of whose ends a process of the program stands at a breakpoint.
 use Rattle.std.proofs.Common.{◌≡◌, ◌∙◌, ℕ, zero, suc, ◌+◌, ◌<◌, ◌≤◌, inl, Bool, true, false, List, [], ◌∷◌, ◌++◌, refl, sym, ap, subst, arith, length, length-append, Option, None, Some}
-use Rattle.std.specs.Prelude.{replicate, ◌&&◌, ◌||◌, not, is_some}
+use Rattle.std.specs.Prelude.{replicate, ◌&&◌, not, is_some}
 use Rattle.std.proofs.lemmas.Bool.{and_parts, false≢true, or_parts, not-true}
 use Rattle.std.proofs.lemmas.List.{length-replicate}
 use Rattle.kernel_spec.specs.runs.Run.{Run, Outcome, Step_of, Turn, Idle, Ticked, Typed, Sent, Halted}
@@ -22,7 +22,6 @@ use Rattle.gdb_target.specs.Forth.{Passed, Stretch, current_of, ends_alone, is_b
 use Rattle.gdb_target.specs.LastHit.{GoesForth, Looked, let_run_of}
 use Rattle.gdb_target.specs.LetRun.{if_let}
 use Rattle.gdb_target.specs.PlayedBy.{is_run}
-use Rattle.gdb_target.specs.Rounds.{event_at}
 use Rattle.gdb_target.specs.Rows.{RunsToStop, watched_addresses, is_free, looks_at_row, starts_row}
 use Rattle.gdb_target.specs.Standing.{NextIsRun, stander, stander_of, starter_of, if_so, begins, is_among, is_place}
 use Rattle.gdb_target.specs.declared.let_run.LetRun.{LetRun}
@@ -30,7 +29,7 @@ use Rattle.gdb_target.specs.declared.played.Played.{Played}
 use Rattle.gdb_target.specs.declared.points.Points.{Points}
 use Rattle.gdb_target.specs.declared.reverse.Back.{Back}
 use Rattle.gdb_target.specs.declared.reverse.Back.TheVariants as back
-use Rattle.gdb_target.specs.declared.rounds.Rounds.{Rounds}
+use Rattle.gdb_target.specs.Plan.{Planned, planned_at}
 use Rattle.gdb_target.specs.declared.target.Target.{Target}
 use Rattle.gdb_target.specs.declared.target.Until.{Until}
 use Rattle.gdb_target.specs.declared.target.Until.TheVariants.{Point, StepOf, AnyStep}
@@ -127,7 +126,7 @@ record IsAt (r : LetRun) (t : Target) (bytes : List ℕ) (n : ℕ) (mid : Runnin
   free : is_before_stop last.points.breakpoints.items bytes last.run.session.machine.world ≡ false
   machine : last.run.session.machine ≡ mid.machine
   points : last.points ≡ t.points
-  rounds : last.run.rounds ≡ t.run.rounds
+  plan : last.run.plan ≡ t.run.plan
   count : length last.run.session.events ≡ length t.run.session.events + n
 
 -- A row of Runs from t to `to`: the last of them is a stretch of its own, of which this came, and before it nobody stood at a breakpoint
@@ -141,7 +140,7 @@ pub record IsRow (r : LetRun) (t : Target) (o : Outcome) (to : Target) : Type 0 
   pub single : length to.run.session.events ≡ length last.run.session.events + 1
 
 module _ (r : LetRun) (t : Target) (bytes : List ℕ) (count : ℕ) (free : is_before_stop t.points.breakpoints.items bytes t.run.session.machine.world ≡ false)
-    (each : (k : ℕ) → k < count → event_at t.run.rounds.keys.items t.run.rounds.quantum (length t.run.session.events + k) ≡ Run) where
+    (each : (k : ℕ) → k < count → planned_at t.run.plan (length t.run.session.events + k) ≡ Run) where
   abbrev addresses : List ℕ
   addresses = t.points.breakpoints.items
 
@@ -149,15 +148,15 @@ module _ (r : LetRun) (t : Target) (bytes : List ℕ) (count : ℕ) (free : is_b
       → is_before_stop addresses bytes new.machine.world ≡ false → (next : Target) × IsAt r t bytes (suc n) new next
   one-on n mid new o last few is one done free_now =
       let s = last.run.session in
-      let rounds = last.run.rounds in
+      let plan = last.run.plan in
       let after : Recorded = record s { events = s.events ++ Run ∷ []; machine = new.machine; names = new.names } in
-      let its : event_at rounds.keys.items rounds.quantum (length s.events) ≡ Run =
-      subst (λ (x : Rounds). event_at x.keys.items x.quantum (length s.events) ≡ Run) (sym is.rounds)
-      (ap (event_at t.run.rounds.keys.items t.run.rounds.quantum) is.count ∙ each n few) in
+      let its : planned_at plan (length s.events) ≡ Run =
+      subst (λ (x : Planned). planned_at x (length s.events) ≡ Run) (sym is.plan)
+      (ap (planned_at t.run.plan) is.count ∙ each n few) in
       let run : Played = record {
         session = after;
-        rounds = rounds;
-        played = played_send rounds.keys.items rounds.quantum s.events after.events Run last.run.played its refl;
+        plan = plan;
+        played = played_send plan s.events after.events Run last.run.played its refl;
       } in
       let next : Target = record last { run = run } in
       let long : length after.events ≡ length s.events + 1 = length-append s.events (Run ∷ []) in
@@ -184,7 +183,7 @@ module _ (r : LetRun) (t : Target) (bytes : List ℕ) (count : ℕ) (free : is_b
           free = its_free;
           machine = refl;
           points = is.points;
-          rounds = is.rounds;
+          plan = is.plan;
           count = omega (arith, long, is.count);
         },
       )
@@ -198,7 +197,7 @@ module _ (r : LetRun) (t : Target) (bytes : List ℕ) (count : ℕ) (free : is_b
       free = free;
       machine = ap (λ (r : Running). r.machine) (sym same);
       points = refl;
-      rounds = refl;
+      plan = refl;
       count = omega arith;
     },
   )
@@ -244,7 +243,7 @@ starts-free AnyStep bytes t starts = cc
 
 pub looks-free : (b : Back) (bytes : List ℕ) (t : Target) → looks_at_row b bytes t ≡ true → (b ≡ back.Point (let_run_of b)) × (is_free bytes t ≡ true) × NextIsRun t.run
 looks-free (back.Point let_run) bytes t looks =
-    let e = event_at t.run.rounds.keys.items t.run.rounds.quantum (length t.run.session.events) in
+    let e = planned_at t.run.plan (length t.run.session.events) in
     let both = and_parts (is_run e) (is_free bytes t) looks in
     (refl, both.1, run_of_true e both.0)
 looks-free (back.StepOf p) bytes t looks = cc

@@ -3,12 +3,12 @@ use Rattle.std.proofs.Common.{◌≡◌, ℕ, List, ◌∷◌, ◌++◌, Option,
 use Rattle.std.proofs.KnownBytes.{Appends-trans}
 use Rattle.std.specs.Io.KnownBytes.{Appends}
 use Rattle.hex.specs.Hex.{encode_lower}
-use Rattle.gdb_packets.specs.Answers.{no_resumed}
 use Rattle.gdb_packets.specs.Packets.{packet}
 use Rattle.gdb_packets.specs.declared.answers.StopReason.{StopReason}
 use Rattle.gdb_packets.specs.declared.answers.StopReason.TheVariants.{Interrupt, Trap}
 use Rattle.gdb_target.specs.Choices.{StopsAt, choices}
 use Rattle.gdb_target.specs.Found.{StandsFor}
+use Rattle.gdb_target.specs.Gone.{IsStepOver, gone_told}
 use Rattle.gdb_target.specs.LastHit.{GoesBackToLast}
 use Rattle.gdb_target.specs.LetRun.{lets}
 use Rattle.gdb_target.specs.Sent.{Sends, stop_told}
@@ -46,5 +46,6 @@ over r old mid new reason p note h k m text why lets_it stops same noted sent =
       sent = subst (λ (it : List ℕ). Appends h m (packet it ++ packet (stop_told new))) text (Appends-trans h k m (packet note) (packet (stop_told new)) noted told.1);
     }
 
-pub gone : (old mid : Target) (reason : StopReason) (p : ℕ) (h k : Option (List ℕ)) → reason ≡ Trap → StopsAt old reason p mid → Sends h k no_resumed → IsGoneTold old mid h k
-gone old mid reason p h k why stops sent = record { pid = p; stops = subst (λ (r : StopReason). StopsAt old r p mid) why stops; sent = sent }
+pub gone : (r : LetRun) (old mid : Target) (address : Option ℕ) (reason : StopReason) (p : ℕ) (h k : Option (List ℕ)) → IsStepOver r old address → reason ≡ Trap → StopsAt old reason p mid
+    → Sends h k (gone_told r address) → IsGoneTold r old mid h k
+gone r old mid address reason p h k over why stops sent = record { address = address; over = over; pid = p; stops = subst (λ (w : StopReason). StopsAt old w p mid) why stops; sent = sent }

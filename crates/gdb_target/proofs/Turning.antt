@@ -1,10 +1,10 @@
--- The events of a run, place by place.
-use Rattle.std.proofs.Common.{◌≡◌, ◌∙◌, ℕ, zero, suc, ◌+◌, ◌-◌, ◌*◌, ◌/◌, ◌%◌, ◌<◌, ◌≤◌, inl, inr, List}
-use Rattle.std.proofs.Common.{[], ◌∷◌, ◌++◌, refl, sym, ap, subst, arith, length, length-append, take, drop, drop-cons, get_or, append_assoc, append-nil, min}
+-- The events of rounds, place by place.
+use Rattle.std.proofs.Common.{◌≡◌, ◌∙◌, ℕ, ◌+◌, ◌-◌, ◌*◌, ◌/◌, ◌%◌, ◌<◌, ◌≤◌, List}
+use Rattle.std.proofs.Common.{[], ◌∷◌, ◌++◌, sym, ap, subst, arith, length, length-append, take, drop, drop-cons, get_or}
 use Rattle.std.specs.Prelude.{replicate}
-use Rattle.std.proofs.lemmas.Bool.{cases_lt, lt-ltb, le-ltb}
+use Rattle.std.proofs.lemmas.Bool.{lt-ltb, le-ltb}
 use Rattle.std.proofs.Math.Nat.{mul-le-mul_right}
-use Rattle.std.proofs.lemmas.List.{take-append-le, take_all, replicate-append-replicate, length-replicate, get_or-append-add, get_or-replicate}
+use Rattle.std.proofs.lemmas.List.{length-replicate, get_or-append-add, get_or-replicate}
 use Rattle.std.proofs.Math.ListN.{get_or-append}
 use Rattle.std.proofs.lemmas.Nat.{div-mul-add, mod-mul-add, div-add-mod', le-div}
 use Rattle.std.proofs.lemmas.Option.{unwrap_or-slice_get}
@@ -15,7 +15,7 @@ use Rattle.xv_machine.specs.Events.{event_of}
 use Rattle.xv_machine.specs.RoundParts.{events_of_part, events_of_parts}
 use Rattle.xv_machine.specs.declared.parts.RoundPart.{RoundPart}
 use Rattle.xv_machine.proofs.PlayedParts.{parts-more, parts-all, parts-around}
-use Rattle.gdb_target.specs.Rounds.{event_among, event_in, event_at, first_events, FirstOfFirst, MoreOfOneKind}
+use Rattle.gdb_target.specs.Rounds.{event_among, event_in, event_at}
 
 -- ---- the same round
 
@@ -94,7 +94,7 @@ module _ (parts : List RoundPart) (i : ℕ) (d : RoundPart) (below : i < length 
 pub parts-whole : (parts : List RoundPart) (i : ℕ) → length parts ≤ i → length (events_of_parts (take i parts)) ≡ length (events_of_parts parts)
 parts-whole parts i all = ap length (parts-all parts i all)
 
--- ---- a round among those of a run
+-- ---- a round among the others
 
 module _ (keys : List ℕ) (quantum place k : ℕ) (e : Event) where
   in-keyed : (long short key : ℕ) → place / long < length keys → place % long + k < long → key ≡ get_or keys (place / long) 0
@@ -142,42 +142,3 @@ module _ (keys : List ℕ) (quantum place k : ℕ) (e : Event) where
       let here : P (length keys) = λ late inside goes. in-unkeyed long short some late inside goes in
       let there : P n = subst P (sym is_n) here in
       with_lengths long short is_long is_short (there late inside goes)
-
--- ---- the first events
-
-length-first : (keys : List ℕ) (quantum n : ℕ) → length (first_events keys quantum n) ≡ n
-length-first keys quantum zero = refl
-length-first keys quantum (suc n) = omega (arith, length-append (first_events keys quantum n) (event_at keys quantum n ∷ []), length-first keys quantum n)
-
-take-nothing : (place : ℕ) → take {A = Event} place [] ≡ []
-take-nothing zero = refl
-take-nothing (suc n) = refl
-
-first-at : (keys : List ℕ) (quantum place count : ℕ) → take place (first_events keys quantum count) ≡ first_events keys quantum (min place count)
-first-at keys quantum place zero = let none : min place 0 ≡ 0 = omega arith in take-nothing place ∙ sym (ap (first_events keys quantum) none)
-first-at keys quantum place (suc n) =
-    elim (cases_lt place (suc n)) [
-      | inl within ↦
-          let inside : place ≤ length (first_events keys quantum n) = omega (arith, length-first keys quantum n) in
-          let same : min place n ≡ min place (suc n) = omega arith in
-          take-append-le place (first_events keys quantum n) (event_at keys quantum n ∷ []) inside ∙ first-at keys quantum place n ∙ ap (first_events keys quantum) same
-      | inr beyond ↦
-          let whole : length (first_events keys quantum (suc n)) ≤ place = omega (arith, length-first keys quantum (suc n)) in
-          let all : suc n ≡ min place (suc n) = omega arith in
-          take_all place (first_events keys quantum (suc n)) whole ∙ ap (first_events keys quantum) all
-    ]
-
-pub first-of-first : FirstOfFirst
-first-of-first keys quantum count place = first-at keys quantum place count
-
-pub more-of-one-kind : MoreOfOneKind
-more-of-one-kind keys quantum place zero e each = let here : place + 0 ≡ place = omega arith in ap (first_events keys quantum) here ∙ sym (append-nil (first_events keys quantum place))
-more-of-one-kind keys quantum place (suc n) e each =
-    let last : event_at keys quantum (place + n) ≡ e = each n (omega arith) in
-    let before : first_events keys quantum (place + n) ≡ first_events keys quantum place ++ replicate n e = more-of-one-kind keys quantum place n e (λ k h. each k (omega arith)) in
-    let next : place + suc n ≡ suc (place + n) = omega arith in
-    ap (first_events keys quantum) next ∙ ap (λ (xs : List Event). xs ++ event_at keys quantum (place + n) ∷ []) before
-    ∙ ap (λ (x : Event). (first_events keys quantum place ++ replicate n e) ++ x ∷ []) last
-    ∙ append_assoc (first_events keys quantum place) (replicate n e) (e ∷ [])
-    ∙ ap (λ (xs : List Event). first_events keys quantum place ++ xs)
-    (replicate-append-replicate n 1 e ∙ ap (λ (m : ℕ). replicate m e) (let one : n + 1 ≡ suc n = omega arith in one))

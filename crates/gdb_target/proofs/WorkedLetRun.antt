@@ -1,18 +1,14 @@
 -- Worked cases: whom GDB lets run, and whose stops it is told.
-use Rattle.std.proofs.Common.{◌≡◌, ℕ, List, ◌∷◌, [], Option, None, Some, false, true, refl}
+use Rattle.std.proofs.Common.{◌≡◌, None, Some, false, true, refl}
 use Rattle.std.specs.Prelude.{pos}
-use Rattle.kernel_spec.specs.runs.Run.{Step_of, Turn}
-use Rattle.kernel_spec.specs.steps.Own.{Stepped, Called, Blocked, Exited, Faulted}
+use Rattle.kernel_spec.specs.runs.Run.{Step_of}
+use Rattle.kernel_spec.specs.steps.Own.{Stepped, Exited, Faulted}
 use Rattle.xk_base.specs.declared.access.Cause.TheVariants.{LoadPageFault}
-use Rattle.gdb_packets.specs.Commands.{asked}
-use Rattle.gdb_packets.specs.declared.command.Command.TheVariants as on
-use Rattle.gdb_packets.specs.declared.command.Resume.TheVariants.{Continue, Step}
-use Rattle.gdb_packets.specs.declared.command.Thread.TheVariants as thread
 use Rattle.gdb_target.specs.Forth.{ends_alone}
 use Rattle.gdb_target.specs.LetRun.{if_let, lets, teller}
 use Rattle.gdb_target.specs.LastHit.{IsPointHit, let_run_of}
 use Rattle.gdb_target.specs.declared.let_run.LetRun.TheVariants.{All, Alone}
-use Rattle.gdb_target.specs.declared.reverse.Back.TheVariants.{StepOf, Point}
+use Rattle.gdb_target.specs.declared.reverse.Back.TheVariants.{StepOf}
 
 -- ---- whose stops are told
 

@@ -6,7 +6,7 @@ use Rattle.xv_session.specs.Answers.{Stopped}
 use Rattle.xv_session.specs.Stops.{is_before_stop}
 use Rattle.gdb_target.specs.Forth.{current_of, is_bare}
 use Rattle.gdb_target.specs.PlayedBy.{is_run}
-use Rattle.gdb_target.specs.Rounds.{event_at}
+use Rattle.gdb_target.specs.Plan.{planned_at}
 use Rattle.gdb_target.specs.declared.played.Played.{Played}
 use Rattle.gdb_target.specs.declared.points.Points.{Points}
 use Rattle.gdb_target.specs.declared.points.Watched.{Watched}
@@ -39,7 +39,7 @@ pub record RunsToStop (addresses bytes : List ℕ) (from : Played) (o : Outcome)
   pub met : Bool
   pub stopped : Stopped addresses bytes most sent met (Some o) from.session to.session
   -- they are the events of the run
-  pub runs : (k : ℕ) → k < sent → event_at from.rounds.keys.items from.rounds.quantum (length from.session.events + k) ≡ Run
+  pub runs : (k : ℕ) → k < sent → planned_at from.plan (length from.session.events + k) ≡ Run
 
 -- ---- where a row may start
 
@@ -55,5 +55,5 @@ starts_row AnyStep bytes t = false
 
 -- the next event is Run, and points are looked for
 abbrev pub looks_at_row : Back → (bytes : List ℕ) → Target → Bool
-looks_at_row (backs.Point let_run) bytes t = is_run (event_at t.run.rounds.keys.items t.run.rounds.quantum (length t.run.session.events)) && is_free bytes t
+looks_at_row (backs.Point let_run) bytes t = is_run (planned_at t.run.plan (length t.run.session.events)) && is_free bytes t
 looks_at_row (backs.StepOf p) bytes t = false

@@ -4,7 +4,7 @@ use Rattle.std.specs.List.{concat}
 use Rattle.std.specs.Int.{w32, to_le_bytes, cast_unsigned}
 use Rattle.std.specs.Io.KnownBytes.{Appends}
 use Rattle.hex.specs.Hex.{encode_lower}
-use Rattle.gdb_packets.specs.Answers.{exited, no_resumed, refusal}
+use Rattle.gdb_packets.specs.Answers.{exited, refusal}
 use Rattle.gdb_packets.specs.Commands.{asked}
 use Rattle.gdb_packets.specs.Packets.{packet}
 use Rattle.gdb_packets.specs.declared.answers.StopReason.{StopReason}
@@ -19,6 +19,7 @@ use Rattle.gdb_target.specs.Choices.{StopsAt, choices}
 use Rattle.gdb_target.specs.Chosen.{IsStepped, IsWay, chosen_to_run}
 use Rattle.gdb_target.specs.Found.{StandsFor}
 use Rattle.gdb_target.specs.Forth.{GoesBy, end_of}
+use Rattle.gdb_target.specs.Gone.{IsStepOver, gone_told}
 use Rattle.gdb_target.specs.LastHit.{GoesBackToLast}
 use Rattle.gdb_target.specs.LetRun.{lets}
 use Rattle.gdb_target.specs.SameRun.{beginning}
@@ -129,16 +130,18 @@ pub record IsOver (let_run : LetRun) (old new : Target) (before after : Option (
   pub stops : StopsAt old Interrupt pid new
   pub sent : Appends before after (packet (79 ∷ encode_lower (over_note old.most)) ++ packet (stop_told new))
 
--- Nobody is let run any more, which is told; the last stop is from now on of a process that lives, if any does
-pub record IsGoneTold (old new : Target) (before after : Option (List ℕ)) : Type 0 where
+-- Nobody is let run any more. That is told, or that the step which was waited for came to a breakpoint; the last stop is from now on of a process that lives, if any does
+pub record IsGoneTold (let_run : LetRun) (old new : Target) (before after : Option (List ℕ)) : Type 0 where
+  pub address : Option ℕ
+  pub over : IsStepOver let_run old address
   pub pid : ℕ
   pub stops : StopsAt old Trap pid new
-  pub sent : Sends before after no_resumed
+  pub sent : Sends before after (gone_told let_run address)
 
--- What is sent of a pause: the status of process 1; that nobody is let run any more; or the stop, which is the last one from now on
+-- What is sent of a pause: the status of process 1; that the process is gone that was let run alone; or the stop, which is the last one from now on
 abbrev pub IsPauseTold : LetRun → Option Pause → (old new : Target) (before after : Option (List ℕ)) → Type 0
 IsPauseTold let_run (Some (Ended status)) old new before after = (new ≡ old) × Sends before after (exited (low_byte status))
-IsPauseTold let_run (Some Gone) old new before after = IsGoneTold old new before after
+IsPauseTold let_run (Some Gone) old new before after = IsGoneTold let_run old new before after
 IsPauseTold let_run (Some (Stopped s)) old new before after = StopsAt old s.reason s.pid new × Sends before after (stop_told new)
 IsPauseTold let_run (Some Shows) old new before after = IsOver let_run old new before after
 IsPauseTold let_run None old new before after = IsOver let_run old new before after

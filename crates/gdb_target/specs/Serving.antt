@@ -2,13 +2,12 @@
 use Rattle.std.specs.Prelude.{◌≡◌, ◌⊎◌, ℕ, Bool, true, false, not, List, [], ◌∷◌, ◌++◌, Option, None, Some}
 use Rattle.std.specs.Io.KnownBytes.{Consumes, IsAtEnd}
 use Rattle.gdb_packets.specs.Commands.{asked}
-use Rattle.gdb_packets.specs.Packets.{Reading, fed, fed_all, packet, piece}
+use Rattle.gdb_packets.specs.Packets.{Reading, fed, fed_all, piece}
 use Rattle.gdb_packets.specs.declared.command.Command.{Command}
 use Rattle.gdb_packets.specs.declared.command.Command.TheVariants as on
 use Rattle.gdb_packets.specs.declared.reader.Phase.TheVariants.{Between}
 use Rattle.gdb_packets.specs.declared.reader.Piece.{Piece}
-use Rattle.gdb_packets.specs.declared.reader.Piece.TheVariants as pieces
-use Rattle.gdb_packets.specs.declared.reader.Piece.TheVariants.{Ack, Nak, Packet, Damaged}
+use Rattle.gdb_packets.specs.declared.reader.Piece.TheVariants.{Packet, Damaged}
 use Rattle.gdb_target.specs.Kept.{IsSentLast}
 use Rattle.gdb_target.specs.Served.{Takes}
 use Rattle.gdb_target.specs.declared.service.serving.After.{After}

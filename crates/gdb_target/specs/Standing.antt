@@ -8,7 +8,7 @@ use Rattle.kcall_core.specs.declared.kernel.observers.ProcessState.{ProcessState
 use Rattle.kcall_core.specs.declared.kernel.observers.ProcessState.TheVariants.{Live, Zombie}
 use Rattle.xv_session.specs.Names.{place_in}
 use Rattle.gdb_target.specs.PlayedBy.{is_run}
-use Rattle.gdb_target.specs.Rounds.{event_at}
+use Rattle.gdb_target.specs.Plan.{planned_at}
 use Rattle.gdb_target.specs.declared.played.Played.{Played}
 
 -- a process that is what this says does an instruction when it runs: it lives, is in no kernel call, and isn't to be killed
@@ -20,11 +20,11 @@ does_instruction (Some (Live parent marked (Some call) asleep)) = false
 
 -- The next event of the run is Run
 abbrev pub NextIsRun : Played → Type 0
-NextIsRun run = event_at run.rounds.keys.items run.rounds.quantum (length run.session.events) ≡ Run
+NextIsRun run = planned_at run.plan (length run.session.events) ≡ Run
 
 -- the next event is Run, and the machine hasn't halted
 abbrev pub goes_on : Played → Bool
-goes_on run = is_run (event_at run.rounds.keys.items run.rounds.quantum (length run.session.events)) && is_none run.session.machine.world.turns.halted
+goes_on run = is_run (planned_at run.plan (length run.session.events)) && is_none run.session.machine.world.turns.halted
 
 -- the process does an instruction by the next event, if it runs
 abbrev pub begins : Played → (p : ℕ) → Bool

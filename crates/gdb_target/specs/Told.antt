@@ -12,6 +12,13 @@ use Rattle.gdb_packets.specs.declared.command.Command.TheVariants as on
 use Rattle.gdb_packets.specs.declared.command.Thread.{Thread}
 use Rattle.gdb_packets.specs.declared.command.Thread.TheVariants.{All, Any, One}
 use Rattle.gdb_packets.specs.declared.query.Document.TheVariants.{File}
+use Rattle.gdb_packets.specs.declared.query.View.{View}
+use Rattle.gdb_packets.specs.declared.query.View.TheVariants.{Pages, Descriptors, Frames, Console, Events, Help}
+use Rattle.debug_views.specs.ConsoleText.{console_text}
+use Rattle.debug_views.specs.DescriptorText.{descriptors_shown}
+use Rattle.debug_views.specs.EventText.{IsEventsText}
+use Rattle.debug_views.specs.FrameText.{IsFramesText}
+use Rattle.debug_views.specs.PagesText.{IsPagesText}
 use Rattle.gdb_target.specs.Seen.{held, bytes_below, AreTheBytes, AreLive, AreAllLive, IsNoThread}
 use Rattle.gdb_target.specs.declared.target.Target.{Target}
 
@@ -50,6 +57,18 @@ LifeIsTold s All text = text ≡ codes "OK"
 LifeIsTold s Any text = text ≡ codes "OK"
 LifeIsTold s (One n) text = (IsSome (live s n) × (text ≡ codes "OK")) ⊎ (IsNoThread s n × (text ≡ refusal 3))
 
+-- what a view of the debugger shows: of the process that is looked at its pages and descriptors, and of the machine its frames, its console and its last events; help is a text of its own
+abbrev pub IsView : Target → View → List ℕ → Type 0
+IsView t Pages text = IsPagesText t.run.session t.looked_at 0 text
+IsView t Descriptors text = text ≡ descriptors_shown t.run.session t.looked_at
+IsView t Frames text = IsFramesText t.run.session None text
+IsView t Console text = text ≡ console_text (state_of t).console
+IsView t Events text = IsEventsText t.run.session None text
+IsView t Help text = Unit {0}
+
+abbrev pub ViewIsTold : Target → View → List ℕ → Type 0
+ViewIsTold t view text = (shown : List ℕ) × IsView t view shown × (text ≡ encode_lower shown)
+
 -- What is told in answer to a command
 abbrev pub IsTold : Target → Command → List ℕ → Type 0
 IsTold t on.Reason text = text ≡ stop_reply (record { reason = t.stopped.reason; thread = t.stopped.pid })
@@ -62,6 +81,7 @@ IsTold t on.CurrentThread text = text ≡ current_thread t.stopped.pid
 IsTold t on.FirstThreads text = ThreadsAreTold (state_of t) text
 IsTold t on.MoreThreads text = text ≡ codes "l"
 IsTold t (on.Part File offset size) text = text ≡ part_of (string_bytes t.path) offset size
+IsTold t (on.Monitor view) text = ViewIsTold t view text
 IsTold t on.Malformed text = text ≡ refusal 22
 IsTold t on.ResumeKinds text = text ≡ codes "vCont;c;C;s;S"
 IsTold t on.Offsets text = text ≡ codes "Text=0;Data=0;Bss=0"

@@ -384,6 +384,7 @@ impl Target {
                 offset,
                 length,
             } => self.tell_part(alloc, document, offset, length),
+            Command::Monitor(view) => self.tell_view(alloc, view),
             Command::Malformed => refusal(alloc, MALFORMED),
             Command::ThreadInfo(thread) => self.tell_words(alloc, thread),
             Command::ResumeKinds => text(alloc, b"vCont;c;C;s;S"),

@@ -1,11 +1,12 @@
 //! A run on its way.
-ghost use Rattle.std.specs.Prelude.{◌≡◌, ℕ, ◌+◌, ◌≤◌, ◌<◌, None, IfOk, IfErr, IfSome, IsSome, length, min};
+ghost use Rattle.std.specs.Prelude.{◌≡◌, ◌⊎◌, ℕ, ◌+◌, ◌≤◌, ◌<◌, None, IfOk, IfErr, IfSome, IsSome, length, max, min};
 ghost use Rattle.xv_machine.specs.Events.{event_of, outcome_of};
-ghost use Rattle.gdb_target.specs.Rounds.{event_at};
+ghost use Rattle.gdb_target.specs.Plan.{planned_at};
 ghost use Rattle.gdb_target.specs.PlayedBy.{IsPlayedBy, is_run};
 
 use crate::outcomes::came;
-use crate::rounds::{Next, Rounds};
+use crate::plan::Plan;
+use crate::rounds::Next;
 use std::alloc::Global;
 use xk_base::{BootError, Program};
 use xv_machine::{Config, Event, Machine, Outcome};
@@ -21,13 +22,13 @@ pub(crate) fn is_run(event: Event) -> bool
     }
 }
 
-/// A session whose machine gets the events of its rounds, and no other: at each place of the run the next event is
+/// A session whose machine gets the events of its plan, and no other: at each place of the run the next event is
 /// settled. So to go back and on again leads to the same.
 #[derive(Drop)]
 pub struct Played {
     pub session: Session,
-    pub rounds: Rounds,
-    ghost played: { IsPlayedBy rounds session },
+    pub plan: Plan,
+    ghost played: { IsPlayedBy plan session },
 }
 
 impl Played {
@@ -37,7 +38,7 @@ impl Played {
     ghost use Rattle.gdb_target.specs.Came.{Comes};
     ghost use Rattle.xv_session.specs.Stops.{is_before_stop};
     ghost use Rattle.gdb_target.specs.Rows.{RunsToStop};
-    ghost use Rattle.gdb_target.specs.SameRun.{beginning};
+    ghost use Rattle.gdb_target.specs.SameRun.{IsBeforeEnd, beginning};
     ghost use Rattle.gdb_target.specs.Standing.{NextIsRun};
 
     /// A run of these programs, which stands before its first event.
@@ -49,12 +50,13 @@ impl Played {
         alloc: Global,
         frames: u32,
         programs: Vec<Program>,
-        rounds: Rounds,
+        plan: Plan,
     ) -> Result<Played, BootError>
-        ensures { IfOk result (λ p. IsNew frames 0 (map named_file programs.items) p.session) }
+        ensures new { IfOk result (λ p. IsNew frames 0 (map named_file programs.items) p.session) }
+        ensures plan { IfOk result (λ p. p.plan ≡ plan) }
     {
         match Session::boot(alloc, Config { frames, trace: 0 }, programs) {
-            Ok(session) => Ok(Played { session, rounds }),
+            Ok(session) => Ok(Played { session, plan }),
             Err(error) => Err(error),
         }
     }
@@ -75,11 +77,11 @@ impl Played {
 
     /// What comes next, and how many of its kind.
     pub fn next(&self) -> Next
-        ensures event { event_at self.now.rounds.keys.items self.now.rounds.quantum (length self.now.session.events) ≡ event_of result.event }
-        ensures equal { (k : ℕ) → k < result.count → event_at self.now.rounds.keys.items self.now.rounds.quantum (length self.now.session.events + k) ≡ event_of result.event }
+        ensures event { planned_at self.now.plan (length self.now.session.events) ≡ event_of result.event }
+        ensures equal { (k : ℕ) → k < result.count → planned_at self.now.plan (length self.now.session.events + k) ≡ event_of result.event }
         ensures some { 0 < result.count }
     {
-        self.rounds.at(self.session.at())
+        self.plan.at(self.session.at())
     }
 
     /// Sends the next event, whatever it is, and tells what came of it.
@@ -162,6 +164,60 @@ impl Played {
             unreachable!();
         };
         Ok(outcome)
+    }
+
+    /// Sends some of the events that come before a place: one, or Runs in a row.
+    fn go_some(&mut self, place: u64) -> Result<(), SessionError>
+        requires { length self.old.session.events < place }
+        ensures more { IfOk result (λ _. length self.old.session.events < length self.new.session.events) }
+        ensures within { length self.new.session.events ≤ place }
+        ensures same { beginning self.new ≡ beginning self.old }
+    {
+        let next = self.next();
+        if !is_run(next.event) {
+            let _outcome = self.send()?;
+            return Ok(());
+        }
+        let most = (place - self.at()).min(u64::from(u32::MAX)) as u32;
+        let Some(_outcome) = self.run(most)? else {
+            unreachable!();
+        };
+        Ok(())
+    }
+
+    /// Goes back by one event, which ended process 1.
+    fn back_one(&mut self, alloc: Global) -> Result<(), SessionError>
+        requires some { 0 < length self.old.session.events }
+        requires ended { IsSome self.old.session.machine.world.turns.halted }
+        ensures before { IfOk result (λ _. IsBeforeEnd self.new) }
+        ensures within { length self.new.session.events ≤ length self.old.session.events }
+        ensures same { beginning self.new ≡ beginning self.old }
+    {
+        let place = self.at().saturating_sub(1);
+        self.back_to(alloc, place)?;
+        Ok(())
+    }
+
+    /// Goes on to a place of the run; but if process 1 ends before it, then only to the place before the event by which it
+    /// ends, since behind that nobody is left to be looked at. If the machine has got as many events or more, it stays
+    /// where it is.
+    ///
+    /// # Errors
+    ///
+    /// Those of [`Session::send`], and of [`Played::back_to`]: it stands at some place of the run, from which it can go on.
+    pub fn go_to(&mut self, alloc: Global, place: u64) -> Result<(), SessionError>
+        ensures there { IfOk result (λ _. (length self.new.session.events ≡ max place (length self.old.session.events)) ⊎ IsBeforeEnd self.new) }
+        ensures within { length self.new.session.events ≤ max place (length self.old.session.events) }
+        ensures same { beginning self.new ≡ beginning self.old }
+    {
+        'events: while self.at() < place {
+            self.go_some(place)?;
+            if self.machine().halted().is_some() {
+                self.back_one(alloc)?;
+                return Ok(());
+            }
+        }
+        Ok(())
     }
 
     /// Goes back to a place of the run: its machine is then what it was there. If it has got fewer events, it stays

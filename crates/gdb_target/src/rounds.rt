@@ -1,4 +1,4 @@
-//! Which events the machine gets.
+//! Rounds, which events are planned by.
 ghost use Rattle.std.specs.Prelude.{◌≡◌, ◌+◌, ◌<◌, ◌≤◌, ◌^◌, ℕ, length};
 ghost use Rattle.std.specs.Option.{option_to_list};
 ghost use Rattle.kernel_spec.specs.runs.Rounds.{round};
@@ -8,8 +8,8 @@ ghost use Rattle.xv_machine.specs.RoundParts.{events_of_parts};
 
 use xv_machine::{Event, RoundPart, round_parts};
 
-/// The events of a run: rounds, as in `xv_run`. A byte is typed in each round, until there is none left. So the event at
-/// each place of a run is settled from the start.
+/// Rounds, as in `xv_run`. A byte is typed in each round, until there is none left. So the event at each place of them is
+/// settled from the start.
 #[derive(Drop)]
 pub struct Rounds {
     /// The bytes that are typed, one a round.
@@ -18,7 +18,7 @@ pub struct Rounds {
     pub quantum: u32,
 }
 
-/// The event at a place of a run, and how many of its kind follow one another from it on in its round, it among them.
+/// The event at a place of a run, and a number of equal ones that follow one another from it on, it among them.
 #[derive(Clone, Copy)]
 pub struct Next {
     pub event: Event,
@@ -86,7 +86,7 @@ impl Rounds {
         Rounds { keys, quantum }
     }
 
-    /// What comes at a place of the run, 0 is the first event's, and how many equal events follow one another from
+    /// What comes at a place of the rounds, 0 is the first event's, and how many equal events follow one another from
     /// there on.
     pub(crate) fn at(&self, place: u64) -> Next
         ensures equal { (k : ℕ) → k < result.count → event_at self.now.keys.items self.now.quantum (place + k) ≡ event_of result.event }

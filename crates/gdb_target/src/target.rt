@@ -1,4 +1,4 @@
-//! What GDB debugs: a machine that goes on by its rounds.
+//! What GDB debugs: a machine that goes on by its plan.
 ghost use Rattle.std.specs.Prelude.{◌≡◌, ◌⊎◌, ◌+◌, ◌≤◌, ◌<◌, None, Some, false, true, IfOk, IfSome, IsSome, length, max};
 ghost use Rattle.kernel_spec.specs.views.State.{live};
 ghost use Rattle.xv_machine.specs.Events.{outcome_of};
@@ -178,8 +178,8 @@ fn or_shows(pause: Option<Pause>, shows: bool) -> Option<Pause>
 }
 
 impl Target {
-    /// A machine that was just booted, which stands before its first event. A command that goes on sends `most` events
-    /// at most.
+    /// A machine, at the place at which GDB begins. What the console showed before isn't told, unless the run begins anew.
+    /// A command that goes on sends `most` events at most.
     pub fn new(alloc: Global, run: Played, program: usize, path: String, most: u32) -> Target
         ensures run { result.run ≡ run }
         ensures program { result.program ≡ program }
@@ -187,6 +187,7 @@ impl Target {
         ensures most { result.most ≡ most }
     {
         let first = Pid::new(1);
+        let noted = run.at();
         Target {
             run,
             points: Points::new(alloc),
@@ -201,7 +202,7 @@ impl Target {
             },
             interrupted: false,
             shown: Vec::new(alloc),
-            noted: 0,
+            noted,
             told: None,
         }
     }

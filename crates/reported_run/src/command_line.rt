@@ -5,8 +5,9 @@ ghost use Rattle.reported_run.specs.Ranges.{AreInRange};
 use crate::NAME;
 use crate::line::{Settings, Telling};
 use program_files::{
-    CommandLine, CommandWord, FRAMES, QUANTUM, ROUNDS, TRACE, WordsError, given_words,
+    CommandLine, CommandWord, FRAMES, NumberOption, QUANTUM, ROUNDS, TRACE, WordsError, given_words,
 };
+use recorded_runs::{AT_WORD, REPLAY_WORD, replay_words};
 use run_work::BUDGET;
 use std::rt::Env;
 
@@ -19,11 +20,18 @@ const NOTES: &str = "notes";
 /// The word that names a table of lines.
 const LINES: &str = "lines";
 
+/// The options that a record tells itself.
+const TOLD_BY_RECORD: [&NumberOption; 3] = [&FRAMES, &ROUNDS, &QUANTUM];
+
 /// What stands below the list of options in the text of `--help`.
 const MORE_HELP: &str = "\
 It runs programs as xv_run does: the FILEs, the rounds, the keys from standard input, what goes to
 standard output, and the exit status are the same. With --budget a run that does more work is
 broken off, and the exit status is 6.
+
+With --replay it tells a record that a terminal has kept, by its programs among the FILEs, up to its
+end, or with --at up to its Nth event. The record has its frames, rounds and keys itself. If init is
+not gone at the end, the exit status is 4.
 
 On standard error it tells each fault as it comes: the process, what it was about to do and why it
 could not, its registers, and the calls that led there. At the end it tells of each process that
@@ -59,6 +67,8 @@ const COMMAND_LINE: CommandLine = CommandLine {
             value: "TABLE",
             help: "A file with rows PROGRAM ADDRESS LINE in decimal numbers, as ./xv --why makes it",
         },
+        REPLAY_WORD,
+        AT_WORD,
         CommandWord::Files,
     ],
 };
@@ -92,6 +102,7 @@ pub fn settings<R: Env + AllocGlobal>(rt: &R) -> Result<Settings, WordsError>
     let budget = given.number(&BUDGET)?;
     let telling = telling(given.flag(EXPLAIN), given.flag(NOTES));
     let lines = given.text(LINES)?;
+    let replay = replay_words(rt, &given, &TOLD_BY_RECORD)?;
     let files = given.files()?;
     Ok(Settings {
         frames,
@@ -101,6 +112,7 @@ pub fn settings<R: Env + AllocGlobal>(rt: &R) -> Result<Settings, WordsError>
         budget,
         telling,
         lines,
+        replay,
         files,
     })
 }

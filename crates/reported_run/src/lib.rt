@@ -7,22 +7,26 @@
 //! for `xv_picture`.
 #![tactic(auto)]
 
+ghost use Rattle.std.specs.Prelude.{IfOk};
 ghost use Rattle.run_work.specs.Runs.{IsRunStatus};
 
 mod command_line;
 mod ends;
 mod letters;
 mod line;
+mod replaying;
 mod running;
 mod stop;
 mod teller;
 mod watching;
 
+use crate::replaying::replay_with;
 use crate::running::run_with;
 use crate::teller::Teller;
 pub use command_line::settings;
 pub use line::Settings;
 use program_files::{Failure, line_table, programs};
+use recorded_runs::{RecordedFiles, Replay, record_of, recorded_files};
 use run_work::{Work, budget_of};
 use std::rt::Env;
 use xk_base::Program;
@@ -80,6 +84,60 @@ fn run(rt: &HostRuntime, settings: &Settings, known: KnownPrograms) -> u8
     )
 }
 
+/// Plays a record with the programs that the settings name, and gives the exit status.
+fn replay<'a>(
+    rt: &HostRuntime,
+    settings: &'a Settings,
+    asked: Replay<'a>,
+) -> Result<u8, Failure<'a>>
+    ensures { IfOk result (λ status. IsRunStatus status) }
+{
+    let given = settings.files.as_slice();
+    let made = programs(rt, given)?;
+    let table = line_table(rt, &settings.lines)?;
+    let record = record_of(rt, NAME, &asked)?;
+    let files = recorded_files(rt.alloc(), given, made, table.as_str(), &record)?;
+    let RecordedFiles {
+        programs,
+        paths,
+        lines,
+        table,
+    } = files;
+    let sources = Sources::of_files(rt, paths.as_slice(), lines, table.as_str())?;
+    let mut sink = Counted::new(rt.stdout());
+    let teller = Teller::new(rt.alloc(), rt.stderr(), sources, settings.telling);
+    Ok(replay_with(
+        rt.alloc(),
+        settings.trace,
+        Work::new(budget_of(settings.budget)),
+        programs,
+        &record,
+        &mut sink,
+        teller,
+    ))
+}
+
+/// Plays a record, if it and its programs can be had, and gives the exit status.
+fn replay_files<'a>(rt: &HostRuntime, settings: &'a Settings, asked: Replay<'a>) -> u8
+    ensures { IsRunStatus result }
+{
+    match replay(rt, settings, asked) {
+        Ok(status) => status,
+        Err(failure) => failure.close(NAME, &mut rt.stderr()),
+    }
+}
+
+/// Tells the run that the settings ask for, and gives the exit status.
+fn tell_asked(rt: &HostRuntime, settings: &Settings) -> u8
+    ensures { IsRunStatus result }
+{
+    match settings.replay.replay() {
+        Ok(Some(asked)) => replay_files(rt, settings, asked),
+        Ok(None) => run_files(rt, settings),
+        Err(refusal) => refusal.close(NAME, &mut rt.stderr()),
+    }
+}
+
 /// Runs the programs that the settings name, if they can be had, and gives the exit status.
 fn run_files(rt: &HostRuntime, settings: &Settings) -> u8
     ensures { IsRunStatus result }
@@ -95,7 +153,7 @@ pub fn run_and_tell<W: Env + AllocGlobal>(rt: &HostRuntime, words: &W) -> u8
     ensures { IsRunStatus result }
 {
     match settings(words) {
-        Ok(settings) => run_files(rt, &settings),
+        Ok(settings) => tell_asked(rt, &settings),
         Err(error) => error.close(NAME, &mut rt.stdout(), &mut rt.stderr()),
     }
 }

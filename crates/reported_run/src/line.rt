@@ -1,4 +1,5 @@
 //! What a command line asks for.
+use recorded_runs::ReplayWords;
 
 /// What is told of events as they come.
 #[derive(Clone, Copy, PartialEq, Eq)]
@@ -28,6 +29,8 @@ pub struct Settings {
     pub telling: Telling,
     /// The path of a table of lines.
     pub lines: Option<String>,
+    /// What is said of a record that is to be told, in place of a run in rounds.
+    pub replay: ReplayWords,
     /// The path of each FILE, in the order of the words: at least one.
     pub files: Vec<String>,
 }

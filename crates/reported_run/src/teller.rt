@@ -1,10 +1,12 @@
 //! What is told of a run while it goes on, and at its end.
-ghost use Rattle.std.specs.Prelude.{◌≡◌, [], true, false, option_map};
+ghost use Rattle.std.specs.Prelude.{◌≡◌, [], true, false, option_map, IfSome, Some};
+ghost use Rattle.call_reasons.specs.Last.{WasRefused};
 ghost use Rattle.kcall_core.specs.Observers.{registers_of};
 ghost use Rattle.program_files.specs.Failures.{failure_status};
 ghost use Rattle.program_files.specs.Statuses.{status_of};
 ghost use Rattle.xv_machine.specs.Events.{outcome_of};
 ghost use Rattle.reported_run.specs.Known.{known_of, learned, learned_by, runner_place, with_call};
+ghost use Rattle.recorded_runs.specs.Replays as replays;
 ghost use Rattle.reported_run.specs.Stops.{stop_status};
 
 use crate::NAME;
@@ -12,18 +14,23 @@ use crate::ends::{CallMade, Ends, Kill};
 use crate::letters::{Key, Letter};
 use crate::line::Telling;
 use crate::stop::Stop;
+use call_reasons::{REFUSED, Reason, reason_of_last};
 use program_files::{Failure, close_run, show_trace};
+use recorded_runs::{RecordEnd, close_record};
 use run_work::{Work, close_over_budget};
 use std::alloc::Global;
 use std::io::Write;
 use xk_base::Pid;
 use xk_base::limits::NPROC;
-use xv_machine::{DriveEnd, DriveError, Event, Outcome};
+use xv_machine::{DeviceFault, DriveEnd, DriveError, Event, Outcome};
 use xv_report::text::{Asleep, FaultText, KillText, Name, Place, RefusedText, WaitLine, Who};
 use xv_report::{
     FaultReport, Hint, Sources, call_name, cause_text, report_at, source_of, waits_for,
 };
 use xv_session::{Named, Runs, Session};
+
+/// The most events that are played again to tell why calls were refused.
+const PLAYED_AGAIN: u64 = 300_000_000;
 
 /// The process that runs, as it is before Runs are sent: behind them it may be gone.
 #[derive(Clone, Copy)]
@@ -54,6 +61,8 @@ pub(crate) struct Teller<E> {
     halted: bool,
     /// Kills and refused growths, which may be told of later ends.
     ends: Ends,
+    /// How many events may still be played again.
+    plays_left: u64,
 }
 
 /// The process that runs.
@@ -177,6 +186,7 @@ impl<E: Write> Teller<E> {
             idles: 0,
             halted: false,
             ends: Ends::new(alloc),
+            plays_left: PLAYED_AGAIN,
         }
     }
 
@@ -361,6 +371,46 @@ impl<E: Write> Teller<E> {
         self.close_idles();
     }
 
+    /// Why the call of a process was refused by the last event. None is told if too many events were played again for
+    /// reasons, or if the host has too little memory.
+    fn reason(&mut self, session: &Session, pid: Pid) -> Option<Reason>
+        ensures ends { self.new.ends ≡ self.old.ends }
+        ensures reason { IfSome result (λ reason. WasRefused session.now pid (Some reason)) }
+    {
+        if session.at() > self.plays_left {
+            return None;
+        }
+        self.plays_left -= session.at();
+        match reason_of_last(self.alloc, session, pid) {
+            Ok(reason) => reason,
+            Err(_) => None,
+        }
+    }
+
+    /// Tells why the call of a process was refused by the last event, if that is known.
+    fn explain_refusal(&mut self, session: &Session, pid: Pid)
+        ensures ends { self.new.ends ≡ self.old.ends }
+    {
+        if let Some(reason) = self.reason(session, pid) {
+            let _ = write!(self.errors, " ({reason})");
+        }
+    }
+
+    /// Tells in words what a call has answered, and why it was refused if it was.
+    fn explain_call(&mut self, session: &Session, pid: Pid, number: i32, value: i64)
+        ensures ends { self.new.ends ≡ self.old.ends }
+    {
+        let who = who(session, pid, session.program_of(pid));
+        let _ = match call_name(number) {
+            Some(name) => write!(self.errors, "{who}: {name} answers {value}"),
+            None => write!(self.errors, "{who}: call {number} answers {value}"),
+        };
+        if value == REFUSED {
+            self.explain_refusal(session, pid);
+        }
+        let _ = writeln!(self.errors);
+    }
+
     /// Tells what came of a Run, but a done instruction, in words.
     fn explain(&mut self, session: &Session, runner: &Runner, outcome: &Outcome)
         ensures ends { self.new.ends ≡ self.old.ends }
@@ -373,11 +423,7 @@ impl<E: Write> Teller<E> {
                 let _ = writeln!(self.errors, "{who} has its turn");
             }
             Outcome::Called { pid, number, value } => {
-                let who = who(session, *pid, session.program_of(*pid));
-                let _ = match call_name(*number) {
-                    Some(name) => writeln!(self.errors, "{who}: {name} answers {value}"),
-                    None => writeln!(self.errors, "{who}: call {number} answers {value}"),
-                };
+                self.explain_call(session, *pid, *number, *value)
             }
             Outcome::Blocked { pid, .. } => {
                 let who = who(session, *pid, session.program_of(*pid));
@@ -580,6 +626,14 @@ impl<E: Write> Teller<E> {
         ensures ends { self.new.ends ≡ self.old.ends }
     {
         close_run(NAME, end, &mut self.errors)
+    }
+
+    /// Writes the closing line of a record that was played and ended so, and gives the exit status.
+    pub fn say_record_end(&mut self, end: Result<RecordEnd, DeviceFault>) -> u8
+        ensures status { result ≡ replays.status_of end }
+        ensures ends { self.new.ends ≡ self.old.ends }
+    {
+        close_record(NAME, end, &mut self.errors)
     }
 
     /// Writes the closing line of a run that was broken off, and gives the exit status.

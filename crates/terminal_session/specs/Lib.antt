@@ -1,3 +1,4 @@
+pub mod Begun
 pub mod DebugSettings
 pub mod Lines
 pub mod Records

@@ -10,54 +10,18 @@ use crate::record_file::{HostFile, open_record};
 use crate::recording::head_of;
 use crate::telling::PLAYED_AGAIN;
 use program_files::exit_statuses::DEVICE_FAILED;
-use program_files::{Failure, FileRefusal, line_table, programs};
+use program_files::{Failure, line_table, programs};
+use recorded_runs::{Replay, record_of, recorded_programs};
 use std::alloc::Global;
-use std::fs;
-use std::io::{ErrorKind, Write};
+use std::io::Write;
 use std::time::Duration;
 use xk_base::{BootError, Program};
 use xv_debug::Debugger;
 use xv_live::{Recorder, Screen, Teller};
 use xv_machine::{ByteSink, Config, Counted};
-use xv_record::{Ending, Record, RecordError, Taken, chosen, take_record};
+use xv_record::Record;
 use xv_report::Sources;
 use xv_session::Session;
-
-// The file of this path isn't a record, for this reason.
-fn no_record(alloc: Global, path: &str, why: RecordError) -> Failure<'static> {
-    Failure::in_words(format!(in alloc; "{path}: {why}"))
-}
-
-// The record in the file of this path, as far as the file has it.
-fn record_in<'a>(rt: &HostRuntime, path: &'a str) -> Result<Taken, Failure<'a>> {
-    let text = match fs::read_to_string(rt, path) {
-        Ok(text) => text,
-        Err(error) if error.kind() == ErrorKind::OutOfMemory => return Err(Failure::OutOfMemory),
-        Err(error) if error.kind() == ErrorKind::InvalidData => {
-            return Err(no_record(rt.alloc(), path, RecordError::NotARecord));
-        }
-        Err(_) => return Err(Failure::File(FileRefusal::CannotBeRead(path))),
-    };
-    match take_record(rt.alloc(), text.as_str()) {
-        Ok(taken) => Ok(taken),
-        Err(error) => Err(no_record(rt.alloc(), path, error)),
-    }
-}
-
-// Says what is left out of the file of a record, if anything is.
-fn tell_ending<E: Write>(path: &str, ending: Ending, errors: &mut E) {
-    let _ = match ending {
-        Ending::Whole => Ok(()),
-        Ending::Cut => writeln!(
-            errors,
-            "{NAME}: {path}: cut off: it is played up to its last whole line"
-        ),
-        Ending::Longer => writeln!(
-            errors,
-            "{NAME}: {path}: what stands after its line `end` is left out"
-        ),
-    };
-}
 
 // A session of programs that was just booted.
 fn boot(
@@ -163,33 +127,33 @@ fn go_through<'a>(
     Ok(status_with(status, &recorder))
 }
 
-// Boots the machine that the settings ask for, and attends to it.
-fn begin<'a>(rt: &HostRuntime, settings: &'a Settings) -> Result<u8, Failure<'a>> {
+// Boots the machine that the settings ask for, and attends to it, or plays the record that is asked for.
+fn begin<'a>(
+    rt: &HostRuntime,
+    settings: &'a Settings,
+    asked: Option<Replay<'a>>,
+) -> Result<u8, Failure<'a>> {
     let files = settings.files.as_slice();
     let made = programs(rt, files)?;
-    let Some(path) = &settings.replay else {
+    let Some(asked) = asked else {
         let table = line_table(rt, &settings.lines)?;
         let sources = Sources::of_files(rt, files, made.lines, table.as_str())?;
         let mut debugger = Debugger::with_sources(sources);
         let mut session = boot(rt.alloc(), settings.frames, settings.trace, made.programs)?;
         return go_through(rt, &mut session, &mut debugger, settings, None);
     };
-    let Taken { record, ending } = record_in(rt, path.as_str())?;
-    tell_ending(path.as_str(), ending, &mut rt.stderr());
-    begin_record(rt, settings, made.programs, &record)
+    let record = record_of(rt, NAME, &asked)?;
+    begin_record(rt, settings, made.programs.as_slice(), &record)
 }
 
 // Boots the machine that was recorded, and plays its record.
 fn begin_record<'a>(
     rt: &HostRuntime,
     settings: &'a Settings,
-    programs: Vec<Program>,
+    programs: &[Program],
     record: &Record,
 ) -> Result<u8, Failure<'a>> {
-    let programs = match chosen(rt.alloc(), programs.as_slice(), record.programs.as_slice()) {
-        Ok(programs) => programs,
-        Err(why) => return Err(Failure::in_words(format!(in rt.alloc(); "{why}"))),
-    };
+    let programs = recorded_programs(rt.alloc(), programs, record)?;
     let mut session = boot(rt.alloc(), record.frames, settings.trace, programs)?;
     go_through(
         rt,
@@ -202,7 +166,11 @@ fn begin_record<'a>(
 
 /// Does what the settings ask for, and gives the exit status.
 pub fn run(rt: &HostRuntime, settings: &Settings) -> u8 {
-    match begin(rt, settings) {
+    let asked = match settings.replay.replay() {
+        Ok(asked) => asked,
+        Err(refusal) => return refusal.close(NAME, &mut rt.stderr()),
+    };
+    match begin(rt, settings, asked) {
         Ok(status) => status,
         Err(failure) => failure.close(NAME, &mut rt.stderr()),
     }

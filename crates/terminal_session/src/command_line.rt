@@ -7,6 +7,7 @@ use crate::line::Settings;
 use program_files::{
     CommandLine, CommandWord, FRAMES, NumberOption, TRACE, WordsError, given_words,
 };
+use recorded_runs::{AT_WORD, REPLAY_WORD, replay_words};
 use std::rt::Env;
 
 /// `--tick`: the time of a tick.
@@ -54,11 +55,8 @@ const COMMAND_LINE: CommandLine = CommandLine {
             name: "overwrite",
             help: "The record's file may be written over",
         },
-        CommandWord::Text {
-            name: "replay",
-            value: "PATH",
-            help: "Plays the record of this file",
-        },
+        REPLAY_WORD,
+        AT_WORD,
         CommandWord::Text {
             name: "lines",
             value: "PATH",
@@ -100,7 +98,7 @@ pub fn settings<R: Env + AllocGlobal>(rt: &R) -> Result<Settings, WordsError>
         tick,
         record: given.text("record")?,
         overwrite: given.flag("overwrite"),
-        replay: given.text("replay")?,
+        replay: replay_words(rt, &given, &[])?,
         lines: given.text("lines")?,
         terminal: given.flag("terminal"),
         woken: given.flag("woken"),

@@ -4,8 +4,10 @@
 //!
 //! What a word does to the machine is promised by `xv_debug`, and that nothing else is done to it by `Converses` of its
 //! `specs/Conversations.antt`. The answers' text is compared with stored sessions (`checks/debugger`).
-ghost use Rattle.std.specs.Prelude.{◌≡◌, IfOk};
+ghost use Rattle.std.specs.Prelude.{◌≡◌, [], IfOk, map};
 ghost use Rattle.program_files.specs.Statuses.{IsPlainStatus};
+ghost use Rattle.xv_record.specs.Told.{program_told, told_program};
+ghost use Rattle.terminal_session.specs.Begun.{IsBegunBy, IsOfRecord};
 
 mod command_line;
 mod conversation;
@@ -13,10 +15,15 @@ mod conversation;
 use crate::debugging::command_line::{Settings, read_settings};
 use crate::debugging::conversation::Conversation;
 use program_files::exit_statuses::DONE;
-use program_files::{Failure, line_table, programs};
+use program_files::{Failure, line_table, programs, put};
+use recorded_runs::{RecordedFiles, Replay, play_quietly, record_of, recorded_files};
+use std::alloc::Global;
+use std::io::Write;
 use std::rt::Env;
+use xk_base::Program;
 use xv_debug::Debugger;
 use xv_machine::Config;
+use xv_record::Record;
 use xv_report::Sources;
 use xv_session::Session;
 
@@ -24,8 +31,9 @@ use xv_session::Session;
 const NAME: &str = "xv_debugger";
 
 /// A conversation about a machine of the settings, which has got no event yet.
-fn begun<'a>(rt: &HostRuntime, settings: &'a Settings) -> Result<Conversation, Failure<'a>>
-    ensures { IfOk result (λ c. c.debugger.quantum ≡ settings.now.quantum) }
+fn begun_anew<'a>(rt: &HostRuntime, settings: &'a Settings) -> Result<Conversation, Failure<'a>>
+    ensures quantum { IfOk result (λ c. c.debugger.quantum ≡ settings.now.quantum) }
+    ensures events { IfOk result (λ c. c.session.events ≡ []) }
 {
     let files = settings.files.as_slice();
     let made = programs(rt, files)?;
@@ -43,9 +51,111 @@ fn begun<'a>(rt: &HostRuntime, settings: &'a Settings) -> Result<Conversation, F
     })
 }
 
+/// A session of the machine that was recorded, which has got just the events of the record.
+fn led(
+    alloc: Global,
+    trace: u32,
+    programs: Vec<Program>,
+    kept: &Record,
+) -> Result<Session, Failure<'static>>
+    requires { map program_told programs.items ≡ map told_program kept.now.programs.items }
+    ensures { IfOk result (IsOfRecord kept.now) }
+{
+    let config = Config {
+        frames: kept.frames,
+        trace,
+    };
+    let mut session = Session::boot(alloc, config, programs)?;
+    play_quietly(&mut session, kept.events.as_slice())?;
+    Ok(session)
+}
+
+/// A conversation about the machine that was recorded, which has got just the events of the record.
+fn begun_by<'a>(
+    rt: &HostRuntime,
+    settings: &'a Settings,
+    kept: &Record,
+) -> Result<Conversation, Failure<'a>>
+    ensures quantum { IfOk result (λ c. c.debugger.quantum ≡ settings.now.quantum) }
+    ensures led { IfOk result (λ c. IsOfRecord kept.now c.session) }
+{
+    let given = settings.files.as_slice();
+    let made = programs(rt, given)?;
+    let table = line_table(rt, &settings.lines)?;
+    let files = recorded_files(rt.alloc(), given, made, table.as_str(), kept)?;
+    let RecordedFiles {
+        programs,
+        paths,
+        lines,
+        table,
+    } = files;
+    let sources = Sources::of_files(rt, paths.as_slice(), lines, table.as_str())?;
+    let session = led(rt.alloc(), settings.trace, programs, kept)?;
+    Ok(Conversation {
+        session,
+        debugger: Debugger::alone(sources, settings.quantum),
+        prompt: settings.prompt,
+    })
+}
+
+/// A conversation about a machine of the settings that has got no event yet; or, if a record is given, about the machine
+/// that was recorded, which has got just the events of the record.
+fn begun<'a>(
+    rt: &HostRuntime,
+    settings: &'a Settings,
+    kept: &Option<Record>,
+) -> Result<Conversation, Failure<'a>>
+    ensures quantum { IfOk result (λ c. c.debugger.quantum ≡ settings.now.quantum) }
+    ensures begun { IfOk result (λ c. IsBegunBy kept.now c.session) }
+{
+    match kept {
+        Some(kept) => begun_by(rt, settings, kept),
+        None => begun_anew(rt, settings),
+    }
+}
+
+/// The record that is asked for, if one is.
+fn record_asked<'a>(
+    rt: &HostRuntime,
+    asked: Option<Replay<'a>>,
+) -> Result<Option<Record>, Failure<'a>> {
+    match asked {
+        Some(asked) => Ok(Some(record_of(rt, NAME, &asked)?)),
+        None => Ok(None),
+    }
+}
+
+/// Tells how many events of a record are played, if one is.
+fn tell_played<W: Write>(
+    alloc: Global,
+    session: &Session,
+    path: &Option<String>,
+    output: &mut W,
+) -> Result<(), Failure<'static>> {
+    let Some(path) = path else {
+        return Ok(());
+    };
+    let (events, path) = (session.at(), path.as_str());
+    let text = format!(in alloc;
+        "{events} events of {path} are played: the machine stands after them.\n"
+    )?;
+    put(output, text.as_str().as_bytes())
+}
+
 /// Boots a machine of the settings, and does what the words of standard input say.
-fn converse<'a>(rt: &HostRuntime, settings: &'a Settings) -> Result<(), Failure<'a>> {
-    let mut conversation = begun(rt, settings)?;
+fn converse<'a>(
+    rt: &HostRuntime,
+    settings: &'a Settings,
+    asked: Option<Replay<'a>>,
+) -> Result<(), Failure<'a>> {
+    let record = record_asked(rt, asked)?;
+    let mut conversation = begun(rt, settings, &record)?;
+    tell_played(
+        rt.alloc(),
+        &conversation.session,
+        &settings.replay.path,
+        &mut rt.stdout(),
+    )?;
     conversation.converse(rt.alloc(), &mut rt.stdin().reader(), &mut rt.stdout())
 }
 
@@ -53,7 +163,11 @@ fn converse<'a>(rt: &HostRuntime, settings: &'a Settings) -> Result<(), Failure<
 fn debug(rt: &HostRuntime, settings: &Settings) -> u8
     ensures { IsPlainStatus result }
 {
-    match converse(rt, settings) {
+    let asked = match settings.replay.replay() {
+        Ok(asked) => asked,
+        Err(refusal) => return refusal.close(NAME, &mut rt.stderr()),
+    };
+    match converse(rt, settings, asked) {
         Ok(()) => DONE,
         Err(failure) => failure.close(NAME, &mut rt.stderr()),
     }

@@ -1,4 +1,5 @@
 //! What a command line asks for.
+use recorded_runs::ReplayWords;
 
 /// What the words of a command line ask for.
 #[derive(Drop)]
@@ -13,8 +14,8 @@ pub struct Settings {
     pub record: Option<String>,
     /// Whether that file may be written over, if it has bytes.
     pub overwrite: bool,
-    /// The path of the record that is played.
-    pub replay: Option<String>,
+    /// What is said of a record that is to be played.
+    pub replay: ReplayWords,
     /// The path of a table of lines.
     pub lines: Option<String>,
     /// Whether standard input is a terminal whose reads answer at once.

@@ -1,5 +1,5 @@
 -- Lines, one after another.
-use Rattle.std.proofs.Common.{◌≡◌, ◌⊎◌, ℕ, Bool, suc, inl, inr, refl, subst}
+use Rattle.std.proofs.Common.{◌≡◌, ◌⊎◌, ℕ, Bool, suc, inr, refl, subst}
 use Rattle.xv_session.specs.Recorded.{Recorded}
 use Rattle.xv_debug.specs.Conversations.{Converses, MovesByWord}
 use Rattle.xv_debug.specs.Effects.{DoesSome, Obeys}

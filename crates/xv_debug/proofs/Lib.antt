@@ -17,3 +17,4 @@ pub mod Unmet
 mod WorkedAnswers
 mod WorkedClock
 mod WorkedMarks
+mod WorkedReasons

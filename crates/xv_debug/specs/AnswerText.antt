@@ -1,5 +1,5 @@
 -- What the answer to a word tells: what the word did, and where the run is then; or what it looks at.
-use Rattle.std.specs.Prelude.{◌≡◌, ◌⊎◌, ◌-◌, ℕ, Bool, false, List, [], ◌++◌, map, take, length, min, replicate, Option, None, Some, IfSome}
+use Rattle.std.specs.Prelude.{◌≡◌, ◌⊎◌, ◌-◌, ◌<◌, ◌≤◌, ℕ, Bool, false, List, [], ◌++◌, map, take, length, min, replicate, Option, None, Some, IfSome}
 use Rattle.circular_buffer.specs.Buffer.{buffer}
 use Rattle.kernel_spec.specs.runs.Run as runs
 use Rattle.kernel_spec.specs.runs.Run.{Event, Outcome}
@@ -9,7 +9,7 @@ use Rattle.xv_session.specs.declared.session.PlayError.{PlayError}
 use Rattle.xv_session.specs.declared.until.Condition.TheVariants.{Fault}
 use Rattle.debug_words.specs.declared.vocabulary.Goal.{Goal}
 use Rattle.debug_words.specs.declared.vocabulary.Word.{Word}
-use Rattle.debug_words.specs.declared.vocabulary.Word.TheVariants.{Step, Next, Back, BackUntil, Until, Run, Tick, Key, Send, ToMark, Finish}
+use Rattle.debug_words.specs.declared.vocabulary.Word.TheVariants.{Step, Next, Back, Goto, BackUntil, Until, Run, Tick, Key, Send, ToMark, Finish}
 use Rattle.debug_views.specs.Written.{Writes}
 use Rattle.xv_debug.specs.motion.Aims.{aim_in}
 use Rattle.xv_report.specs.declared.sources.Sources.{Sources}
@@ -23,15 +23,16 @@ use Rattle.xv_debug.specs.declared.motion.output.Output.{Output}
 use Rattle.xv_debug.specs.Effects.{IsAimOf, Plays, Searches, SendsFirst, Steps}
 use Rattle.xv_debug.specs.LookText.{Shows}
 use Rattle.xv_debug.specs.OutputText.{output_text}
-use Rattle.xv_debug.specs.StopText.{back_text, journey_text, never, no_return, unplayed_text}
+use Rattle.xv_debug.specs.ReasonText.{IsReasonText}
+use Rattle.xv_debug.specs.StopText.{ahead_text, back_text, journey_text, never, no_return, unplayed_text}
 use Rattle.xv_debug.specs.WhereText.{IsWhereOf, nobody}
 
 -- ---- words that send events
 
--- How many events were sent, what came of the last, and why no more; what the console showed of them; and where the run is now
+-- How many events were sent, what came of the last, and why no more; why the last was a refused call; what the console showed of them; and where the run is now
 abbrev pub IsSentText : Word → Recorded → (sent : ℕ) → Stop → Option Outcome → (shown : List ℕ) → List ℕ → Type 0
 IsSentText word s sent stop o shown text =
-    (rest : List ℕ) × IsWhereOf s None rest × (text ≡ journey_text word sent stop o ++ (shown ++ rest))
+    (why : List ℕ) × IsReasonText s o why × ((rest : List ℕ) × IsWhereOf s None rest × (text ≡ journey_text word sent stop o ++ (why ++ (shown ++ rest))))
 
 abbrev pub StepTells : (may_end : Bool) → Word → (count : ℕ) → (old new : Recorded) → (before after : List ℕ) → Type 0
 StepTells may_end word count old new before after = (d : Steps may_end count old new) × Writes before after (IsSentText word new d.sent d.stop d.last [])
@@ -80,6 +81,11 @@ abbrev pub BackTells : (may_end : Bool) → (count : ℕ) → (old new : Recorde
 BackTells may_end count old new before after =
     (WentBack (length old.events - count) old new × Writes before after (IsBackText new (min count (length old.events)))) ⊎ StaysTelling may_end old new before after
 
+-- It has gone back to the place after so many events, and tells by how many; or how many there are, if there are fewer
+pub record GotoTells (may_end : Bool) (place : ℕ) (old new : Recorded) (before after : List ℕ) : Type 0 where
+  pub back : place ≤ length old.events → BackTells may_end (length old.events - place) old new before after
+  pub ahead : length old.events < place → (new ≡ old) × (after ≡ before ++ ahead_text (length old.events))
+
 -- it tells by how many events, or that there is no such place; or it stays
 abbrev pub IsBackUntilText : Recorded → (taken : Option ℕ) → List ℕ → Type 0
 IsBackUntilText s None text = text ≡ never
@@ -111,4 +117,5 @@ Answers known may_end quantum shown (ToMark marks) old new before after = Search
 Answers known may_end quantum shown Finish old new before after = FinishTells known may_end quantum Finish old new before after
 Answers known may_end quantum shown (BackUntil goal) old new before after = SeekBackTells may_end goal old new before after
 Answers known may_end quantum shown (Back count) old new before after = BackTells may_end count old new before after
+Answers known may_end quantum shown (Goto place) old new before after = GotoTells may_end place old new before after
 Answers known may_end quantum shown word old new before after = Shows shown old word before after

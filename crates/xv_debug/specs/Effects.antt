@@ -9,7 +9,7 @@ use Rattle.debug_words.specs.declared.vocabulary.TheConstants.{EVENTS_MOST}
 use Rattle.debug_words.specs.declared.vocabulary.Goal.{Goal}
 use Rattle.debug_words.specs.declared.vocabulary.Goal.TheVariants.{Call, Pc, Store, Fault, Exit, Line}
 use Rattle.debug_words.specs.declared.vocabulary.Word as words
-use Rattle.debug_words.specs.declared.vocabulary.Word.TheVariants.{Step, Next, Back, BackUntil, Until, Run, Tick, Key, Send, ToMark, Finish, Continue, Quit}
+use Rattle.debug_words.specs.declared.vocabulary.Word.TheVariants.{Step, Next, Back, Goto, BackUntil, Until, Run, Tick, Key, Send, ToMark, Finish, Continue, Quit}
 use Rattle.debug_words.specs.Ranges.{IsInRange}
 use Rattle.xv_debug.specs.motion.Aims.{aim_in}
 use Rattle.xv_report.specs.declared.sources.Sources.{Sources}
@@ -113,6 +113,11 @@ pub record Plays (may_end : Bool) (quantum : ℕ) (most : ℕ) (old new : Record
 abbrev pub GoesBack : (count : ℕ) → Recorded → Recorded → Type 0
 GoesBack count old new = (new ≡ old) ⊎ WentBack (length old.events - count) old new
 
+-- It has gone back to the place after so many events; it is as it was, if there were fewer, or if it was broken off, or the host had too little memory
+pub record GoesTo (place : ℕ) (old new : Recorded) : Type 0 where
+  pub back : place ≤ length old.events → GoesBack (length old.events - place) old new
+  pub ahead : length old.events < place → new ≡ old
+
 -- It has gone back to the last Run that was this aim, if there is one
 abbrev pub GoesBackTo : Option Aim → Recorded → Recorded → Type 0
 GoesBackTo None old new = new ≡ old
@@ -134,6 +139,7 @@ Does may_end quantum (Tick count) old new = SendsFirst may_end (λ n. replicate 
 Does may_end quantum (Send count) old new = SendsFirst may_end (λ n. replicate n runs.Send) count old new
 Does may_end quantum (Key keys) old new = SendsFirst false (λ n. map runs.Key (take n keys.items)) (length keys.items) old new
 Does may_end quantum (Back count) old new = GoesBack count old new
+Does may_end quantum (Goto place) old new = GoesTo place old new
 Does may_end quantum (BackUntil goal) old new = SeeksBack goal old new
 Does may_end quantum (ToMark marks) old new = Searches may_end quantum (met_from old (On waits_for.Fault) marks.items) old new
 Does may_end quantum Finish old new = Finishes may_end quantum old new

@@ -11,5 +11,6 @@ pub mod OutputText
 pub mod Pipes
 pub mod PipeText
 pub mod ProcessText
+pub mod ReasonText
 pub mod StopText
 pub mod WhereText

@@ -74,6 +74,10 @@ no_return = codes "no process runs whose function has a known return address: bt
 abbrev pub back_text : (taken : ℕ) → List ℕ
 back_text taken = many taken (codes "event") ++ codes " back\n"
 
+-- where a run hasn't so many events
+abbrev pub ahead_text : (at : ℕ) → List ℕ
+ahead_text at = codes "the run has " ++ many at (codes "event") ++ codes ": until, c and run go on\n"
+
 -- why a word didn't go back
 abbrev pub unplayed_text : PlayError → List ℕ
 unplayed_text unplayed.Broken = codes "it was broken off, and nothing is changed\n"

@@ -15,8 +15,9 @@ use crate::motion::{self, Aim, Journey, Output};
 use crate::names::Known;
 use crate::pipes::show_pipes;
 use crate::processes::{show_process, show_processes, show_where};
+use crate::reasons::show_reason;
 use crate::shown_output::show_output;
-use crate::stops::{show_sent, show_unplayed};
+use crate::stops::{show_ahead, show_sent, show_unplayed};
 use debug_views::{show_console, show_events, show_frames, show_memory, show_trace, show_value};
 use debug_words::texts::Many;
 use debug_words::{
@@ -154,9 +155,9 @@ impl Debugger {
     ghost use Rattle.xv_debug.specs.motion.Reaching.{met_from};
     ghost use Rattle.debug_views.specs.MemoryText.{memory_shown};
     ghost use Rattle.debug_views.specs.Written.{Writes};
-    ghost use Rattle.xv_debug.specs.AnswerText.{Answers, BackTells, BackUntilTells, FinishTells, GoalTells, IsBackText};
+    ghost use Rattle.xv_debug.specs.AnswerText.{Answers, BackTells, BackUntilTells, FinishTells, GoalTells, GotoTells, IsBackText};
     ghost use Rattle.xv_debug.specs.AnswerText.{IsSentText, RoundsTell, SearchTells, SeekBackTells, SendsTell, StepTells};
-    ghost use Rattle.xv_debug.specs.Effects.{Does, DoesOrStays, DoesSome, Finishes, GoesBack, IsAimOf, Obeys, Plays, Searches, SearchesGoal, SeeksBack, SendsFirst, Steps, next_of};
+    ghost use Rattle.xv_debug.specs.Effects.{Does, DoesOrStays, DoesSome, Finishes, GoesBack, GoesTo, IsAimOf, Obeys, Plays, Searches, SearchesGoal, SeeksBack, SendsFirst, Steps, next_of};
     ghost use Rattle.xv_debug.specs.Kept.{IsToMarks, goes_to_none, left_after, marks_of};
     ghost use Rattle.xv_debug.specs.LookText.{IsOfFocus, Shows};
     ghost use Rattle.xv_debug.specs.Focus.{IsSourceLookedAt};
@@ -390,6 +391,7 @@ impl Debugger {
     {
         match word {
             Word::Back { count } => self.go_back(alloc, session, *count, patience, answer),
+            Word::Goto { place } => self.go_to(alloc, session, *place, patience, answer),
             Word::BackUntil(goal) => self.seek_back(alloc, session, goal, patience, answer),
             Word::Step { count } => self.step(alloc, session, word, *count, patience, answer),
             Word::Next => self.next(alloc, session, word, patience, answer),
@@ -460,6 +462,27 @@ impl Debugger {
             Ok(taken) => self.tell_back(alloc, session, taken, answer),
             Err(error) => show_unplayed(&error, answer),
         }
+    }
+
+    /// Goes back to the place after so many events, and tells where that is; if there are fewer, it tells how many.
+    fn go_to<P: Patience>(
+        &self,
+        alloc: Global,
+        session: &mut Session,
+        place: u64,
+        patience: &mut P,
+        answer: &mut String,
+    ) -> Result<(), AllocError>
+        ensures done { GoesTo place session.old session.new }
+        ensures told { OnOk result
+            (GotoTells P.may_end place session.old session.new
+            (string_bytes answer.old) (string_bytes answer.new)) }
+    {
+        let at = session.at();
+        if at < place {
+            return show_ahead(at, answer);
+        }
+        self.go_back(alloc, session, at - place, patience, answer)
     }
 
     /// Tells that it went back by so many events, and where that is.
@@ -757,6 +780,7 @@ impl Debugger {
             (option_map outcome_of journey.now.last) [])) }
     {
         show_sent(word, journey, answer)?;
+        show_reason(alloc, session, &journey.last, answer)?;
         self.show_focus(alloc, session, None, 1, answer)
     }
 
@@ -776,6 +800,7 @@ impl Debugger {
             (option_map outcome_of journey.now.last) (output_text output.now))) }
     {
         show_sent(word, journey, answer)?;
+        show_reason(alloc, session, &journey.last, answer)?;
         show_output(output, answer)?;
         self.show_focus(alloc, session, None, 1, answer)
     }

@@ -20,6 +20,7 @@ mod motion;
 mod names;
 mod pipes;
 mod processes;
+mod reasons;
 mod shown_output;
 mod stops;
 mod waits;

@@ -1,7 +1,7 @@
 //! What a word has sent, and why no more, in words.
 ghost use Rattle.std.specs.Prelude.{◌≡◌, ◌++◌, OnOk, option_map, string_bytes};
 ghost use Rattle.xv_machine.specs.Events.{outcome_of};
-ghost use Rattle.xv_debug.specs.StopText.{asleep_text, broken_text, done_text, last_text, met_text, not_yet, refusal_text, stop_text, told_journey, unplayed_text};
+ghost use Rattle.xv_debug.specs.StopText.{ahead_text, asleep_text, broken_text, done_text, last_text, met_text, not_yet, refusal_text, stop_text, told_journey, unplayed_text};
 
 use crate::happened::Happened;
 use crate::motion::{Journey, Stop};
@@ -106,6 +106,14 @@ pub(crate) fn show_sent(
     write!(answer, "{sent}")?;
     show_last(&journey.last, answer)?;
     show_stop(word, &journey.stop, answer)
+}
+
+/// Writes that a run has only so many events.
+pub(crate) fn show_ahead(at: u64, answer: &mut String) -> Result<(), AllocError>
+    ensures { OnOk result (string_bytes answer.new ≡ string_bytes answer.old ++ ahead_text at) }
+{
+    let events = Many(at, "event");
+    writeln!(answer, "the run has {events}: until, c and run go on")
 }
 
 /// Writes why the session took no more events.

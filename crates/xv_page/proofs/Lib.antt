@@ -1,2 +1,3 @@
 pub mod Starved
 pub mod Uses
+pub mod WorkedVariables

@@ -6,3 +6,5 @@ pub mod Calls
 pub mod Tables
 pub mod Texts
 pub mod Reports
+pub mod Reasons
+pub mod Variables

@@ -14,9 +14,11 @@ mod lines;
 mod named;
 mod outcomes;
 mod reading;
+mod reasons;
 mod reports;
 mod root;
 mod texts;
+mod variables;
 mod views;
 mod writing;
 

@@ -2,10 +2,13 @@
 //!
 //! The host keeps the place of what is known of the programs' sources, 8 bytes that are 0 before the first one, and
 //! gives it with each call. A text is laid into the host's room, if it fits, and its length is told.
-ghost use Rattle.std.specs.Prelude.{◌≡◌, IfOk, [], option_map};
+ghost use Rattle.std.specs.Prelude.{◌≡◌, IfErr, IfOk, [], option_map};
+ghost use Rattle.std.specs.String.{string_bytes};
 ghost use Rattle.uasm_core.specs.LineTable.{table_seen};
 ghost use Rattle.xv_page.specs.Booting.{held};
 ghost use Rattle.xv_page.specs.Named.{both, pid_named, cause_named};
+ghost use Rattle.xv_page.specs.Reasons.{IsTold};
+ghost use Rattle.xv_page.specs.declared.answers.Answer.TheVariants.{Memory};
 ghost use Rattle.xv_page.specs.Reports.{known, symbols_in, tables_in, IsAssembledOf, IsLinesOf, Begins, Adds, AddedTo, SourceAdded};
 ghost use Rattle.xv_page.specs.Reports.{TextTold, TellsOf, ReportNow, FaultTold};
 
@@ -140,8 +143,10 @@ fn known(sources: &Option<Box<Sources>>) -> Option<&Sources> {
 }
 
 /// Lays a text into a room, and tells its length.
-fn laid(text: Result<String, AllocError>, told: &mut u64, room: &mut [u8]) -> Answer
-    ensures { TextTold result (told.old, room.old) (told.new, room.new) }
+pub(crate) fn laid(text: Result<String, AllocError>, told: &mut u64, room: &mut [u8]) -> Answer
+    ensures told { TextTold result (told.old, room.old) (told.new, room.new) }
+    ensures just { IfOk text (λ text. IsTold (string_bytes text) result (told.old, room.old) (told.new, room.new)) }
+    ensures none { IfErr text (λ _. (result ≡ Memory) × (told.new ≡ told.old) × (room.new ≡ room.old)) }
 {
     let Ok(text) = text else {
         return Answer::Memory;

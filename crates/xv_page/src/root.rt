@@ -8,10 +8,12 @@ use crate::reading::{
     xv_page_frame, xv_page_note, xv_page_pipe, xv_page_pipe_byte, xv_page_process, xv_page_program,
     xv_page_register, xv_page_rights, xv_page_size, xv_page_slot, xv_page_use,
 };
+use crate::reasons::xv_page_reason;
 use crate::reports::{
     xv_page_fault, xv_page_kill, xv_page_know, xv_page_refused, xv_page_source, xv_page_wait,
 };
 use crate::texts::{Assembled, xv_page_assemble, xv_page_instruction};
+use crate::variables::{CallAsked, RegisterKnown, xv_page_variables};
 use crate::views::{Facts, descriptor_told, pipe_told, process_told, use_told, word_told};
 use crate::writing::{
     xv_page_back, xv_page_event, xv_page_run, xv_page_run_to_stop, xv_page_until,
@@ -113,7 +115,7 @@ fn read(alloc: Global, source: &[u8], number: u32, bytes: &mut [u8]) {
     xv_page_call(7, &mut call, bytes);
 }
 
-/// Makes each call that tells in words why a process ended or waits.
+/// Makes each call that tells in words why a process ended or waits, or what its variables are.
 fn explain(
     alloc: Global,
     session: &Option<Box<Session>>,
@@ -127,11 +129,24 @@ fn explain(
     xv_page_source(alloc, &mut sources, block, block);
     xv_page_wait(alloc, session, &sources, number, &mut told, bytes);
     xv_page_fault(alloc, session, &sources, number, &mut told, bytes);
+    xv_page_reason(alloc, session, number, 7, 7, 7, 7, &mut told, bytes);
     xv_page_kill(
         alloc, session, &sources, number, number, 7, &mut told, bytes,
     );
     xv_page_refused(
         alloc, session, &sources, number, number, 7, &mut told, bytes,
+    );
+    let asked = CallAsked {
+        address: 7,
+        base: 8,
+        has_base: number,
+    };
+    let registers = [RegisterKnown {
+        number: 2,
+        value: 7,
+    }];
+    xv_page_variables(
+        alloc, session, number, number, &asked, &registers, block, &mut told, bytes,
     );
 }
 

@@ -4,7 +4,6 @@ pub mod Frames
 pub mod Unwound
 pub mod Guesses
 pub mod Finding
-pub mod Faulting
 pub mod CallNames
 pub mod Named
 mod WorkedCalls

@@ -43,6 +43,16 @@ passed = refl
 below_sp : hint_by (Some text) (Some guard) 8185 8184 ≡ Some PastTheEnd
 below_sp = refl
 
+-- a program whose text lies right below its stack: a stack that has come there, and a store by another pointer
+deep_in_text : hint_by (Some text) (Some text) 8176 8184 ≡ Some FullStack
+deep_in_text = refl
+
+in_text : hint_by (Some text) (Some text) 12224 8184 ≡ None
+in_text = refl
+
+deep_in_the_first_page : hint_by (Some text) (Some text) 64 64 ≡ Some FullStack
+deep_in_the_first_page = refl
+
 nowhere : hint_by (Some text) None 7920 8184 ≡ None
 nowhere = refl
 

@@ -29,6 +29,11 @@ abbrev pub may_read : Option Rights → Bool
 may_read None = false
 may_read (Some r) = r.read && r.user
 
+-- user code may read the page, and not write it: so is a page of text or of constants
+abbrev pub is_for_reading : Option Rights → Bool
+is_for_reading None = false
+is_for_reading (Some r) = r.user && r.read && not r.write
+
 -- what the page of an address of process p allows; none if there is no page
 abbrev pub page_rights : State → (p address : ℕ) → Option Rights
 page_rights s p address = if nat_lt address ADDRESS_END then rights_at s p (address / PAGE_BYTES) else None
@@ -39,10 +44,15 @@ page_rights s p address = if nat_lt address ADDRESS_END then rights_at s p (addr
 abbrev pub guard_hint : (sp address : ℕ) → Hint
 guard_hint sp address = if nat_le sp address then FullStack else PastTheEnd
 
--- by what the first page and the page of the address allow: an address in the first page is a null pointer's
+-- Nothing lies below the stack but text: a stack that grows has left its own pages if it comes to a page that is for reading
+abbrev pub is_below_stack : (there : Option Rights) → (sp address : ℕ) → Bool
+is_below_stack there sp address = is_for_reading there && nat_le sp address
+
+-- by what the first page and the page of the address allow: an address in the first page is a null pointer's, unless the stack has come there
 abbrev pub hint_by : (first there : Option Rights) → (sp address : ℕ) → Option Hint
 hint_by first there sp address =
-    if nat_lt address PAGE_BYTES then Some (NullPointer (may_read first)) else (if is_closed there then Some (guard_hint sp address) else None)
+    if is_below_stack there sp address then Some FullStack
+    else (if nat_lt address PAGE_BYTES then Some (NullPointer (may_read first)) else (if is_closed there then Some (guard_hint sp address) else None))
 
 abbrev pub hint_at : State → (p sp : ℕ) → (address : Option ℕ) → Option Hint
 hint_at s p sp None = None

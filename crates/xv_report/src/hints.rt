@@ -15,7 +15,7 @@ pub(crate) const STACK_POINTER: u8 = 2;
 /// What may be wrong, beside the calls that led to a fault.
 #[derive(Clone, Copy)]
 pub enum Hint {
-    /// The stack has grown into the guard page right below it.
+    /// The stack has grown into the guard page right below it, or into the program's text.
     FullStack,
     /// A pointer has passed the end of the program's memory, up to the guard page below the stack.
     PastTheEnd,
@@ -39,6 +39,16 @@ fn may_read(perm: Option<Perm>) -> bool
 {
     match perm {
         Some(perm) => perm.rights().read && perm.rights().user,
+        None => false,
+    }
+}
+
+/// Whether user code may read a page, and not write it.
+fn is_for_reading(perm: Option<Perm>) -> bool
+    ensures { result ≡ meant.is_for_reading perm }
+{
+    match perm {
+        Some(perm) => perm.rights().user && perm.rights().read && !perm.rights().write,
         None => false,
     }
 }
@@ -69,6 +79,9 @@ fn guard_hint(sp: u64, address: u64) -> Hint
 fn hint_by(machine: &Machine, pid: Pid, sp: u64, address: u64) -> Option<Hint>
     ensures { let s = machine.now.world.state in result ≡ meant.hint_by (rights_at s pid 0) (meant.page_rights s pid address) sp address }
 {
+    if is_for_reading(page_rights(machine, pid, address)) && sp <= address {
+        return Some(Hint::FullStack);
+    }
     if address < PAGE_BYTES {
         return Some(Hint::NullPointer {
             readable: may_read(machine.perm(pid, Vpn::new(0))),

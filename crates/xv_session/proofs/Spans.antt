@@ -186,6 +186,24 @@ around spans rest at d lt =
     ∙ flat_map-append span_events (take (at + 1) spans) (drop (at + 1) spans) ∙ ap (λ (es : List Event). es ++ zs) (one-span-more spans at d lt))
     ∙ append_assoc (xs ++ s) zs rest ∙ append_assoc xs s (zs ++ rest)
 
+-- how many events lie before the last span
+pub before-last : (over : List Span) (last : Span) (count : ℕ) → count ≡ length (kept over last).events → length (all_events (take (length over) over)) ≡ count - last.count
+before-last over last count counted =
+    let whole : length (all_events (take (length over) over)) ≡ length (all_events over) = ap (λ (ss : List Span). length (all_events ss)) (take_all (length over) over (omega arith)) in
+    let long : length (all_events over ++ span_events last) ≡ length (all_events over) + last.count =
+    length-append (all_events over) (span_events last) ∙ ap (λ n. length (all_events over) + n) (long-span last) in
+    omega (arith, whole, long, counted)
+
+-- and before the span before
+pub before-next : (over : List Span) (at start : ℕ) (d : Span) → at < length over → length (all_events (take (at + 1) over)) ≡ start
+    → length (all_events (take at over)) + (get_or over at d).count ≡ start
+before-next over at start d lt is =
+    let xs = all_events (take at over) in
+    let s = get_or over at d in
+    let more : length (all_events (take (at + 1) over)) ≡ length xs + s.count =
+    ap length (one-span-more over at d lt) ∙ length-append xs (span_events s) ∙ ap (λ n. length xs + n) (long-span s) in
+    sym more ∙ is
+
 -- those behind the spans that are over
 pub from-last : (over : List Span) (last : Span) (at before place count : ℕ) → length over ≤ at → before + length (all_events (take at over)) ≡ place
     → count ≡ length (kept over last).events → place < count

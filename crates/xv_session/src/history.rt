@@ -134,7 +134,8 @@ impl History {
     ghost use Rattle.xv_session.specs.Answers.{AreEqualFrom, EndThere};
     ghost use Rattle.xv_session.specs.Spans.{pair_of};
 
-    /// The event at a place, and how many events from there on are equal to it; `None` where there are fewer.
+    /// The event at a place, and how many events from there on are equal to it; `None` if there are no more than `place`.
+    /// It looks from the end, for who asks what was added.
     pub fn from_on(&self, place: u64) -> Option<(Event, u64)>
         ensures equal { AreEqualFrom self.now.events place (option_map pair_of result) }
         ensures all { EndThere self.now.events place (option_map pair_of result) }
@@ -142,15 +143,20 @@ impl History {
         if place >= self.count {
             return None;
         }
-        let mut before = place;
-        for at in 0..self.over.len() {
-            let span = self.over[at];
-            if before < span.count {
-                return Some((span.event, span.count - before));
-            }
-            before -= span.count;
+        let mut start = self.count - self.last.count;
+        if start <= place {
+            return Some((self.last.event, self.last.count - (place - start)));
         }
-        Some((self.last.event, self.last.count - before))
+        let mut at = self.over.len();
+        'spans: while at > 0 {
+            at -= 1;
+            let span = self.over[at];
+            start -= span.count;
+            if start <= place {
+                return Some((span.event, span.count - (place - start)));
+            }
+        }
+        unreachable!();
     }
 }
 

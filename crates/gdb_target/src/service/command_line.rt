@@ -6,6 +6,7 @@ use crate::service::NAME;
 use program_files::{
     CommandLine, CommandWord, FRAMES, NumberOption, QUANTUM, WordsError, given_words,
 };
+use recorded_runs::{REPLAY_WORD, ReplayWords, replay_words};
 use std::rt::Env;
 
 /// What the words ask for.
@@ -23,6 +24,8 @@ pub(crate) struct Settings {
     pub line: Option<String>,
     /// The name of the program that GDB has the symbols of.
     pub file: Option<String>,
+    /// The record whose run is debugged, and the place in it at which GDB begins.
+    pub replay: ReplayWords,
     /// The path of each FILE, in the order of the words: at least one.
     pub files: Vec<String>,
 }
@@ -50,10 +53,14 @@ or the one that --file names.
 The events of the machine come in rounds, as in xv_run: a key if one is left, so many Runs as --quantum says, a
 tick, and 32 bytes that are sent. So a run is the same each time, and one can go back in it.
 
+With --replay PATH the first events are those of a record, which `xv --record PATH` has kept of a session. GDB begins at
+its end, or after its first N events with --at N, and can go back to the boot. After the record the rounds begin. Frames
+and programs are the record's: the FILEs have to be there that it names.
+
 Exit status:
   0  GDB went, or this text was asked for
   1  the command line is refused
-  2  a FILE or the boot is refused, or memory ran out
+  2  a FILE, the record or the boot is refused, or memory ran out
   5  standard input or standard output failed";
 
 const COMMAND_LINE: CommandLine = CommandLine {
@@ -79,6 +86,12 @@ const COMMAND_LINE: CommandLine = CommandLine {
             value: "NAME",
             help: "The program that GDB has the symbols of",
         },
+        REPLAY_WORD,
+        CommandWord::Text {
+            name: "at",
+            value: "N",
+            help: "GDB begins after the first N events of the record",
+        },
         CommandWord::Files,
     ],
 };
@@ -99,6 +112,7 @@ pub(crate) fn read_settings<R: Env + AllocGlobal>(rt: &R) -> Result<Settings, Wo
     let keys = given.text("keys")?;
     let line = given.text("type")?;
     let file = given.text("file")?;
+    let replay = replay_words(rt, &given, &[&FRAMES])?;
     let files = given.files()?;
     Ok(Settings {
         frames,
@@ -107,6 +121,7 @@ pub(crate) fn read_settings<R: Env + AllocGlobal>(rt: &R) -> Result<Settings, Wo
         keys,
         line,
         file,
+        replay,
         files,
     })
 }

@@ -15,13 +15,13 @@ ghost use Rattle.gdb_packets.specs.Packets.{fed_all};
 ghost use Rattle.gdb_packets.specs.Reading.{reading};
 
 use crate::answers::{malformed, no_such_process};
+use crate::gone::gone_told;
 use crate::let_run::LetRun;
 use crate::reverse::Back;
 use crate::service::link::Link;
 use crate::target::{Going, Pause, Stopped, Target, Way};
 use gdb_packets::{
-    Command, PacketReader, Piece, Resume, StopReason, Thread, console, exited, no_resumed, parse,
-    stop_reply,
+    Command, PacketReader, Piece, Resume, StopReason, Thread, console, exited, parse, stop_reply,
 };
 use program_files::Failure;
 use std::alloc::{AllocError, Global};
@@ -171,16 +171,21 @@ impl Service {
         self.tell_stop(output)
     }
 
-    /// Tells that the process is gone that was let run alone. The last stop is from now on one of a process that lives,
-    /// if any does.
-    fn tell_gone<W: Write>(&mut self, output: &mut W) -> Result<(), Failure<'static>>
-        ensures gone { OnOk result (IsGoneTold self.old.target self.new.target (W.contents output.old) (W.contents output.new)) }
+    /// Tells that the process is gone that was let run alone, or, if GDB waits for it behind its last instruction, that it
+    /// came there. The last stop is from now on one of a process that lives, if any does.
+    fn tell_gone<W: Write>(
+        &mut self,
+        output: &mut W,
+        let_run: LetRun,
+    ) -> Result<(), Failure<'static>>
+        ensures gone { OnOk result (IsGoneTold let_run self.old.target self.new.target (W.contents output.old) (W.contents output.new)) }
         ensures kept { OnOk result (IsSentLast self.new.link.last.items (W.contents output.old) (W.contents output.new)) }
         ensures acks { self.new.link.acks ≡ self.old.link.acks }
     {
+        let address = self.target.step_over(self.alloc, &let_run)?;
         let stopped = self.target.stop_here(StopReason::Trap);
         self.target.stop_at(&stopped);
-        let payload = no_resumed(self.alloc)?;
+        let payload = gone_told(self.alloc, let_run, address)?;
         self.link.send(output, payload.as_slice())
     }
 
@@ -214,7 +219,7 @@ impl Service {
                 self.target.stop_at(&stopped);
                 self.tell_stop(output)
             }
-            Some(Pause::Gone) => self.tell_gone(output),
+            Some(Pause::Gone) => self.tell_gone(output, let_run),
             Some(Pause::Shows) => self.tell_over(output, let_run),
             None => self.tell_over(output, let_run),
         }

@@ -3,7 +3,10 @@ ghost use Rattle.std.specs.Prelude.{IfOk};
 ghost use Rattle.terminal_session.specs.DebugSettings.{AreInRange};
 
 use crate::debugging::NAME;
-use program_files::{CommandLine, CommandWord, FRAMES, QUANTUM, TRACE, WordsError, given_words};
+use program_files::{
+    CommandLine, CommandWord, FRAMES, NumberOption, QUANTUM, TRACE, WordsError, given_words,
+};
+use recorded_runs::{AT_WORD, REPLAY_WORD, ReplayWords, replay_words};
 use std::rt::Env;
 
 /// What the words ask for.
@@ -19,9 +22,14 @@ pub(crate) struct Settings {
     pub prompt: bool,
     /// The path of a table of lines.
     pub lines: Option<String>,
+    /// What is said of a record, at whose end the conversation begins.
+    pub replay: ReplayWords,
     /// The path of each FILE, in the order of the words: at least one.
     pub files: Vec<String>,
 }
+
+/// The option that a record tells itself.
+const TOLD_BY_RECORD: [&NumberOption; 1] = [&FRAMES];
 
 /// What stands below the list of options in the text of `--help`.
 const MORE_HELP: &str = "\
@@ -33,13 +41,17 @@ Standard input has words, a line each: help lists them. Without --prompt each li
 before its answer, after a >, so that the words of a file and their answers read well. The end
 of the input ends the debugger, and so does quit.
 
+With --replay the events of a record that a terminal has kept are sent first, by its programs among
+the FILEs: all of them, or with --at the first N. Nothing is shown of them. The words go on from
+there, and back as far as the record's beginning.
+
 Example:
   printf 'until exit\\nback\\nwhere\\n' | xv_debugger init.s
 
 Exit status:
   0  the words were obeyed, or this text was asked for
   1  the command line is refused
-  2  a FILE or the boot is refused, or memory ran out
+  2  a FILE, the record or the boot is refused, or memory ran out
   5  standard input or standard output failed";
 
 const PROMPT: &str = "prompt";
@@ -63,6 +75,8 @@ const COMMAND_LINE: CommandLine = CommandLine {
             value: "TABLE",
             help: "A file with rows PROGRAM ADDRESS LINE in decimal numbers, as ./xv --debug makes it",
         },
+        REPLAY_WORD,
+        AT_WORD,
         CommandWord::Files,
     ],
 };
@@ -82,6 +96,7 @@ pub(crate) fn read_settings<R: Env + AllocGlobal>(rt: &R) -> Result<Settings, Wo
     let trace = given.number(&TRACE)?;
     let prompt = given.flag(PROMPT);
     let lines = given.text(LINES)?;
+    let replay = replay_words(rt, &given, &TOLD_BY_RECORD)?;
     let files = given.files()?;
     Ok(Settings {
         frames,
@@ -89,6 +104,7 @@ pub(crate) fn read_settings<R: Env + AllocGlobal>(rt: &R) -> Result<Settings, Wo
         trace,
         prompt,
         lines,
+        replay,
         files,
     })
 }

@@ -39,12 +39,29 @@ impl<'a> fmt::Display for FaultText<'a> {
             word: step.word,
         };
         let registers = Registers(&step.regs);
-        let calls = CallsText(self);
-        let hint = HintLine(self.report.hint);
+        let calls = CallsText(&*self);
+        let hint = HintLine {
+            hint: self.report.hint,
+            function: function_at(&self.source, step.address),
+        };
         write!(
             f,
             "{who}: {reason}, at pc {instruction}{registers}{calls}{hint}"
         )
+    }
+}
+
+/// The name of the function that begins at an address but 0.
+fn function_at<'a>(source: &ProgramSource<'a>, address: Option<u64>) -> Option<&'a [u8]> {
+    let address = address?;
+    if address == 0 {
+        return None;
+    }
+    let function = source.location(address).function?;
+    if function.offset == 0 {
+        Some(function.name)
+    } else {
+        None
     }
 }
 

@@ -1,22 +1,36 @@
 //! What may be wrong at a fault, and who has killed a process.
 use crate::hints::Hint;
-use crate::text::place::{Place, Who};
+use crate::text::place::{Name, Place, Who};
 use std::fmt;
 use xk_base::Pid;
 
+/// What is told of an address in the first page, which may be read or not.
+fn null_line(readable: bool) -> &'static str {
+    if readable {
+        "\n  a null pointer, it seems: the text lies at 0, so only a store through it faults"
+    } else {
+        "\n  a null pointer, it seems: nothing lies at 0"
+    }
+}
+
 /// What may be wrong, in a line below a fault; nothing for a full stack, which the fault's first line tells.
 #[derive(Clone, Copy)]
-pub(crate) struct HintLine(pub Option<Hint>);
+pub(crate) struct HintLine<'a> {
+    pub hint: Option<Hint>,
+    /// The function that begins at the address of the load or the store, if that isn't 0 and one does.
+    pub function: Option<&'a [u8]>,
+}
 
-impl fmt::Display for HintLine {
+impl<'a> fmt::Display for HintLine<'a> {
     fn fmt<W: fmt::Write>(&self, f: &mut fmt::Formatter<W>) -> fmt::Result {
-        match self.0 {
-            Some(Hint::NullPointer { readable: true }) => f.write_str(
-                "\n  a null pointer, it seems: the text lies at 0, so only a store through it faults",
-            ),
-            Some(Hint::NullPointer { readable: false }) => {
-                f.write_str("\n  a null pointer, it seems: nothing lies at 0")
-            }
+        match self.hint {
+            Some(Hint::NullPointer { readable }) => match self.function {
+                Some(name) => {
+                    let name = Name(name);
+                    write!(f, "\n  a pointer to the function {name}, which is no data")
+                }
+                None => f.write_str(null_line(readable)),
+            },
             Some(Hint::PastTheEnd) => f.write_str(
                 "\n  the page below the stack is closed: a pointer has passed the end of the program's memory",
             ),

@@ -1,4 +1,4 @@
-use Rattle.std.proofs.Common.{◌<◌, ℕ, sym, arith}
+use Rattle.std.proofs.Common.{sym, arith}
 use Rattle.call_reasons.proofs.Children.{no_child}
 use Rattle.call_reasons.proofs.shown.has_child.Goals as goal
 

@@ -1,4 +1,4 @@
-use Rattle.std.proofs.Common.{◌≡◌, ◌∙◌, ◌<◌, ◌≤◌, ℕ, Bool, true, false, sym, ap, arith}
+use Rattle.std.proofs.Common.{◌≡◌, ◌∙◌, ℕ, Bool, false, sym, ap, arith}
 use Rattle.kernel_spec.specs.views.State.{live}
 use Rattle.call_reasons.specs.Shown.{page_in}
 use Rattle.call_reasons.proofs.Reach.{page_missing, pages_so_far}

@@ -31,9 +31,10 @@ returns-clause-told g c = λ other.
     record {
       choice = x.choice;
       running = x.running;
+      at = x.at;
       text = string_bytes x.text;
       counted = x.counts.complete;
       counts = x.counts.counts.items;
-      told = ∥∥₁_map x.told (λ t. subst (λ (b : Bool). IsTold x.choice x.running b (string_bytes x.text) x.counts.complete x.counts.counts.items) complete t);
+      told = ∥∥₁_map x.told (λ t. subst (λ (b : Bool). IsTold x.choice x.running x.at b (string_bytes x.text) x.counts.complete x.counts.counts.items) complete t);
       held = ∥∥₁_map c.play_rounds-played.new.player.handed (λ h. h complete);
     }

@@ -1,8 +1,6 @@
-use Rattle.std.proofs.Common.{◌≡◌, ◌∙◌, Some, None, true, refl, sym, ap}
-use Rattle.kernel_calls.specs.declared.call.KernelCall.{KernelCall}
+use Rattle.std.proofs.Common.{◌∙◌, Some, None, refl, sym, ap}
 use Rattle.kernel_calls.specs.declared.call.KernelCall.TheVariants as calls
 use Rattle.call_reasons.specs.Shown.{facts_in}
-use Rattle.call_reasons.specs.declared.reason.Reason.{Reason}
 use Rattle.call_reasons.specs.declared.reason.Reason.TheVariants.{NoRoom}
 use Rattle.call_reasons.proofs.ByCall.{close_told, dup_told, exec_told, exit_untold, fork_told, getpid_untold, kill_told, open_told, pipe_told, read_told, reason_at, sbrk_told, sbrklazy_told}
 use Rattle.call_reasons.proofs.ByCall.{sleep_untold, uptime_untold, wait_told, write_told}

@@ -25,8 +25,8 @@ invariant_of-result c =
     let names : r.names ≡ first_names r.machine.world.state.programs = c.new.ensures.names ∙ ap (λ (m : Meaning). first_names m.world.state.programs) same in
     record {
       live = (anew-sound f t ps r boots sound empty names).names;
-      told = ∣ subst (λ (text : List ℕ). IsTold c.args.choice r true text c.new-in-Ok.result.complete c.new-in-Ok.result.counts.items) (sym c.new-in-Ok-2.ensures.bytes)
-          (subst (λ (counted : Bool). IsTold c.args.choice r true [] counted c.new-in-Ok.result.counts.items) (sym c.new-in-Ok.ensures.complete)
-          (subst (λ (rows : List Count). IsTold c.args.choice r true [] true rows) (sym c.new-in-Ok.ensures.counts)
+      told = ∣ subst (λ (text : List ℕ). IsTold c.args.choice r 0 true text c.new-in-Ok.result.complete c.new-in-Ok.result.counts.items) (sym c.new-in-Ok-2.ensures.bytes)
+          (subst (λ (counted : Bool). IsTold c.args.choice r 0 true [] counted c.new-in-Ok.result.counts.items) (sym c.new-in-Ok.ensures.complete)
+          (subst (λ (rows : List Count). IsTold c.args.choice r 0 true [] true rows) (sym c.new-in-Ok.ensures.counts)
           (told-at-boot c.args.choice f t ps r (booted-led f t ps r boots sound empty names).0))) ∣₁;
     }

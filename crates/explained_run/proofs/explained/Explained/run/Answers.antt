@@ -16,17 +16,17 @@ use Rattle.explained_run.proofs.explained.Explained.run.Goals as goal
 pub invariant_of-self : goal.invariant_of-self
 invariant_of-self c =
     let x = c.args.self.now in
-    let s = c.run.new.self in
-    let last = option_map outcome_of c.run.result.last in
+    let s = c.run-runs.new.self in
+    let last = option_map outcome_of c.run-runs.result.last in
     record {
-      live = (goes-by-sound (replicate c.run.result.sent Run) x.running s (record { machine = c.current.ensures.sound; names = x.live })
-          (goes-by-runs c.args.most c.run.result.sent last x.running s c.run.ensures.made)).names;
-      told = ∥∥₁_map x.told (λ t. told-passing x.choice c.args.most c.run.result.sent last x.running s x.complete (string_bytes x.text) x.counts.complete x.counts.counts.items t
-          (sym c.current.ensures.pid ∙ c.in_default.is) c.run.ensures.made);
+      live = (goes-by-sound (replicate c.run-runs.result.sent Run) x.running s (record { machine = c.current.ensures.sound; names = x.live })
+          (goes-by-runs c.args.most c.run-runs.result.sent last x.running s c.run-runs.ensures.made)).names;
+      told = ∥∥₁_map x.told (λ t. told-passing x.choice c.args.most c.run-runs.result.sent last x.running s x.at c.saturating_add-self.result x.complete (string_bytes x.text)
+          x.counts.complete x.counts.counts.items t (sym c.current.ensures.pid ∙ c.in_default.is) c.run-runs.ensures.made (omega arith));
     }
 
 pub returns-in_default-clause-ran : goal.returns-in_default-clause-ran
-returns-in_default-clause-ran c = ran c.args.most c.run.result.sent (option_map outcome_of c.run.result.last) c.args.self.now.running c.run.new.self c.run.ensures.made
+returns-in_default-clause-ran c = ran c.args.most c.run-runs.result.sent (option_map outcome_of c.run-runs.result.last) c.args.self.now.running c.run-runs.new.self c.run-runs.ensures.made
 
 pub invariant_of-self-2 : goal.invariant_of-self-2
 invariant_of-self-2 c =
@@ -37,9 +37,9 @@ invariant_of-self-2 c =
     let is = sym c.current.ensures.pid ∙ c.in-Some.is in
     record {
       live = (instructed-sound c.instructions-made.result p x.running.names a b (record { machine = c.current.ensures.sound; names = x.live }) c.instructions-made.ensures.goes).names;
-      told = ∥∥₁_map x.told (λ t. told-instructed x.choice c.instructions-made.result c.in-Some.pid a b x.running.names x.complete (string_bytes x.text)
+      told = ∥∥₁_map x.told (λ t. told-instructed x.choice c.instructions-made.result c.in-Some.pid x.at c.saturating_add-self-2.result a b x.running.names x.complete (string_bytes x.text)
           x.counts.complete c.add_instructions.new.self.complete x.counts.counts.items c.add_instructions.new.self.counts.items c.place-place.result
-          t is c.instructions-made.ensures.goes c.place-place.ensures c.add_instructions.ensures.counts c.add_instructions.ensures.complete);
+          t is c.instructions-made.ensures.goes (omega arith) c.place-place.ensures c.add_instructions.ensures.counts c.add_instructions.ensures.complete);
     }
 
 pub step-outcome-requires-clause-current : goal.step-outcome-requires-clause-current

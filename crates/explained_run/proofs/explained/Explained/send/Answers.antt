@@ -1,4 +1,4 @@
-use Rattle.std.proofs.Common.{string_bytes}
+use Rattle.std.proofs.Common.{arith, string_bytes}
 use Rattle.std.proofs.Math.Logic.{∥∥₁_map}
 use Rattle.xv_machine.specs.Events.{event_of, outcome_of}
 use Rattle.xv_session.proofs.NamesLive.{advances-sound}
@@ -13,5 +13,6 @@ invariant_of-self c =
     let s = c.event.new.self in
     record {
       live = (advances-sound e o x.running s (record { machine = c.halted-halted.ensures.sound; names = x.live }) c.event.ensures).names;
-      told = ∥∥₁_map x.told (λ t. told-other x.choice e o x.running s x.complete (string_bytes x.text) x.counts.complete x.counts.counts.items t c.requires c.event.ensures);
+      told = ∥∥₁_map x.told (λ t. told-other x.choice e o x.running s x.at c.saturating_add-self.result x.complete (string_bytes x.text) x.counts.complete x.counts.counts.items t c.requires
+          c.event.ensures (omega arith));
     }

@@ -1,4 +1,4 @@
-use Rattle.std.proofs.Common.{rules, Bool, string_bytes, subst, sym, ◌∙◌}
+use Rattle.std.proofs.Common.{arith, rules, Bool, string_bytes, subst, sym, ◌∙◌}
 use Rattle.std.proofs.Math.Logic.{∥∥₁_map}
 use Rattle.std.proofs.lemmas.Bool.{and_parts}
 use Rattle.kernel_spec.specs.runs.Run.{Run}
@@ -18,10 +18,10 @@ invariant_of-self c =
     let after = c.add_outcome.new.self in
     record {
       live = (advances-sound Run o x.running s (record { machine = c.requires.sound; names = x.live }) c.tell_step-made.ensures.advances).names;
-      told = ∥∥₁_map x.told (λ t. subst (λ (complete : Bool). IsTold x.choice s complete text after.complete after.counts.items) (sym c.both-self.ensures)
-          (told-step x.choice o c.args.pid x.running s x.complete c.tell_step-made.result.is_told (string_bytes x.text) text
+      told = ∥∥₁_map x.told (λ t. subst (λ (complete : Bool). IsTold x.choice s c.saturating_add-self.result complete text after.complete after.counts.items) (sym c.both-self.ensures)
+          (told-step x.choice o c.args.pid x.running s x.at c.saturating_add-self.result x.complete c.tell_step-made.result.is_told (string_bytes x.text) text
           x.counts.complete after.complete x.counts.counts.items after.counts.items c.or-place.result c.is_marked-marked.result
-          t c.requires.sound c.requires.current c.tell_step-made.ensures.advances c.tell_step-made.ensures.told c.add_outcome.ensures.counts c.add_outcome.ensures.complete
+          t c.requires.sound c.requires.current c.tell_step-made.ensures.advances (omega arith) c.tell_step-made.ensures.told c.add_outcome.ensures.counts c.add_outcome.ensures.complete
           (search rules) (search rules)));
     }
 

@@ -9,6 +9,6 @@ invariant_of-self c =
     record {
       played =
           after_result c.back_to.result _ c.back_to.ensures.back c.back_to.ensures.refused
-          (λ o went. played_back s.rounds.keys.items s.rounds.quantum s.session.events c.back_to.new.self.events c.args.place s.played (ap (λ (r : Recorded). r.events) went))
-          (λ e same. played_still s.rounds.keys.items s.rounds.quantum s.session.events c.back_to.new.self.events s.played (ap (λ (r : Recorded). r.events) same));
+          (λ o went. played_back s.plan s.session.events c.back_to.new.self.events c.args.place s.played (ap (λ (r : Recorded). r.events) went))
+          (λ e same. played_still s.plan s.session.events c.back_to.new.self.events s.played (ap (λ (r : Recorded). r.events) same));
     }

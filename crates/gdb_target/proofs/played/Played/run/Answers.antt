@@ -21,9 +21,9 @@ invariant_of-self c =
           (λ r sent.
           let count = runs_count _ _ _ _ _ sent.0 in
           let few = count.within in
-          played_runs s.rounds.keys.items s.rounds.quantum s.session.events c.run.new.self.events r.sent n.result.count s.played (omega (arith, c.min.ensures)) (λ k h. n.ensures.equal k h ∙ runs_next)
+          played_runs s.plan s.session.events c.run.new.self.events r.sent n.result.count s.played (omega (arith, c.min.ensures)) (λ k h. n.ensures.equal k h ∙ runs_next)
           (ap (λ (x : Recorded). x.events) sent.1))
-          (λ e same. played_still s.rounds.keys.items s.rounds.quantum s.session.events c.run.new.self.events s.played (ap (λ (x : Recorded). x.events) same));
+          (λ e same. played_still s.plan s.session.events c.run.new.self.events s.played (ap (λ (x : Recorded). x.events) same));
     }
 
 pub unreachable-requires : goal.unreachable-requires

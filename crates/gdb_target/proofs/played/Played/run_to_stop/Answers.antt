@@ -19,10 +19,10 @@ invariant_of-self c =
           after_result c.run_to_stop.result _ c.run_to_stop.ensures.stopped c.run_to_stop.ensures.refused
           (λ f sent.
           let few : f.sent ≤ c.min.result = went-within _ _ c.min.result f.met (option_map outcome_of f.last) (running_of s.session) (running_of c.run_to_stop.new.self) f.sent sent.0 in
-          played_runs s.rounds.keys.items s.rounds.quantum s.session.events c.run_to_stop.new.self.events f.sent n.result.count s.played
+          played_runs s.plan s.session.events c.run_to_stop.new.self.events f.sent n.result.count s.played
           (omega (arith, few, c.min.ensures)) (λ k h. n.ensures.equal k h ∙ runs_next)
           (ap (λ (x : Recorded). x.events) sent.1))
-          (λ e same. played_still s.rounds.keys.items s.rounds.quantum s.session.events c.run_to_stop.new.self.events s.played (ap (λ (x : Recorded). x.events) same));
+          (λ e same. played_still s.plan s.session.events c.run_to_stop.new.self.events s.played (ap (λ (x : Recorded). x.events) same));
     }
 
 pub unreachable-requires : goal.unreachable-requires

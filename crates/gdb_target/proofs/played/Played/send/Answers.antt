@@ -10,8 +10,8 @@ invariant_of-self c =
     record {
       played =
           after_result c.send.result _ c.send.ensures.sent c.send.ensures.refused
-          (λ o sent. played_send s.rounds.keys.items s.rounds.quantum s.session.events c.send.new.self.events _ s.played c.next-next.ensures.event (ap (λ (r : Recorded). r.events) sent.1))
-          (λ e same. played_still s.rounds.keys.items s.rounds.quantum s.session.events c.send.new.self.events s.played (ap (λ (r : Recorded). r.events) same));
+          (λ o sent. played_send s.plan s.session.events c.send.new.self.events _ s.played c.next-next.ensures.event (ap (λ (r : Recorded). r.events) sent.1))
+          (λ e same. played_still s.plan s.session.events c.send.new.self.events s.played (ap (λ (r : Recorded). r.events) same));
     }
 
 pub returns-clause-comes : goal.returns-clause-comes

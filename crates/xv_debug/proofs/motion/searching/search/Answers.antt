@@ -1,6 +1,5 @@
-use Rattle.std.proofs.Common.{◌≡◌, ◌+◌, ◌∙◌, ℕ, Bool, true, false, ap, option_map, arith, subst}
+use Rattle.std.proofs.Common.{◌≡◌, ◌+◌, ℕ, Bool, true, false, option_map, arith, subst}
 use Rattle.xv_machine.specs.Events.{outcome_of}
-use Rattle.xv_session.specs.Recorded.{Recorded}
 use Rattle.xv_debug.specs.motion.Clock.{runs_left}
 use Rattle.xv_debug.specs.motion.Reaching.{Goes, Test, met_from}
 use Rattle.xv_debug.specs.motion.Ways.{test_of}

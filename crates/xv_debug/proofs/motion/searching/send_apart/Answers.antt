@@ -1,4 +1,4 @@
-use Rattle.std.proofs.Common.{ℕ, sym, subst}
+use Rattle.std.proofs.Common.{ℕ, subst}
 use Rattle.xv_machine.specs.Events.{event_of, outcome_of}
 use Rattle.xv_debug.specs.motion.Clock.{IsNext}
 use Rattle.xv_debug.specs.motion.Ways.{test_of}

@@ -1,7 +1,10 @@
-use Rattle.std.proofs.Common.{◌≡◌, ◌+◌, length, take}
+use Rattle.std.proofs.Common.{◌≡◌, ◌<◌, ◌≤◌, length, take}
 use Rattle.xv_session.specs.Spans.{all_events}
 use Rattle.xv_session.proofs.history.History.from_on.Given as goal
 
--- the place lies so many events behind the spans so far
-abbrev pub invariant-loop-at : goal.invariant-loop-at
-invariant-loop-at l = l.before + length (all_events (take l.at l.self-inside.over.items)) ≡ l.place
+-- so many events lie before the spans that were looked at, and the place lies among these
+abbrev pub invariant-spans : goal.invariant-spans
+invariant-spans l = (l.at ≤ length l.self-inside.over.items) × (length (all_events (take l.at l.self-inside.over.items)) ≡ l.start) × (l.place < l.start)
+
+abbrev pub decreases-spans : goal.decreases-spans
+decreases-spans l = l.at

@@ -1,0 +1,26 @@
+// What the grader has written of a submission: the row of its CSV, and the test cases of its XML, one for each rule, in
+// the order of the exercise.
+import { rows_of } from "./csv.mjs";
+
+const ENTITIES = { amp: "&", lt: "<", gt: ">", quot: '"' };
+const plain = (text) => text?.replace(/&(amp|lt|gt|quot);/g, (_, name) => ENTITIES[name]);
+const FAILURE = '<failure type="([^"]*)" message="([^"]*)">([^<]*)</failure>';
+const CASE = new RegExp(`^  <testcase classname="([^"]*)" name="([^"]*)"(?:/>|>${FAILURE}</testcase>)$`);
+
+/** The case of a line: its run, its rule, and if it lacks something why, as what, and what its run came to. */
+function case_of(line) {
+  const found = CASE.exec(line);
+  if (!found) throw new Error(`this is no line of the grader's: ${line}`);
+  const [, run, name, standing, why, cause] = found.map(plain);
+  return { run, name, ...(standing === undefined ? {} : { standing, why, cause }) };
+}
+
+/** Whether a submission has what a case is for. */
+export const is_right = (it) => it.standing === undefined;
+
+/** What a submission came to: {name, points, of, standing, reason, cases}. */
+export function cases_of(xml, csv) {
+  const [[name, points, of, standing, reason] = []] = rows_of(csv);
+  const lines = xml.split("\n").slice(1, -2);
+  return { name, points: Number(points), of: Number(of), standing, reason, cases: lines.map(case_of) };
+}

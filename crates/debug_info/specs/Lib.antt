@@ -1,0 +1,5 @@
+pub mod Expressions
+pub mod Numbers
+pub mod Sections
+pub mod Spots
+pub mod Texts

@@ -1,0 +1,322 @@
+//! Values as text, in the style of GDB (Debugging with GDB, "Examining Data").
+ghost use Rattle.std.specs.Prelude.{IfOk, string_bytes};
+ghost use Rattle.debug_info.specs.Texts as meant;
+
+use crate::attributes::Program;
+use crate::entry::Entry;
+use crate::names::{BIT_SIZE, MEMBER_PLACE};
+use crate::numbers::highest_of;
+use crate::places::Place;
+use crate::scalars::UNKNOWN;
+use crate::sight::Sight;
+use crate::spots::Spot;
+use crate::tags::{ARRAY, BASE, ENUMERATION, FUNCTION_TYPE, MEMBER, POINTER, STRUCTURE, UNION};
+use crate::texts::{MOST_SHOWN, NOT_THERE, add_text};
+use crate::types::Kind;
+use crate::variables::Variable;
+use std::alloc::{AllocError, Global};
+
+/// A value takes no more steps: one for each number, text, member or element.
+const MOST_STEPS: u32 = 2048;
+
+/// Values in values are shown no deeper than this.
+const MOST_DEPTH: u32 = 8;
+
+/// No more bytes of a text are made, but for the last number or text.
+const MOST_BYTES: usize = 4096;
+
+/// What is told of a value that the compiler keeps nowhere.
+const OPTIMIZED_OUT: &str = "<optimized out>";
+
+/// What is told of a value whose place isn't understood.
+const NOT_KNOWN: &str = "<not known here>";
+
+/// What is left to show.
+#[derive(Clone, Copy)]
+enum Task {
+    /// A value.
+    Value(Value),
+    /// The members of a structure or a union.
+    Members(Members),
+    /// The elements of an array.
+    Elements(Elements),
+}
+
+/// A value that begins at a place.
+#[derive(Clone, Copy)]
+struct Value {
+    kind: Kind,
+    spot: Spot,
+    /// In how many values it stands.
+    depth: u32,
+}
+
+/// The members of a structure or a union, from an entry on.
+#[derive(Clone, Copy)]
+struct Members {
+    number: usize,
+    /// In how many entries the structure stands.
+    owner_depth: usize,
+    spot: Spot,
+    is_first: bool,
+    depth: u32,
+}
+
+/// The elements of an array, from one on.
+#[derive(Clone, Copy)]
+struct Elements {
+    element: Value,
+    size: u64,
+    left: u64,
+    shown: u64,
+}
+
+/// A text that is made, and what is left to show of it.
+#[derive(Drop)]
+struct Printer<'a, 'p, S> {
+    program: Program<'a>,
+    sight: &'p S,
+    text: String,
+    tasks: Vec<Task>,
+}
+
+impl<'a, 'p, S: Sight> Printer<'a, 'p, S> {
+    /// Shows a number of a type, and the text to which a pointer leads.
+    fn number(&mut self, kind: usize, spot: Spot) -> Result<(), AllocError> {
+        let Some(size) = self.program.size(Kind::of(kind)) else {
+            return self.text.push_str(UNKNOWN);
+        };
+        let Some(number) = spot.number(self.sight, size) else {
+            return self.text.push_str(NOT_THERE);
+        };
+        let highest = highest_of(size);
+        self.program
+            .add_number(&mut self.text, kind, number, highest)?;
+        if number != 0 && self.program.leads_to_text(kind) {
+            self.text.push_str(" ")?;
+            return add_text(&mut self.text, self.sight, Spot::Memory(number), u64::MAX);
+        }
+        Ok(())
+    }
+
+    /// Begins an array: a text, or its elements.
+    fn array(&mut self, value: Value) -> Result<(), AllocError> {
+        let program = self.program;
+        let Some(count) = program.count(value.kind) else {
+            return self.text.push_str("<unknown length>");
+        };
+        let Some(kind) = program.element(value.kind) else {
+            return self.text.push_str(UNKNOWN);
+        };
+        if program.is_character(kind) {
+            return add_text(&mut self.text, self.sight, value.spot, count);
+        }
+        let Some(size) = program.size(kind) else {
+            return self.text.push_str(UNKNOWN);
+        };
+        let element = Value {
+            kind,
+            spot: value.spot,
+            depth: value.depth.saturating_add(1),
+        };
+        self.text.push_str("{")?;
+        self.tasks.push(Task::Elements(Elements {
+            element,
+            size,
+            left: count,
+            shown: 0,
+        }))?;
+        Ok(())
+    }
+
+    /// Begins the members of a structure or a union.
+    fn members(&mut self, number: usize, entry: &Entry, value: Value) -> Result<(), AllocError> {
+        self.text.push_str("{")?;
+        self.tasks.push(Task::Members(Members {
+            number: number.saturating_add(1),
+            owner_depth: entry.depth,
+            spot: value.spot,
+            is_first: true,
+            depth: value.depth.saturating_add(1),
+        }))?;
+        Ok(())
+    }
+
+    /// Shows a value, or begins it.
+    fn value(&mut self, value: Value) -> Result<(), AllocError> {
+        let Some(number) = self.program.meant(value.kind.number) else {
+            return self.text.push_str(UNKNOWN);
+        };
+        let Some(entry) = self.program.entry(number) else {
+            return self.text.push_str(UNKNOWN);
+        };
+        match entry.tag {
+            BASE | POINTER | ENUMERATION => self.number(number, value.spot),
+            ARRAY | STRUCTURE | UNION if value.depth >= MOST_DEPTH => self.text.push_str("{...}"),
+            ARRAY => {
+                let kind = Kind {
+                    number,
+                    range: value.kind.range,
+                };
+                self.array(Value { kind, ..value })
+            }
+            STRUCTURE | UNION => self.members(number, &entry, value),
+            FUNCTION_TYPE => self.text.push_str("<function>"),
+            _ => self.text.push_str(UNKNOWN),
+        }
+    }
+
+    /// Shows the next element of an array, or ends it.
+    fn next_element(&mut self, it: Elements) -> Result<(), AllocError> {
+        if it.left == 0 {
+            return self.text.push_str("}");
+        }
+        if it.shown >= MOST_SHOWN {
+            return self.text.push_str("...}");
+        }
+        if it.shown > 0 {
+            self.text.push_str(", ")?;
+        }
+        let next = Value {
+            spot: it.element.spot.after(it.size),
+            ..it.element
+        };
+        self.tasks.push(Task::Elements(Elements {
+            element: next,
+            left: it.left.saturating_sub(1),
+            shown: it.shown.saturating_add(1),
+            ..it
+        }))?;
+        self.tasks.push(Task::Value(it.element))?;
+        Ok(())
+    }
+
+    /// Looks at the next entry of a structure: a member is shown, and others are passed over.
+    fn next_member(&mut self, it: Members) -> Result<(), AllocError> {
+        let Some(entry) = self.program.entry(it.number) else {
+            return self.text.push_str("}");
+        };
+        if entry.depth <= it.owner_depth {
+            return self.text.push_str("}");
+        }
+        let is_member = entry.tag == MEMBER && entry.depth == it.owner_depth.saturating_add(1);
+        self.tasks.push(Task::Members(Members {
+            number: it.number.saturating_add(1),
+            is_first: it.is_first && !is_member,
+            ..it
+        }))?;
+        if !is_member {
+            return Ok(());
+        }
+        if !it.is_first {
+            self.text.push_str(", ")?;
+        }
+        if let Some(name) = self.program.name(it.number) {
+            self.text.push_str(name)?;
+            self.text.push_str(" = ")?;
+        }
+        self.member(it)
+    }
+
+    /// Shows a member.
+    fn member(&mut self, it: Members) -> Result<(), AllocError> {
+        let Some(number) = self.program.kind(it.number) else {
+            return self.text.push_str(UNKNOWN);
+        };
+        if let Some(bits) = self.program.number(it.number, BIT_SIZE) {
+            return self.bits(it, number, bits);
+        }
+        let place = self.program.number(it.number, MEMBER_PLACE).unwrap_or(0);
+        self.tasks.push(Task::Value(Value {
+            kind: Kind::of(number),
+            spot: it.spot.after(place),
+            depth: it.depth,
+        }))?;
+        Ok(())
+    }
+
+    /// Shows a member of so many bits (section 5.7.6 of DWARF 5).
+    fn bits(&mut self, it: Members, kind: usize, bits: u64) -> Result<(), AllocError> {
+        let Some(place) = self.program.bit_place(it.number, bits) else {
+            return self.text.push_str(NOT_KNOWN);
+        };
+        let Some(kind) = self.program.meant(kind) else {
+            return self.text.push_str(UNKNOWN);
+        };
+        let shift = place % 8;
+        if bits == 0 || bits > 56 {
+            return self.text.push_str(NOT_KNOWN);
+        }
+        let spot = it.spot.after(place / 8);
+        let Some(number) = spot.number(self.sight, (shift + bits + 7) / 8) else {
+            return self.text.push_str(NOT_THERE);
+        };
+        let highest = 1 << (bits - 1);
+        self.program
+            .add_number(&mut self.text, kind, number >> shift, highest)
+    }
+
+    /// Makes a step.
+    fn step(&mut self, task: Task) -> Result<(), AllocError> {
+        match task {
+            Task::Value(value) => self.value(value),
+            Task::Members(members) => self.next_member(members),
+            Task::Elements(elements) => self.next_element(elements),
+        }
+    }
+
+    /// Makes the steps that are left; what takes too many, or gives too long a text, ends in dots.
+    fn run(&mut self) -> Result<(), AllocError> {
+        for _ in 0..MOST_STEPS {
+            if self.text.len() > MOST_BYTES {
+                break;
+            }
+            let Some(task) = self.tasks.pop() else {
+                return Ok(());
+            };
+            self.step(task)?;
+        }
+        self.text.push_str("...")
+    }
+}
+
+/// The value of a variable that is at a place, as text in the style of GDB.
+///
+/// # Errors
+///
+/// The host has too little memory.
+pub(crate) fn value_text<S: Sight>(
+    alloc: Global,
+    program: &Program,
+    variable: &Variable,
+    place: Place,
+    sight: &S,
+) -> Result<String, AllocError>
+    ensures { IfOk result (λ text. meant.IsText (meant.placeless_text place) (string_bytes text)) }
+{
+    match place {
+        Place::OptimizedOut => return String::from_str(alloc, OPTIMIZED_OUT),
+        Place::Unknown => return String::from_str(alloc, NOT_KNOWN),
+        _ => (),
+    }
+    let Some(spot) = place.spot(sight) else {
+        return String::from_str(alloc, NOT_THERE);
+    };
+    let Some(number) = program.kind(variable.number) else {
+        return String::from_str(alloc, UNKNOWN);
+    };
+    let mut printer = Printer {
+        program: *program,
+        sight,
+        text: String::new(alloc),
+        tasks: Vec::new(alloc),
+    };
+    printer.tasks.push(Task::Value(Value {
+        kind: Kind::of(number),
+        spot,
+        depth: 0,
+    }))?;
+    printer.run()?;
+    let Printer { text, .. } = printer;
+    Ok(text)
+}

@@ -1,0 +1,19 @@
+use Rattle.std.proofs.Common.{◌∙◌, ap, subst, sym}
+use Rattle.kernel_spec.specs.views.State.{State}
+use Rattle.gdb_target.specs.Choices.{IsAlive}
+use Rattle.gdb_target.specs.Told.{state_of}
+use Rattle.gdb_target.specs.declared.target.Target.{Target}
+use Rattle.gdb_target.proofs.service.beginning.taken_up.Goals as goal
+
+pub returns : goal.returns
+returns c =
+    let at = c.stop_at.ensures in
+    let new = c.stop_at.new.self in
+    record {
+      run_is = ap (λ (t : Target). t.run) at.rest ∙ c.new-target.ensures.run;
+      program_is = ap (λ (t : Target). t.program) at.rest ∙ c.new-target.ensures.program;
+      most_is = ap (λ (t : Target). t.most) at.rest ∙ c.new-target.ensures.most;
+      reason = at.reason_is ∙ c.stop_here-stopped.ensures;
+      lives = subst (λ (s : State). IsAlive s new.stopped.pid) (sym (ap state_of at.rest)) at.lives;
+      looked_at = at.looked_at;
+    }

@@ -1,0 +1,5 @@
+pub mod Cut
+pub mod Ends
+pub mod Lines
+pub mod Often
+pub mod WorkedCuts

@@ -1,0 +1,5 @@
+pub mod Asked
+pub mod Cuts
+pub mod Led
+pub mod Places
+pub mod Replays

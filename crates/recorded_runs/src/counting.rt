@@ -1,0 +1,10 @@
+//! Numbers of events, in the words of who plays them.
+ghost use Rattle.std.specs.Prelude.{◌<◌, ◌≤◌};
+
+/// How many of the events that are left are sent at once: all of them, or 2^32 - 1.
+pub(crate) fn at_once(left: u64) -> u32
+    ensures within { result ≤ left }
+    ensures some { 0 < left → 0 < result }
+{
+    left.min(u64::from(u32::MAX)) as u32
+}

@@ -1,0 +1,25 @@
+//! Runs that a terminal has recorded, for every program that plays one.
+//!
+//! [`replay_words`] reads what a command line says of a record, and [`record_of`] reads the record's file, up to the event
+//! that is asked for. [`recorded_programs`] are the programs that were recorded, of those that are given, and
+//! [`recorded_files`] has what is known of their sources too. [`play_record`] lets a player play the record: its machine
+//! gets just the record's events, in order, and the sink just what they show. What the exit status of such a run says
+//! stands in `specs/Replays.antt`.
+#![tactic(auto)]
+
+mod counting;
+mod cutting;
+mod ending;
+mod files;
+mod playing;
+mod quiet;
+mod reading;
+mod words;
+
+pub use cutting::{CutError, first_events};
+pub use ending::{RecordEnd, close_record};
+pub use files::{RecordedFiles, recorded_files};
+pub use playing::{play_lines, play_record};
+pub use quiet::play_quietly;
+pub use reading::{record_of, recorded_programs, whole_record};
+pub use words::{AT_WORD, REPLAY_WORD, Replay, ReplayRefusal, ReplayWords, replay_words};
