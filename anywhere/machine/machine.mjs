@@ -389,8 +389,8 @@ export class Machine {
   }
 
   /**
-   * Why a call of a process, {number, words}, is refused; null if it isn't. The machine stands before the call's answer, or
-   * right after it.
+   * Why a call of a process, {number, words}, is refused; null if it isn't. The machine stands before the call's
+   * answer, or right after it.
    */
   reason_text(pid, { number, words }) {
     const { calls, session, told, room } = this;
@@ -422,9 +422,9 @@ export class Machine {
 
   /**
    * The variables of a call of a process, by the tables in the file of its program: `scope` 0 those of its function, 1
-   * those of the program. Of the call: {address, base, registers}, where it stands, where its caller's part of the stack
-   * begins, or null, and the registers that are known, [number, value]. Answers {rows, wrong}: of each variable {role,
-   * inlined, name, type, address, value}; `wrong`: why the tables are refused, or nothing.
+   * those of the program. Of the call: {address, base, registers}, where it stands, where its caller's part of the
+   * stack begins, or null, and the registers that are known, [number, value]. Answers {rows, wrong}: of each variable
+   * {role, inlined, name, type, address, value}; `wrong`: why the tables are refused, or nothing.
    */
   variables(pid, scope, { address, base, registers }, file) {
     const pairs = registers.flatMap(([number, value]) => [BigInt(number), value]);
