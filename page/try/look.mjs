@@ -269,6 +269,7 @@ async function open_globals(page) {
 }
 
 async function variables_of_c(page) {
+  await page.eval("[...document.querySelectorAll('dialog[open]')].forEach((it) => it.close())");
   await points(page, [{ name: "points.debug", bytes: readFileSync(new URL("points.debug", POINTS)) }]);
   holds(await page.eval("page.app.booted.files.length === 2"), "tables of variables are no file of the machine");
   await into(page, "weight, points.c:20");
@@ -280,12 +281,12 @@ async function variables_of_c(page) {
   await open_globals(page);
   await page.eval("document.querySelector('#c-globals-told .opens[aria-expanded]').focus()");
   await page.key("Enter");
-  holds((await variables_in(page, "c-globals-told")).length === 3, "an array opens by a key");
+  holds((await variables_in(page, "c-globals-told")).length === 4, "an array opens by a key");
   holds(await page.eval("document.activeElement.getAttribute('aria-label') === 'Parts of shapes' && document.activeElement.getAttribute('aria-expanded') === 'true'"), "and the keys stay there");
   await page.picture(`${folder}/variables.png`, { full: true });
   await page.eval("document.querySelectorAll('#c-calls button')[1].click()");
   await page.until("document.querySelector('#c-locals caption')?.textContent.endsWith(' main')");
-  holds((await variables_in(page, "c-locals")).includes("all | int | 0"), "the variables of a call that is chosen");
+  holds((await variables_in(page, "c-locals")).includes("all | int | 116"), "the variables of a call that is chosen");
   const before = await at(page);
   await page.eval("document.querySelector('#c-locals .stored').click()");
   await page.until(`page.app.view?.at < ${before}`);
