@@ -453,7 +453,7 @@ def try_words(room):
         ([sheet, right, "--part", "x"], 1, "--part takes a word"),
         ([sheet], 1, "usage: xv --check"), ([sheet, right, "--all"], 1, "there is no option --all"),
         (["--help"], 0, "Status: 0 nothing"),
-        ([sheet, room / "nowhere"], 1, "nowhere can't be read: ENOENT"),
+        ([sheet, room / "nowhere"], 1, "nowhere can't be read: no such file or directory"),
         ([sheet, right / "init.s"], 3, "the submission is not a folder"),
         ([room / "nowhere.json", right], 2, "nowhere.json can't be read"),
         ([room / "no.json", right], 2, "it is no sheet of this version"),

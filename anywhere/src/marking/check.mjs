@@ -5,6 +5,7 @@ import { basename, join, resolve } from "node:path";
 import { write_all } from "../streams.mjs";
 import { Refusal } from "../grading/words.mjs";
 import { is_right } from "./cases.mjs";
+import { reason_of } from "./files.mjs";
 import { Stop, exercise_of_held, graded } from "./held.mjs";
 import { bytes_if_plain } from "./plain.mjs";
 import { NO_ANSWER, read_sheet } from "./sheet.mjs";
@@ -105,7 +106,7 @@ function names_in(folder) {
     if (!statSync(folder).isDirectory()) return [];
     return readdirSync(folder).filter((name) => !name.startsWith(".")).sort();
   } catch (error) {
-    throw new Stop(error.code === "ENOENT" ? 1 : 2, `${folder} can't be read: ${error.code}`);
+    throw new Stop(error.code === "ENOENT" ? 1 : 2, `${folder} can't be read: ${reason_of(error)}`);
   }
 }
 

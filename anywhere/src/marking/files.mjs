@@ -1,13 +1,17 @@
 // Files of this host: what can't be read or written stops the command, with its path.
 import { mkdirSync, readFileSync, readdirSync, renameSync, writeFileSync } from "node:fs";
+import { getSystemErrorMap } from "node:util";
 import { Stop } from "./held.mjs";
+
+/** Why the host refused something, in its words. */
+export const reason_of = (error) => getSystemErrorMap().get(error.errno)?.[1] ?? error.message;
 
 /** Does what may fail by the host, and stops with this status and text if it does. */
 function attempt(action, status, told) {
   try {
     return action();
   } catch (error) {
-    throw new Stop(status, `${told}: ${error.code ?? error.message}`);
+    throw new Stop(status, `${told}: ${reason_of(error)}`);
   }
 }
 
