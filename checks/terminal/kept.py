@@ -67,7 +67,12 @@ def start(record, files, *options):
 def end(session, how):
     """Ends a session and all that it started by a signal."""
     os.killpg(session.pid, how)
-    session.wait()
+    try:
+        session.wait(timeout=PATIENCE)
+    except subprocess.TimeoutExpired:
+        complain(f"{how.name} doesn't end a session")
+        os.killpg(session.pid, signal.SIGKILL)
+        session.wait()
 
 
 def is_whole(record):
@@ -198,6 +203,9 @@ def try_full(room):
         complain(f"a record that can't be written: {done}")
 
 
+# Whoever starts this may ignore signals, as nohup does; the sessions here are to get them.
+for it in (signal.SIGHUP, signal.SIGINT, signal.SIGQUIT):
+    signal.signal(it, signal.SIG_DFL)
 with tempfile.TemporaryDirectory() as folder:
     tries = [try_kept, try_spins, try_window, try_back, try_there, try_full]
     for attempt in tries:

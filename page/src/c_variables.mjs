@@ -66,10 +66,15 @@ function toggle(key, path, is_open) {
   }, is_open ? "▾" : "▸");
 }
 
+/** Whether a value is another one than at the last stop; one that isn't known is no other. */
+const is_changed = ({ value, before }) => (
+  typeof before === "string" && before !== value && !UNKNOWN[before] && !UNKNOWN[value]
+);
+
 /** The row of a variable or of a part of one, with those of its parts if it is open. */
 function rows_of(it, scope, path = it.name, depth = 0) {
   const parts = parts_of(it.value), key = `${scope} ${path}`, is_open = parts.length > 0 && open.has(key);
-  const is_new = typeof it.before === "string" && it.before !== it.value;
+  const is_new = is_changed(it);
   const sign = element("span", { class: "sign" }, is_new ? "✱" : "");
   if (is_new) sign.append(element("span", { class: "unseen" }, CHANGED));
   const opens = parts.length ? toggle(key, path, is_open) : element("span", { class: "opens" });
@@ -100,15 +105,17 @@ function none_told({ wrong, rows }, kind) {
 function table_of(of_scope, kind) {
   const none = none_told(of_scope, kind), { rows } = of_scope;
   if (none) return [element("p", { class: of_scope.wrong ? "bad" : "dim" }, none)];
-  const title = kind === "globals" ? null : `Arguments and locals of ${shown.name || "this function"}`;
+  const is_global = kind === "globals";
+  const title = is_global ? null : `Arguments and locals of ${shown.name || "this function"}`;
   const head_of = (it) => element("th", { scope: "col" }, it || element("span", { class: "unseen" }, "stores"));
   const heads = HEADS.map(head_of);
   const most = rows.length < MOST_VARIABLES ? [] : [
     element("p", { class: "dim" }, `These are the first ${MOST_VARIABLES}: no more are told.`),
   ];
-  return [element("table", {}, title ? element("caption", {}, title) : null,
+  const label = is_global ? "Variables of the program" : null;
+  return [element("table", { "aria-label": label }, title ? element("caption", {}, title) : null,
     element("thead", {}, element("tr", {}, ...heads)),
-    element("tbody", {}, ...rows.flatMap((it) => rows_of(it, kind === "globals" ? kind : shown.name)))), ...most];
+    element("tbody", {}, ...rows.flatMap((it) => rows_of(it, is_global ? kind : shown.name)))), ...most];
 }
 
 /** Draws the rows that were told last; the button that had the keys has them again. */

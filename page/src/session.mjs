@@ -94,6 +94,8 @@ async function keep_record(run, record) {
 function keep_as_it_goes() {
   keep_now();
   const is_shown = is_restored && app.view && !is_slide() && !openings;
+  // A run that has only just begun is none of the database's yet: a reload shows it all the same.
+  if (is_shown) keep_here("run", { id: current.id, owner });
   lay_aside(is_shown ? record_now() : null);
 }
 

@@ -29,7 +29,7 @@ async function play(page) {
 
 async function boots(page) {
   await page.eval(`page.programs.set_files([{ name: 'init.s', text: ${JSON.stringify(SOURCE)} }], { rounds: true, quantum: 100000 }, 'breaks'); page.programs.boot({ play: false })`);
-  await page.until("page.app.view?.at === 0 && page.app.booted.work === 'breaks'");
+  await page.until("page.app.view?.at === 0 && page.app.booted.work.startsWith('breaks')");
   await page.eval("document.getElementById('breaks').open = true");
 }
 
