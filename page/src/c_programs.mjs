@@ -103,7 +103,7 @@ function symbols_of({ file, table }, name, sources) {
 
 /**
  * What is told of a source in C as it is edited: {mistakes, size, symbols}; `size` is that of its program, 0 if it is
- * none.
+ * none. Without a compiler `of` names the program in the list of which it is the source.
  */
 export async function check(file, list) {
   const sources = c_texts(list), { name } = file;
@@ -112,6 +112,9 @@ export async function check(file, list) {
     const symbols = program ? symbols_of(program, name, sources) : null;
     return { mistakes: mistakes_of(name, all), size: program?.file.length ?? 0, symbols };
   } catch (error) {
+    // The source of a program that the list has needs no compiler: it is here for its lines.
+    const is_there = is_c_program(file) && !is_compiled(file, list);
+    if (is_there) return { mistakes: [], size: 0, symbols: null, of: name.slice(0, -2) };
     return { mistakes: [{ line: 0, kind: "C", written: null, words: error.message }], size: 0, symbols: null };
   }
 }

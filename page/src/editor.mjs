@@ -365,14 +365,15 @@ function words_of_mistakes({ line, kind, mistakes, more }) {
 }
 
 /** Shows what came of compiling the source. */
-function told_c({ mistakes, size, symbols }) {
+function told_c({ mistakes, size, symbols, of }) {
   const wrong = mistakes.filter((it) => !it.is_warning), [first] = wrong, others = mistakes.length - wrong.length;
   take_mistakes(mistakes);
   state.places = symbols;
   const own = symbols?.table.lines.filter((it) => it.file === state.file.name);
-  state.coded = own ? new Set(own.map((it) => it.number)) : null;
+  state.coded = own || of ? new Set(own?.map((it) => it.number)) : null;
   const warned = others ? `, with ${others} warning${others > 1 ? "s" : ""}` : "";
   if (first) said(wrong.length > 1 ? `${wrong.length} mistakes` : first.line ? "a mistake" : first.words, "bad");
+  else if (of) said(`the source of ${of}, which isn't compiled here`, "");
   else said(`compiles: ${size ? `${size} bytes` : "it has no main"}${warned}`, "good");
   draw();
   show_pc();
