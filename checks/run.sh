@@ -6,7 +6,7 @@
 # makes marks of a class for other systems, runs the commands that the pages show, looks at
 # their links, at the cases by name and at the numbers of calls, counts what the proofs can do without, what stands twice, the
 # launcher's lines and what has to be believed, hands in answers of labs and compares their signs with labs/NOTATION.md, and
-# tells of which state the modules and page/nektavoly.html are, in some 40 seconds. The gate does the same after `rt ci`.
+# tells of which state the modules and page/nektavoly.html are, in up to five minutes. The gate does the same after `rt ci`.
 # `checks/run.sh --others` tells which other checks there are, how each is called, and how long it takes.
 #
 # `checks/run.sh --node` plays all of that which needs a program by the modules of anywhere/, with Node in place of the native
