@@ -178,14 +178,22 @@ fn send_often<P: RoundPlayer, W: ByteSink>(
     Ok(Ok(()))
 }
 
-// Plays an event so many times: Runs and Sends as many at once as the player makes. What it calls is never inlined: the
-// loop over parts, with a whole machine in it, would look for each of the machine's fields anew in each round.
-fn play_part<P: RoundPlayer, W: ByteSink>(
+// What it calls is never inlined: the loop over parts, with a whole machine in it, would look for each of the machine's
+// fields anew in each round.
+/// Lets a player play an event so many times, Runs and Sends as many at once as it makes. What a key or a Send shows is
+/// written at once.
+///
+/// The inner result is an `Err` if the bytes of an event can't be written: the machine stands after that event.
+///
+/// # Errors
+///
+/// The player's refusal: the events before the one that it refused are sent, and what they show is written.
+pub fn play_times<P: RoundPlayer, W: ByteSink>(
     player: &mut P,
     event: Event,
     count: u32,
     sink: &mut W,
-) -> Result<Written, P::Refusal>
+) -> Result<Result<(), DeviceFault>, P::Refusal>
     requires { IsSoundMachine (P.machine player.old) }
     ensures plays { IfOk result (λ w. Plays w (replicate count (event_of event)) (P.machine player.old) (P.machine player.new) (W.sink sink.old) (W.sink sink.new)) }
     ensures failures { IfOk result (λ w. FailsSo w (W.failures sink.old) (W.failures sink.new)) }
@@ -222,7 +230,7 @@ fn play_parts<P: RoundPlayer, W: ByteSink>(
     ensures none_failed { IfErr result (λ _. W.failures sink.new ≡ W.failures sink.old) }
 {
     for part in parts {
-        let written = play_part(player, part.event, part.count, sink)?;
+        let written = play_times(player, part.event, part.count, sink)?;
         let Ok(()) = written else {
             return Ok(Err(DeviceFault));
         };

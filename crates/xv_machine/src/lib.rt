@@ -19,7 +19,7 @@ mod step;
 mod trace;
 
 pub use devices::{ByteSink, Counted, DeviceFault, KeySource};
-pub use driving::{DriveEnd, DriveError, RunPlan, drive, play_rounds};
+pub use driving::{DriveEnd, DriveError, RunPlan, drive, play_rounds, play_times};
 pub use event::{Event, Outcome};
 pub use kcall_core::{
     Call, ChildState, ConsoleList, Descriptor, Echo, End, FileId, FrameUse, OpenFile, PipeCounts,

@@ -10,8 +10,8 @@ use Rattle.xv_machine.proofs.driving.play_parts.Goals as goal
 pub loop-part-init : goal.loop-part-init
 loop-part-init g c = record { played = none-played _ _ c.requires; failures = search rules }
 
-pub play_part-requires : goal.play_part-requires
-play_part-requires g c = c.loop-part.invariant.played.goes.sound
+pub play_times-requires : goal.play_times-requires
+play_times-requires g c = c.loop-part.invariant.played.goes.sound
 
 pub loop-part-preserved : goal.loop-part-preserved
 loop-part-preserved g c =

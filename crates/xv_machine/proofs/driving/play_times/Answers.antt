@@ -5,7 +5,7 @@ use Rattle.xv_machine.specs.declared.event.Event as told
 use Rattle.xv_machine.proofs.Joins.{none-played, silent-played}
 use Rattle.xv_machine.proofs.PlayedParts.{played-those}
 use Rattle.xv_machine.proofs.Refused.{if-err, first-those, first-silent}
-use Rattle.xv_machine.proofs.driving.play_part.Goals as goal
+use Rattle.xv_machine.proofs.driving.play_times.Goals as goal
 
 -- nothing is played
 pub returns-then-count-eq0-clause-plays : goal.returns-then-count-eq0-clause-plays
