@@ -199,7 +199,7 @@ echo "release.sh: of it the C compiler and its library have $(du -sb --apparent-
 
 # What is a teacher's goes apart; its page is made while all that it leads to is there.
 echo docs/COURSE-ANSWERS.md | as_html
-(cd "$RELEASE" && ls -d docs/COURSE-ANSWERS.* programs/course/exercises checks/grading checks/sessions/course_* \
+(cd "$RELEASE" && ls -d docs/COURSE-ANSWERS.* programs/course/exercises programs/course/slides.txt checks/grading checks/sessions/course_* \
     checks/debugger/overrun.* checks/debugger/fork.*) | while read -r its; do
     mkdir -p "$TEACHER/$(dirname "$its")"
     mv "$RELEASE/$its" "$TEACHER/$its"

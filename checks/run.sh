@@ -117,7 +117,7 @@ case "$*" in
 --node)
     begin_node
     do_all $quick $longer checks/dap/run.sh 'node checks/dap/hostile.mjs 1 1000' 'node checks/dap/extension.mjs' \
-        'node checks/dap/stops.mjs 200' 'node anywhere/try/machine_room.mjs'
+        'node checks/dap/stops.mjs 200' 'node anywhere/try/machine_room.mjs' 'node checks/slides.mjs'
     ;;
 '--node --quick' | '--quick --node')
     begin_node

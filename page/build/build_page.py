@@ -4,12 +4,13 @@ before it was lowered, with a memory of 64 bits, which stands at the page's foot
 
 The modules of page/src and of anywhere/machine are joined (joining.py). The programs, the examples and the manual (docs/manual/*.md, by manual.py) are read
 from the repository. The same inputs give the same bytes."""
-import base64, json, os, re, sys
+import base64, json, os, sys
 
 module, sum_of_64_bits, root, out = sys.argv[1:5]
 note = "".join(sys.argv[5:])
 sys.path.append(os.path.join(root, "anywhere", "build"))
 import joining
+import examples
 import manual
 import packing
 import sources
@@ -25,34 +26,9 @@ def text(path):
     return read(path).decode()
 
 
-def heading(source):
-    """What an example's first line of comment says."""
-    first = next((line for line in source.split("\n") if line.startswith("#")), "")
-    words = re.sub(r"^#\s*(Exercise \d+\.\s*)?", "", first)
-    return re.split(r"(?<=[.?!:])\s", words)[0].rstrip(".:")[:64]
-
-
-PROGRAMS = "init sh ls help echo cat wc grep head sort kill sleep primes pingpong forks lazy crash storm tests".split()
-
-
-def examples():
-    poem = {"name": "poem.txt", "text": text(f"{root}/programs/examples/cat/poem.txt")}
-    found = {"shell": {"title": "sh, with the programs in C", "files": [poem], "programs": PROGRAMS}}
-    for folder, is_course in (("examples", False), ("course", True)):
-        for name in sorted(os.listdir(f"{root}/programs/{folder}")):
-            path = f"{root}/programs/{folder}/{name}"
-            if not os.path.isfile(f"{path}/init.s"):
-                continue
-            files = sorted((it for it in os.listdir(path) if it.endswith((".s", ".txt"))), key=lambda it: (it != "init.s", it))
-            source = text(f"{path}/init.s")
-            key = f"{name} course" if name in found else name
-            found[key] = {"title": heading(source), "files": [{"name": it, "text": text(f"{path}/{it}")} for it in files], "rounds": is_course}
-    return found
-
-
 def in_c():
     """What the page shows of the programs in C: the tables of their lines, and the sources that these name."""
-    tables = {name: text(f"{root}/programs/c/tables/{name}.lines") for name in PROGRAMS}
+    tables = {name: text(f"{root}/programs/c/tables/{name}.lines") for name in examples.PROGRAMS}
     named = sorted({row[5:] for table in tables.values() for row in table.split("\n") if row.startswith("file ")})
     folders = [f"{root}/programs/c/{it}" for it in ("src", "lib")]
     return {"tables": tables, "sources": {name: text(f"{folder}/{name}") for name in named for folder in folders if os.path.exists(f"{folder}/{name}")}}
@@ -71,8 +47,9 @@ sum_ = sources.sum_of(root, "--page")
 data = {
     "wasm": base64.b64encode(read(module)).decode(),
     "worker": joining.joined(os.path.join(here, "worker.mjs")),
-    "programs": {name: base64.b64encode(read(f"{root}/programs/bin/{name}")).decode() for name in PROGRAMS},
-    "examples": examples(),
+    "programs": {name: base64.b64encode(read(f"{root}/programs/bin/{name}")).decode() for name in examples.PROGRAMS},
+    "examples": examples.examples(root),
+    "slides": examples.slides(root),
     "manual": smaller(manual.pages(root)),
     "c": smaller(in_c()),
     "built": sum_[:16],

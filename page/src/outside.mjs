@@ -266,7 +266,22 @@ export function shown_of(it) {
   };
 }
 
+// ---- keys
+
+/** The keys that are written as text: \n, \t, \\ and \x04 stand for bytes. */
+export function keys_of(text) {
+  return new TextEncoder().encode(
+    text.replace(/\\(x[0-9a-fA-F]{2}|.)/g, (_, it) => (
+      it[0] === "x" && it.length === 3 ? String.fromCharCode(parseInt(it.slice(1), 16))
+        : { n: "\n", t: "\t", r: "\r" }[it] || it
+    ))
+  );
+}
+
 // ---- links
+
+/** The panels of a machine that a link may name. */
+export const PANELS = ["instruction", "pages", "translate", "opened", "happened", "why"];
 
 /** What an address has after its #, by names; nothing if it is a place within the page, as #screen. */
 export function words_of(hash) {

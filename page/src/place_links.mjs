@@ -6,7 +6,7 @@ import { grouped } from "../../anywhere/machine/number_words.mjs";
 import { CALL, WHAT } from "../../anywhere/machine/event_search.mjs";
 import { problem } from "./messages.mjs";
 import { pages } from "./manual.mjs";
-import { link_of } from "./outside.mjs";
+import { PANELS, keys_of, link_of } from "./outside.mjs";
 import { all_calls } from "../../anywhere/machine/calls.mjs";
 import { way_of } from "../../anywhere/machine/named_place.mjs";
 import { keys_in } from "../../anywhere/machine/events.mjs";
@@ -18,7 +18,6 @@ import * as programs from "./programs.mjs";
 import * as lessons from "./lessons.mjs";
 
 const DATA = globalThis.PAGE_DATA;
-export const PANELS = ["instruction", "pages", "translate", "opened", "happened", "why"]; // those that a link may name
 const TABS = [...PANELS, "programs", "lessons"];
 
 export const is_embedded = () => new URLSearchParams(location.search).has("embed");
@@ -48,7 +47,7 @@ export function read_link(hash) {
  */
 function how_of(example, { frames, rounds, keys, at }) {
   const how = { ...example_of(example) };
-  const typed = keys === undefined ? how.keys : new TextDecoder().decode(programs.keys_of(keys));
+  const typed = keys === undefined ? how.keys : new TextDecoder().decode(keys_of(keys));
   const given = { frames: Number(frames) || how.frames, quantum: Number(rounds) || how.quantum, keys: typed };
   return { ...how, ...given, rounds: how.rounds || rounds !== undefined || at !== undefined };
 }
@@ -160,7 +159,7 @@ export function short_place() {
   const is_same = (it, own) => it.name === own.name && (it.text === undefined ? own.built_in : it.text === own.text);
   const is_shipped = work.files.length === shipped.length && shipped.every((it, k) => is_same(it, work.files[k]))
     && booted.files.every((it) => it.text === undefined || it.text === it.from.text);
-  const keys = programs.keys_of(machine.keys), is_typed = keys_in(app.events.all()).some((it, k) => it !== keys[k]);
+  const keys = keys_of(machine.keys), is_typed = keys_in(app.events.all()).some((it, k) => it !== keys[k]);
   if (
     !is_shipped || is_typed || booted.config.frames !== Number(machine.frames)
       || booted.how.quantum !== Number(machine.quantum)

@@ -14,6 +14,7 @@ import {
 } from "./works.mjs";
 import { counting } from "./breaks.mjs";
 import { problem } from "./messages.mjs";
+import { keys_of } from "./outside.mjs";
 import * as editor from "./editor.mjs";
 
 const DATA = globalThis.PAGE_DATA;
@@ -240,16 +241,6 @@ async function forget() {
 }
 
 // ---- boot
-
-/** The keys that are written as text: \n, \t, \\ and \x04 stand for bytes. */
-export function keys_of(text) {
-  return new TextEncoder().encode(
-    text.replace(/\\(x[0-9a-fA-F]{2}|.)/g, (_, it) => (
-      it[0] === "x" && it.length === 3 ? String.fromCharCode(parseInt(it.slice(1), 16))
-        : { n: "\n", t: "\t", r: "\r" }[it] || it
-    ))
-  );
-}
 
 function assembled(text) {
   return new Promise((done) => {

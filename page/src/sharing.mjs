@@ -5,7 +5,7 @@ import { RECORD_BEGINNING, read_record, record_text } from "../../anywhere/machi
 import { beginning_of, spans_of } from "../../anywhere/machine/events.mjs";
 import { bytes_of_file, packed_file, touch, unpacked_file } from "./works.mjs";
 import { problem } from "./messages.mjs";
-import { MOST_EVENTS, Refusal, SLIDES_BEGINNING, shared_of, unpacked_value } from "./outside.mjs";
+import { MOST_EVENTS, Refusal, SLIDES_BEGINNING, keys_of, shared_of, unpacked_value } from "./outside.mjs";
 import { arrive, follow_place, is_booted, is_slide, read_link, seen_now, short_place } from "./place_links.mjs";
 import { event_words } from "./time.mjs";
 import { open_manual } from "./manual.mjs";
@@ -118,7 +118,7 @@ function shared() {
   ));
   return {
     files, frames: Number(frames), rounds: order === "rounds", quantum: Number(quantum),
-    keys: new TextDecoder().decode(programs.keys_of(keys)), stops: work.files.map((it) => it.stops ?? []),
+    keys: new TextDecoder().decode(keys_of(keys)), stops: work.files.map((it) => it.stops ?? []),
     breaks: work.breaks, run: run_now(),
   };
 }

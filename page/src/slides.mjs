@@ -1,5 +1,5 @@
-// Slides: a place for the point of each lecture of the course (docs/COURSE.md), or those of a file of the teacher's, by the
-// link that leads there; and the view for a lecture: large letters, arrow keys, a question with its answer, and nothing else.
+// Slides: a place for each idea of the course (docs/COURSE.md), or those of a file of the teacher's, by the link that
+// leads there; and the view for a lecture: large letters, arrow keys, a question with its answer, and nothing else.
 import { $, app, ask, element, on, write } from "./app.mjs";
 import { event_words, step, toggle } from "./time.mjs";
 import { is_lecture, set_view } from "./place_links.mjs";
@@ -7,47 +7,7 @@ import { SLIDES_BEGINNING, slides_of } from "./outside.mjs";
 import { problem } from "./messages.mjs";
 import { take_texts } from "./programs.mjs";
 
-/**
- * What each slide shows, and the link that leads there. (\x10 is Ctrl-P, which the console passes over: while it comes,
- * the shell prompts.)
- */
-export const SLIDES = [
-  [
-    "A call is one instruction: ecall, and the kernel answers in a0",
-    "example=trace&rounds=6&at=uptime&tab=instruction",
-  ],
-  [
-    "fork answers twice: the child's pid in the parent, 0 in the child",
-    "example=fork&rounds=1000&at=fork&tab=instruction&pid=2",
-  ],
-  [
-    "A pipeline: who holds which end, and which descriptors were copied",
-    "example=shell&rounds=1000&keys=%5Cx10echo%20hello%20%7C%20wc%5Cn&at=exec.3&tab=opened",
-  ],
-  ["A reader that holds the write end waits for ever", "example=hang&at=last&tab=why"],
-  ["Three levels of tables: what 192 KiB cost in frames", "example=pages&frames=100&at=1&tab=pages"],
-  [
-    "An address is 9 + 9 + 9 + 12 bits: the guard page refuses",
-    "example=pages&at=1&tab=translate&address=0x31000&access=store",
-  ],
-  [
-    "A fault: the instruction, the cause, and the registers before it",
-    "example=misaligned&rounds=1000&at=fault&tab=why",
-  ],
-  [
-    "A page that was promised comes when it is touched, with its tables",
-    "example=lazy%20course&frames=64&rounds=20&at=5&tab=pages",
-  ],
-  [
-    "Turns go round by slots, with a tick after each 500 Runs",
-    "example=turns&rounds=500&at=turn.6&tab=happened&show=turns",
-  ],
-  ["A full pipe: the writer sleeps until the reader has made room", "example=full&at=asleep.2&tab=opened"],
-  ["Between its end and its parent's wait a process is a zombie without frames", "example=tree&at=end.2&tab=happened"],
-  ["The store that did it: from the wrong number back to the line", "example=overrun&at=81&tab=instruction"],
-];
-
-const COURSE = SLIDES.map(([title, link]) => ({ title, link, question: "", answer: "" }));
+const COURSE = slides_of(globalThis.PAGE_DATA.slides); // programs/course/slides.txt, without its answers
 const KEPT = "nektavoly slides"; // as long as the tab is open: a reload has the file's slides again
 const own = { deck: COURSE, words: "" }; // the slides along which the keys go, and the text of a teacher's own
 let here = -1; // the one that is shown
@@ -166,7 +126,7 @@ export const listed_slides = () => element(
 );
 /** What the list of slides has: those of the course, or of a file. */
 export const words_of_slides = () => (
-  own.deck === COURSE ? "Twelve slides for a course" : `${own.deck.length} slides of your own`
+  `${own.deck.length} slides ${own.deck === COURSE ? "for a course" : "of your own"}`
 );
 
 export function start() {

@@ -33,20 +33,22 @@ const EXIT = "  li a0, 7\n  li a7, 2\n  ecall\n";
 // ---- links
 
 /**
- * What each of the twelve slides must show: the place, if no program in C is in it, the panel, and words that stand
+ * What each of the course's slides must show: the place, if no program in C is in it, the panel, and words that stand
  * there.
  */
 const SLIDES = [
-  [80, "instruction", /uptime answers 2/], [3, "instruction", /Process 2/], [null, "opened", /the write end of the pipe/], [49, "why", /nobody can go on/i],
-  [1, "pages", /51 pages of 51/], [1, "translate", /Bit U refuses/], [3, "why", /which is no multiple of/], [5, "pages", /3 pages of/],
-  [2666, "happened", /has a turn/], [29, "opened", /2048 of 2048 bytes/], [46, "happened", /exit\(1\) ends with 1/], [81, "instruction", /sb t0, 0\(a1\)/],
+  [1, "pages", /4 pages of 4/], [6, "instruction", /open answers 0/], [3, "instruction", /fork answers 2/], [12, "opened", /the console/],
+  [12, "happened", /exit\(42\) ends with 42/], [27, "opened", /2 of 2048 bytes/], [16, "opened", /0 of 2048 bytes/], [50, "opened", /read answers 0/],
+  [null, "opened", /the write end of the pipe/], [3103, "opened", /the key 127/], [1, "pages", /4 pages of 4/], [6, "pages", /4 pages of/],
+  [1, "translate", /Bit U refuses/], [3, "why", /which is no multiple of/], [2666, "happened", /has a turn/], [10332, "happened", /sleep\(10 ticks\)/],
+  [null, "happened", /kill\(process 3\)/], [null, "happened", /exit\(0\) ends with 0/], [null, "pages", /1 pipe/], [36, "why", /nobody can go on/i],
 ];
 
 async function slides(page) {
   await page.click("#share");
   await page.until("document.querySelectorAll('#dialog ol li').length");
   const links = await page.eval("[...document.querySelectorAll('#dialog ol li a:first-child')].map((it) => it.getAttribute('href').slice(1))");
-  holds(links.length === 12, `there are twelve slides: ${links.length}`);
+  holds(links.length === SLIDES.length, `there are so many slides: ${links.length}`);
   for (const [k, link] of links.entries()) {
     const [place, panel, words] = SLIDES[k];
     await follow(page, link);
