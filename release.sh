@@ -28,6 +28,14 @@
 #
 # adds a pack for the labs to the release in FOLDER, nektavoly-VERSION-labs.tar.xz, and its sum to the others: what `lab pack`
 # makes in this clone, in which `rt ci` has to have passed. Its bytes aren't the same each time.
+#
+#   release.sh --clone FOLDER
+#
+# makes FOLDER a repository for students, of the last commit: for the exercises that need a clone. It lacks what
+# programs/course/teachers.txt names, and has one commit and no history. The same commit gives the same one there.
+#
+# An archive for students and such a repository are looked through for answers of the course (checks/secrets.py): with one
+# found neither is made.
 set -euo pipefail
 export LC_ALL=C TZ=UTC
 umask 022
@@ -43,8 +51,8 @@ stop() {
 }
 
 usage() {
-    echo 'usage: release.sh [FOLDER], release.sh --cut VERSION [--commit], or release.sh --labs FOLDER [NAME..]; the head of' \
-        'release.sh says more' >&2
+    echo 'usage: release.sh [FOLDER], release.sh --cut VERSION [--commit], release.sh --labs FOLDER [NAME..], or' \
+        'release.sh --clone FOLDER; the head of release.sh says more' >&2
     exit 2
 }
 
@@ -96,8 +104,45 @@ add_labs() {
     (cd "$into" && sha256sum "$pack-labs.tar.xz" >>"$pack.sha256")
 }
 
+# What is a teacher's of the folder where it is called: the paths that programs/course/teachers.txt names and that are there.
+of_teachers() {
+    local pattern
+    while read -r pattern; do
+        compgen -G "$pattern" || true
+    done < <(grep -v '^#' programs/course/teachers.txt)
+}
+
+# Makes a repository for students.
+make_clone() {
+    local into=$1 of
+    is_clean
+    [ ! -e "$into" ] || stop "$into is there already"
+    of=$(git log -1 --format=%ct)
+    mkdir -p -- "$into" && git archive HEAD | tar -x -C "$into"
+    (
+        cd "$into"
+        of_teachers | xargs -d '\n' rm -rf --
+        git init -q --template= -b main
+        git add -A
+        GIT_AUTHOR_DATE="$of +0000" GIT_COMMITTER_DATE="$of +0000" git -c user.name=Nektavoly -c user.email= -c commit.gpgSign=false \
+            commit -q -m "Nektavoly $(cat VERSION), for students"
+    )
+    if ! python3 -B checks/secrets.py "$into"; then
+        rm -rf -- "$into"
+        stop "$into would have answers, and isn't made"
+    fi
+    echo "release.sh: $into, of $(git -C "$into" log -1 --format='commit %h'); then: git clone $into"
+}
+
 into=
 case ${1-} in
+    --clone)
+        [ $# = 2 ] || usage
+        into=$(realpath -m -- "$2")
+        cd "$(dirname "$0")"
+        make_clone "$into"
+        exit
+        ;;
     --labs)
         [ $# -ge 2 ] || usage
         into=$(realpath -m -- "$2")
@@ -199,8 +244,7 @@ echo "release.sh: of it the C compiler and its library have $(du -sb --apparent-
 
 # What is a teacher's goes apart; its page is made while all that it leads to is there.
 echo docs/COURSE-ANSWERS.md | as_html
-(cd "$RELEASE" && ls -d docs/COURSE-ANSWERS.* programs/course/exercises programs/course/slides.txt checks/grading checks/sessions/course_* \
-    checks/debugger/overrun.* checks/debugger/fork.*) | while read -r its; do
+(cd "$RELEASE" && of_teachers) | while read -r its; do
     mkdir -p "$TEACHER/$(dirname "$its")"
     mv "$RELEASE/$its" "$TEACHER/$its"
 done
@@ -208,6 +252,8 @@ find "$RELEASE" -name '*.md' -printf '%P\n' | sort | as_html
 python3 -B "$room/html/search.py" "$RELEASE"
 python3 -B "$room/html/words.py" "$RELEASE"
 [ -z "$(find "$RELEASE" "$TEACHER" -type l)" ] || stop "the repository has links, which npm and Windows don't take: $(find "$RELEASE" "$TEACHER" -type l -printf '%P ')"
+
+python3 -B checks/secrets.py "$RELEASE" || stop "the archive for students would have answers"
 
 # Packs the folder in $1 as the archive $2, with the sums of its files in the file $3.
 pack() {

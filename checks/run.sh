@@ -49,6 +49,7 @@ tell_others() {
     tell back-to/run.sh 'back-to/run.sh [N]' 'the stored runs, played back to 20 places each: slow; needs rt'
     tell reasons.py 'reasons.py --refused 20000' "20,000 refused calls have the reasons of a table of its own: some minutes"
     tell release.sh 'release.sh FOLDER' 'a release, tried in a bare Debian 12, natively and by Node: some minutes; needs root, debootstrap and the network'
+    tell autograder.sh 'autograder.sh' "Gradescope's zip in a bare Debian 12, with right, wrong and hostile submissions: four minutes; needs root, debootstrap and the network"
     tell imports.py 'imports.py [--tell] CRATE..' 'writes the heads of the proofs, and the module that hands on their words: a second'
     tell html-links.py 'html-links.py FOLDER' 'the links of a release that was untarred'
     tell assumed.py 'assumed.py' "the C functions that programs reach are those that docs/TRUST.md names: some 10 minutes; needs rt, and a gate's libraries"
@@ -110,7 +111,7 @@ case "$*" in
     do_all $quick $longer 'python3 -B checks/commands.py' 'python3 -B checks/links.py' 'python3 -B checks/lemmas.py' \
         'python3 -B checks/closure.py' 'python3 -B checks/once.py' 'python3 -B checks/cases.py' 'python3 -B checks/calls.py' \
         'python3 -B checks/launcher_lines.py' 'python3 -B checks/contracts.py' 'python3 -B checks/edits_apply.py' \
-        'checks/labs.sh --refusals' 'checks/labs.sh --notation' \
+        'python3 -B checks/secrets.py' 'checks/labs.sh --refusals' 'checks/labs.sh --notation' \
         'anywhere/is_current.sh --tell' 'page/is_current.sh --tell' checks/shell.sh
     tell_others
     ;;
