@@ -4,7 +4,8 @@
 //   sheet EXERCISE [--open FILE]              what a student may know of an exercise: for xv --check, to be handed out
 //   collect WAY FOLDER --to FOLDER [--roster FILE] [--exercise FILE] [--prefix TEXT]
 //                                             makes a class of folders of what moodle, canvas or github gave (WAY)
-//   json COURSE --to FILE                     all marks of a course in one file, and what has changed in it
+//   json COURSE --to FILE [--on DAY]          all marks of a course in one file, and what has changed in it; DAY is that
+//                                             of the changes, as 2027-05-01, if not today
 //   csv WAY FILE                              a table of such marks: for people, moodle or canvas (WAY)
 //   junit FILE                                JUnit's XML
 //   html FILE --to FOLDER [--closed] [--page ADDRESS]

@@ -60,6 +60,7 @@ tell_others() {
     tell terminal/by_hand.sh 'terminal/by_hand.sh [FOLDER]' 'sessions at a real terminal, with their screens: a minute; needs tmux'
     tell terminal/measure.py 'terminal/measure.py' 'the terminal'"'"'s speed beside xv_run, its echo, and what it takes while all sleep: a minute'
     tell grading/course.py 'grading/course.py SEED' '200 other damaged submissions, in which --check and the grader agree: half a minute; needs nodejs'
+    tell grading/readers.py 'grading/readers.py SEED' 'as many other texts of TOML and CSV, read as Python reads them: some seconds; needs nodejs'
     tell grading/run.sh 'grading/run.sh --all' '210 submissions, twice, in two orders, with a kill and a second start: a minute'
     tell grading/run.sh 'grading/run.sh --many' 'a thousand submissions by GNU parallel (Debian: parallel): two minutes'
     tell c-lines.py 'c-lines.py' 'the lines of the programs in C are those of addr2line: half a minute; needs the C compiler'
@@ -103,7 +104,7 @@ begin_node() {
 
 # What needs a program: the quick ones first.
 quick='checks/words/run.sh checks/refusals/run.sh checks/sessions/run.sh checks/rows/wild.sh'
-longer='checks/stored-runs/run.sh checks/rows/run.sh checks/why/run.sh checks/c-programs/run.sh checks/gdb/run.sh checks/terminal/run.sh checks/terminal/kept.py checks/terminal/replayed.py checks/debugger/run.sh checks/debugger/typed.py checks/lines.py checks/reasons.py checks/beside-disassemblers/sample.py checks/grading/run.sh checks/grading/course.py'
+longer='checks/stored-runs/run.sh checks/rows/run.sh checks/why/run.sh checks/c-programs/run.sh checks/gdb/run.sh checks/terminal/run.sh checks/terminal/kept.py checks/terminal/replayed.py checks/debugger/run.sh checks/debugger/typed.py checks/lines.py checks/reasons.py checks/beside-disassemblers/sample.py checks/grading/run.sh checks/grading/course.py checks/grading/readers.py'
 
 # shellcheck disable=SC2086
 case "$*" in

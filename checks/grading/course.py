@@ -354,14 +354,14 @@ def try_refusals(room):
     course = (room / "course.toml").read_text(encoding="utf-8")
     changes = [
         ("late_days", "late_day", "late_day means nothing here"),
-        ("percent = 25", "percent = 125", "a percent from 0 to 100"),
+        ("percent = 25", "percent = 125", "line 5: percent is 125, and is to be a percent from 0 to 100"),
         ('name = "pages"', 'name = "children"', "two exercises children"),
-        ('"2027-04-12T23:59:00+02:00"', '"at noon"', "due is no time"),
+        ('"2027-04-12T23:59:00+02:00"', '"at noon"', 'line 17: due is "at noon", and is to be a time'),
         ('roster = "roster.csv"', 'roster = "no.csv"', "no.csv can't be read"),
-        ("points = 4", "points = 3", "3.5 is more than the 3 points"),
-        ("late_days = {", "late_days = 3 #", "late_days is no table"),
-        ("hand = [{", "hand = 4 #", "hand is no list of tables"),
-        ('work = "work-two"', "work = 2", "an exercise needs its file"),
+        ("points = 4", "points = 3", "by-hand.csv: line 2: s01, children: 3.5 is more than the 3 points"),
+        ("late_days = {", "late_days = 3 #", "late_days is 3, and is to be a table"),
+        ("hand = [{", "hand = 4 #", "hand is 4, and is to be a list of tables"),
+        ('work = "work-two"', "work = 2", "line 16: work is 2, and is to be a text"),
         ('"the drawing"', '"a drawing"', "children has no part the drawing"),
         ("title = ", "title ", "line 1: an `=` is missing"),
     ]
@@ -395,8 +395,8 @@ LONG_NAME = f"unknown 127 {'ä' * 94}"
 
 def try_collect(room):
     moodle = room / "moodle"
-    put(moodle / "Anna Müller_123_assignsubmission_file_", "init.s", RIGHT.encode("utf-16"))
-    put(moodle / f"{CLASS[1][1]}_124_assignsubmission_file", "init.s", RIGHT)
+    put(moodle / "Anna Müller_701_assignsubmission_file_", "init.s", RIGHT.encode("utf-16"))
+    put(moodle / f"{CLASS[1][1]}_702_assignsubmission_file", "init.s", RIGHT)
     put(moodle / "Kim Lee_705_assignsubmission_file_" / "inside", "init.s", RIGHT)
     put(moodle, "Kim Lee_706_assignsubmission_file_init.s", RIGHT)
     put(moodle, "Kim Lee_706_assignsubmission_file_x_705_assignsubmission_file_init.s", "for another one")
@@ -466,34 +466,6 @@ def try_words(room):
     (odd / "answers.txt").unlink()
     put(odd, "answers.txt", "pages: 55\r\n".encode("utf-16"))
     says([*check, sheet_at("2-pages"), odd], 3, "answers.txt is a text of UTF-16")
-
-
-TOML = [
-    "a = 1_000\nb = [0x1F, -3, +4]\nc = true # no\n\"d e\" = 'C:\\x'\n", "a.b.c = 1\na.b.d = 2\n[a.e]\nf = []\n",
-    "[[x]]\ny = 1\n[[x]]\n[[x.z]]\nw = {}\n", 'a = """\nfirst\\\n   second\n"quoted" ""two"" """""\n',
-    "a = '''\nraw \\n ' here'''\n",
-    'a = [1, [2, 3,], { b = "c", d.e = 4 },\n# more\n]\r\n', 'a = "\\u00e9\\U0001F600\\t\\\\\\""\n',
-    "__proto__ = 1\n[constructor]\ntoString = 'x'\n", "",
-]
-NO_TOML = ["a = -0x1F", "a", "a =", "a = 1 b = 2", "a = 1\na = 2", 'a = "x', 'a = "\\q"', "[a", "a = [1", "a = 1.5",
-           "a = 2027-01-01", 'a = "\\ud800"',
-           "a = '''x", "[a]\nb = 1\n[[a]]\n"]
-
-
-def try_toml():
-    """The reader of TOML reads what Python's does, and refuses the rest with its line."""
-    program = f"""import {{ NotRead, table_of }} from '{TOP}/anywhere/src/marking/toml.mjs';
-        import {{ readFileSync }} from 'node:fs';
-        const read = (text) => {{
-          try {{ return table_of(text); }}
-          catch (error) {{ if (error instanceof NotRead) return error.message; throw error; }}
-        }};
-        console.log(JSON.stringify(JSON.parse(readFileSync(0, 'utf8')).map(read)));"""
-    made = json.loads(run(["node", "--input-type=module", "-e", program], input=json.dumps(TOML + NO_TOML).encode()))
-    for text, table_of in zip(TOML, made):
-        expect(table_of == tomllib.loads(text), f"TOML {text!r} is read as {table_of}")
-    for text, why in zip(NO_TOML, made[len(TOML):]):
-        expect(isinstance(why, str) and re.match(r"line \d+: ", why), f"TOML {text!r} is read as {why}")
 
 
 # ---- the autograder
@@ -732,7 +704,6 @@ def main():
             part(room)
         try_agreement(room, *(seeds[:1] or [1]))
         try_sheets()
-        try_toml()
         expect(not list(room.rglob("owned")) and not list(TOP.glob("owned")), "something of a name was run on the host")
     print("course: all is as it should be" if not failed else f"course: {len(failed)} things are not as they should be")
     return 1 if failed else 0

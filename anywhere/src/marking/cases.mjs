@@ -18,6 +18,11 @@ function case_of(line) {
 /** Whether a submission has what a case is for. */
 export const is_right = (it) => it.standing === undefined;
 
+/** What shows that it hasn't. Of what wasn't run the cause says all. */
+export const why_of = ({ standing, cause, why }) => (
+  [cause, standing === "refused" ? "" : why].filter(Boolean).join("; ")
+);
+
 /** What a submission came to: {name, points, of, standing, reason, cases}. */
 export function cases_of(xml, csv) {
   const [[name, points, of, standing, reason] = []] = rows_of(csv);

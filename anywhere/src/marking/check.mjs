@@ -1,11 +1,11 @@
 // `xv --check EXERCISE FOLDER`: what a student asks before handing in. It grades by the sheet of the exercise, by what
 // grades a class, and tells nothing that isn't in the sheet: no answer can be tried on it.
-import { readdirSync, statSync } from "node:fs";
+import { statSync } from "node:fs";
 import { basename, join, resolve } from "node:path";
 import { write_all } from "../streams.mjs";
 import { Refusal } from "../grading/words.mjs";
-import { is_right } from "./cases.mjs";
-import { reason_of } from "./files.mjs";
+import { is_right, why_of } from "./cases.mjs";
+import { names_in, reason_of } from "./files.mjs";
 import { Stop, exercise_of_held, graded } from "./held.mjs";
 import { bytes_if_plain } from "./plain.mjs";
 import { NO_ANSWER, read_sheet } from "./sheet.mjs";
@@ -84,6 +84,8 @@ function run_numbers(parts) {
 function formed({ parts, form }, folder, name) {
   return graded(form, folder, name, (told) => {
     const runs = run_numbers(parts), left = [...told.cases];
+    const asked = parts.reduce((sum, { is_numbered }) => sum + (is_numbered ? 2 : 1), 0);
+    if (asked !== left.length) throw new Stop(2, `${form.named}: its parts aren't those of its form`);
     return parts.map((part, k) => {
       const its = left.splice(0, part.is_numbered ? 2 : 1);
       const text = part.question ? part.files.map((file) => text_at(folder, file).toString()).join("\n") : "";
@@ -100,19 +102,19 @@ function hints_of(folder, files) {
   return strange.map((file) => `${file} ${what} (Set-Content -Encoding utf8)`);
 }
 
-/** The names in a folder, sorted, without those that begin with a dot; none if it is no folder. */
-function names_in(folder) {
+/** The names in what is handed in, sorted, without those that begin with a dot; none if it is no folder. */
+function handed_in(folder) {
   try {
     if (!statSync(folder).isDirectory()) return [];
-    return readdirSync(folder).filter((name) => !name.startsWith(".")).sort();
   } catch (error) {
     throw new Stop(error.code === "ENOENT" ? 1 : 2, `${folder} can't be read: ${reason_of(error)}`);
   }
+  return names_in(folder).filter((name) => !name.startsWith("."));
 }
 
 /** What a look at a folder gives: {title, name, wanted, there, parts, hints, open}. */
 export function look_at(sheet, folder, name) {
-  const there = names_in(folder), { wanted } = exercise_of_held(sheet.form);
+  const there = handed_in(folder), { wanted } = exercise_of_held(sheet.form);
   const parts = formed(sheet, folder, name), hints = hints_of(folder, wanted.filter((file) => there.includes(file)));
   const open = sheet.open ? graded(sheet.open, folder, name, ({ cases }) => cases) : [];
   return { title: sheet.title, name, wanted, there, parts, hints, open };
@@ -143,9 +145,6 @@ function lines_of_parts({ parts }) {
     `  ${points_text(points)}  ${lack === null ? "is there " : "MISSING  "} ${shown(run)}: ${shown(name)}`
   ))];
 }
-
-/** What shows that an open case is wrong. */
-const why_of = ({ standing, cause, why }) => [cause, standing === "refused" ? "" : why].filter(Boolean).join("; ");
 
 function line_of_open(it, k) {
   const head = `  ${String(k + 1).padStart(2)}  ${is_right(it) ? "right" : "WRONG"}`;

@@ -10,8 +10,9 @@ import { join } from "node:path";
 import { MOST } from "../grading/stage.mjs";
 import { make_folder, names_in } from "./files.mjs";
 import { Stop, exercise_of_held, held_exercise } from "./held.mjs";
+import { folder_name, same_form } from "./host_names.mjs";
 import { bytes_if_plain, kind_at } from "./plain.mjs";
-import { Roster, read_roster, same_form } from "./roster.mjs";
+import { Roster, read_roster } from "./roster.mjs";
 import { shown } from "./shown.mjs";
 import { text_of_utf16 } from "./utf16.mjs";
 
@@ -19,7 +20,6 @@ import { text_of_utf16 } from "./utf16.mjs";
 // number.
 const MOODLES_FOLDER = /^([^]*)_(\d+)_assignsubmission_(?:file|onlinetext)_?$/;
 const MOODLES_FILE = /^([^]*?)_(\d+)_assignsubmission_(?:file|onlinetext)_([^]+)$/;
-const MOST_OF_NAME = 200; // bytes
 const CANVAS = /^([^_]*)_((?:LATE_)?)(\d+)_(\d+)_([^]+)$/;
 
 const is_folder = (path) => kind_at(path) === "folder";
@@ -36,41 +36,67 @@ function files_below(folder) {
   return [...pairs.filter(([, path]) => is_plain(path)), ...below];
 }
 
-// ---- whose it is: of each submission {name, files, find(roster), is_late}
+// ---- whose it is: of each submission {name, files, find(roster), is_late}. `find` gives {student, why}: who it is, or
+// why nobody is meant. `strange` are names that the system doesn't give.
+
+const why_nobody = (name) => `nobody of the roster is ${shown(name)}, or several are`;
+const found_by = (student, name) => (student ? { student } : { why: why_nobody(name) });
+
+/**
+ * Whose a folder of Moodle's is: its number says it, or its name. If the two are different students', or the roster has
+ * another number for this name, it is nobody's: else one student would have another one's marks.
+ */
+function find_of_moodle(roster, { name, number }) {
+  const by_number = roster.find(number, ["moodle"]), by_name = roster.find(name, ["name"]);
+  if (by_number && by_name && by_number !== by_name) {
+    return { why: `the number ${number} is that of ${shown(by_number.id)}, and the name that of ${shown(by_name.id)}` };
+  }
+  const other = by_number || number === "" ? "" : same_form(by_name?.moodle ?? "");
+  if (other !== "") return { why: `its number is ${number}, and that of ${shown(by_name.id)} is ${shown(other)}` };
+  return found_by(by_number ?? by_name, name);
+}
 
 function of_moodle(folder) {
-  const found = new Map();
+  const found = new Map(), strange = [];
   for (const entry of names_in(folder)) {
     const path = join(folder, entry), is_whole = is_folder(path);
     const [, name, number, file] = (is_whole ? MOODLES_FOLDER : MOODLES_FILE).exec(entry) ?? [, entry, ""];
-    if (!is_whole && file === undefined) continue;
+    if (!is_whole && file === undefined) {
+      strange.push(entry);
+      continue;
+    }
     const it = found.get(`${name}_${number}`) ?? { name, number, files: [] };
     it.files.push(...(is_whole ? files_below(path) : is_plain(path) ? [[file, path]] : []));
     found.set(`${name}_${number}`, it);
   }
-  const find = ({ name, number }) => (roster) => roster.find(number, ["moodle"]) ?? roster.find(name, ["name"]);
-  return [...found.values()].map((it) => ({ ...it, find: find(it) }));
+  const all = [...found.values()].map((it) => ({ ...it, find: (roster) => find_of_moodle(roster, it) }));
+  return { all, strange };
 }
 
 function of_canvas(folder) {
-  const found = new Map();
-  for (const entry of names_in(folder).filter((name) => is_plain(join(folder, name)))) {
-    const [, name, late, user, , file] = CANVAS.exec(entry) ?? [];
-    if (user === undefined) continue;
-    const it = found.get(user) ?? { name: `${name} ${user}`, files: [], is_late: late !== "" };
-    it.files.push([file, join(folder, entry)]);
-    found.set(user, { ...it, find: (roster) => roster.find(user, ["canvas"]) });
+  const found = new Map(), strange = [];
+  for (const entry of names_in(folder)) {
+    const [, name, late, user, , file] = (is_plain(join(folder, entry)) && CANVAS.exec(entry)) || [];
+    if (user === undefined) {
+      strange.push(entry);
+      continue;
+    }
+    const it = found.get(user) ?? { name: `${name} ${user}`, files: [], renames: true };
+    const find = (roster) => found_by(roster.find(user, ["canvas"]), it.name);
+    const is_late = it.is_late || late !== "";
+    found.set(user, { ...it, files: [...it.files, [file, join(folder, entry)]], is_late, find });
   }
-  return [...found.values()];
+  return { all: [...found.values()], strange };
 }
 
 function of_github(folder, prefix) {
   if (!prefix) throw new Stop(1, "collect github needs --prefix, what the names of all repositories begin with");
-  const names = names_in(folder).filter((name) => name.startsWith(`${prefix}-`) && is_folder(join(folder, name)));
-  return names.map((name) => {
-    const user = name.slice(prefix.length + 1);
-    return { name: user, files: files_below(join(folder, name)), find: (roster) => roster.find(user, ["github"]) };
+  const names = names_in(folder), is_clone = (name) => name.startsWith(`${prefix}-`) && is_folder(join(folder, name));
+  const all = names.filter(is_clone).map((name) => {
+    const user = name.slice(prefix.length + 1), find = (roster) => found_by(roster.find(user, ["github"]), user);
+    return { name: user, files: files_below(join(folder, name)), find };
   });
+  return { all, strange: names.filter((name) => !is_clone(name)) };
 }
 
 const WAYS = { moodle: of_moodle, canvas: of_canvas, github: of_github };
@@ -84,10 +110,10 @@ function name_of_file(name, wanted) {
 }
 
 /** The files that are taken of a submission, by their names, and what is told of the others. */
-function taken_of(files, wanted) {
+function taken_of({ files, renames }, wanted) {
   const taken = new Map(), told = [];
   for (const [given, path] of files) {
-    const name = name_of_file(given, wanted), bytes = bytes_if_plain(path);
+    const name = renames ? name_of_file(given, wanted) : given, bytes = bytes_if_plain(path);
     if (wanted !== null && !wanted.includes(name)) continue;
     if (name.startsWith(".")) told.push(`${shown(given)} begins with a dot, and isn't taken`);
     else if (bytes === null) told.push(`${shown(given)} is no plain file of ${MOST} bytes at most, and isn't taken`);
@@ -103,19 +129,6 @@ function taken_of(files, wanted) {
   return { taken, told };
 }
 
-/** A text cut to so many bytes as a folder's name may have everywhere. */
-function cut(text) {
-  const letters = [...text];
-  while (Buffer.byteLength(letters.join("")) > MOST_OF_NAME) letters.pop();
-  return letters.join("");
-}
-
-/** A name as that of a folder on any host. */
-function folder_name(text) {
-  const plain = cut(same_form(text).replace(/[\\/:*?"<>|\p{Cc}\p{Cs}]/gu, "_"));
-  return plain.replace(/^\.+|[. ]+$/g, "_") || "_";
-}
-
 /** Writes the folder of a submission. */
 function write_folder(path, taken) {
   try {
@@ -128,7 +141,7 @@ function write_folder(path, taken) {
 
 /** The submissions with the names of their folders; two for one student are refused. */
 function placed(found, roster) {
-  const all = found.map((it) => ({ ...it, student: roster === null ? undefined : it.find(roster) }));
+  const all = found.map((it) => ({ ...it, ...(roster === null ? {} : it.find(roster)) }));
   // Who isn't known gets a name that no row of the roster has: a name of their own choice could be another's.
   const unknown = ({ name, number }) => ["unknown", number, name].filter(Boolean).join(" ");
   const name_of = (it) => (it.student ? Roster.folder_of(it.student) : roster ? unknown(it) : it.name);
@@ -139,6 +152,8 @@ function placed(found, roster) {
   if (twice) throw new Stop(2, `two submissions would be ${shown(twice.folder)}: ${apart}`);
   return named;
 }
+
+const counted = (count) => (count === 1 ? "1 submission" : `${count} submissions`);
 
 /** The empty folder of the class. */
 function make_empty(to) {
@@ -152,14 +167,15 @@ export function collect(way, folder, { to, roster: path, exercise, prefix }) {
   if (!ways.includes(way)) throw new Stop(1, `collect takes one of ${ways.join(", ")}, and not ${way}`);
   const roster = path ? read_roster(path) : null;
   const wanted = exercise ? exercise_of_held(held_exercise(exercise)).wanted : null;
-  const all = placed(WAYS[way](folder, prefix), roster), lines = [];
+  const found = WAYS[way](folder, prefix), all = placed(found.all, roster), its_name = `no name that ${way} gives`;
+  const lines = found.strange.map((name) => `${shown(name)} has ${its_name}, and isn't taken\n`);
   make_empty(to);
-  for (const { name, folder: own, files, student, is_late } of all) {
-    const { taken, told } = taken_of(files, wanted), say = (text) => lines.push(`${shown(own)}: ${text}\n`);
-    write_folder(join(to, own), taken);
+  for (const it of all) {
+    const { taken, told } = taken_of(it, wanted), say = (text) => lines.push(`${shown(it.folder)}: ${text}\n`);
+    write_folder(join(to, it.folder), taken);
     told.forEach(say);
-    if (roster && !student) say(`nobody of the roster is ${shown(name)}, or several are`);
-    if (is_late) say("handed in late");
+    if (it.why) say(it.why);
+    if (it.is_late) say("handed in late");
   }
-  return `${lines.join("")}${all.length} submissions\n`;
+  return `${lines.join("")}${counted(all.length)}\n`;
 }

@@ -1,15 +1,18 @@
 // All marks of a course in one value of JSON: of each student each exercise, with its parts, points and reasons, what
 // was given by hand, days late, and what a mark was before it was given anew.
 import { existsSync } from "node:fs";
+import { BOOK } from "./book_shape.mjs";
 import { is_right } from "./cases.mjs";
 import { check_records, key_of, read_course } from "./course.mjs";
 import { text_of, write_file } from "./files.mjs";
 import { days_late, given_by_hand, late_of, part_of, sum_of } from "./given.mjs";
 import { Stop } from "./held.mjs";
-import { changes_since, with_changes } from "./history.mjs";
+import { changes_since, departed_since, with_changes } from "./history.mjs";
+import { same_form } from "./host_names.mjs";
 import { lines_to_type, link_to, place_of, runs_of, variant_of } from "./places.mjs";
-import { same_form } from "./roster.mjs";
+import { value_of } from "./shape.mjs";
 import { shown } from "./shown.mjs";
+import { is_day } from "./times.mjs";
 import { marks_in } from "./work.mjs";
 
 const KIND = "nektavoly marks 1";
@@ -123,15 +126,19 @@ function book_of(path) {
 
 // ---- files
 
+/** Refuses a book in which a student's marks aren't those of the exercises, one for each, with its parts. */
+function check_marks({ exercises, students }, path) {
+  for (const { id, marks } of students) {
+    const is_each = exercises.every(({ name }, k) => marks[k]?.exercise === name) && marks.length === exercises.length;
+    const has_parts = is_each && marks.every(({ parts }, k) => !parts || parts.length === exercises[k].parts.length);
+    if (!has_parts) throw new Stop(2, `${path}: the marks of ${shown(id)} aren't those of the exercises`);
+  }
+}
+
 /** The book of a file. */
 export function read_book(path) {
-  let book;
-  try {
-    book = JSON.parse(text_of(path));
-  } catch (error) {
-    throw error instanceof Stop ? error : new Stop(2, `${path} has no marks: ${error.message}`);
-  }
-  if (book?.kind !== KIND) throw new Stop(2, `${path} has no marks of this version`);
+  const book = value_of(text_of(path), path, BOOK, KIND, "book of marks");
+  check_marks(book, path);
   return book;
 }
 
@@ -151,9 +158,11 @@ function lines_of_unmarked({ exercises, students }) {
 
 /** `json COURSE --to FILE`: writes the book, and tells what has changed, and what has no mark. */
 export function write_book(path, { to, on = new Date().toISOString().slice(0, 10) }) {
+  if (!is_day(on)) throw new Stop(1, `--on takes a day, as 2027-04-12, and not ${on}`);
   const before = existsSync(to) ? read_book(to) : { students: [] }, book = with_changes(book_of(path), before, on);
   write_file(to, `${JSON.stringify(book, null, 1)}\n`);
   const strange = book.strangers.map((folder) => `${shown(folder)} is in no row of the roster`);
-  const lines = [...changes_since(book, before).map(line_of_change), ...lines_of_unmarked(book), ...strange];
-  return lines.map((line) => `${line}\n`).join("");
+  const departed = departed_since(book, before).map((it) => `${it}: the marks are kept in ${to}`);
+  const changes = [...changes_since(book, before).map(line_of_change), ...departed];
+  return [...changes, ...lines_of_unmarked(book), ...strange].map((line) => `${line}\n`).join("");
 }

@@ -1,13 +1,14 @@
 // An autograder for Gradescope, as its page "Autograder Specifications" says: a zip that is unpacked into
 // /autograder/source, with setup.sh and run_autograder; what was handed in lies in /autograder/submission, who did in
 // /autograder/submission_metadata.json, and the marks go to /autograder/results/results.json.
-import { is_right } from "./cases.mjs";
+import { is_right, why_of } from "./cases.mjs";
 import { carried_files } from "./carried.mjs";
 import { look_at } from "./check.mjs";
-import { bytes_of, write_file } from "./files.mjs";
-import { Stop, graded, held_exercise, packed, unpacked } from "./held.mjs";
+import { bytes_of, text_of, write_file } from "./files.mjs";
+import { Stop, graded, held_exercise, packed } from "./held.mjs";
 import { Roster, read_roster } from "./roster.mjs";
-import { sheet_of, sheet_of_text, text_of_sheet } from "./sheet.mjs";
+import * as shape from "./shape.mjs";
+import { EXERCISE, sheet_of, sheet_of_text, text_of_sheet, unpacked_in } from "./sheet.mjs";
 import { shown } from "./shown.mjs";
 import { zip_of } from "./zip.mjs";
 
@@ -39,17 +40,25 @@ exec "$node" "$top/source/anywhere/marks.mjs" autograde "$top/source/autograder.
     "$top/submission_metadata.json" "$top/results/results.json"
 `;
 
-/** Whose folder's name goes with which user of Gradescope, by email and by id. */
-function names_of({ students }) {
-  const pairs = students.map((it) => [[it.email, it.id].filter(Boolean), Roster.folder_of(it)]);
-  return Object.fromEntries(pairs.flatMap(([keys, folder]) => keys.map((key) => [key.toLowerCase(), folder])));
+/** Whose folder's name goes with which user of Gradescope, by email and by id, in small letters. */
+function names_of({ students }, path) {
+  const names = new Map();
+  for (const student of students) {
+    const folder = Roster.folder_of(student), keys = [student.email, student.id].filter(Boolean);
+    for (const key of keys.map((it) => it.toLowerCase())) {
+      const is_anothers = names.has(key) && names.get(key) !== folder;
+      if (is_anothers) throw new Stop(2, `${path}: ${shown(key)} is the email or id of two students`);
+      names.set(key, folder);
+    }
+  }
+  return Object.fromEntries(names);
 }
 
 /** `gradescope EXERCISE --to FILE`: writes the zip. */
 export function write_autograder(exercise, { to, roster, open, node }) {
   const grader = {
     kind: KIND, exercise: packed(held_exercise(exercise)), sheet: text_of_sheet(sheet_of(exercise, open)),
-    names: roster ? names_of(read_roster(roster)) : null,
+    names: roster ? names_of(read_roster(roster), roster) : null,
   };
   const files = [
     { name: "setup.sh", bytes: SETUP, is_program: true }, { name: "run_autograder", bytes: RUN, is_program: true },
@@ -63,22 +72,18 @@ export function write_autograder(exercise, { to, roster, open, node }) {
 // ---- within Gradescope
 
 /** The name under which somebody hands in: that of the roster, or the email; the first of a group that has one. */
-function name_of({ users = [] }, names) {
-  const keys = users.flatMap(({ email, sid }) => [email, sid]).filter((it) => typeof it === "string" && it !== "");
+function name_of({ users }, names) {
+  const all = (users ?? []).flatMap(({ email, sid }) => [email, sid]);
+  const keys = all.filter((it) => typeof it === "string" && it !== "");
   const known = keys.map((key) => key.toLowerCase()).find((key) => names !== null && Object.hasOwn(names, key));
   const is_known = names === null || known !== undefined;
   return { name: known === undefined ? keys[0] ?? "nobody" : names[known], is_known };
 }
 
-/** The value of JSON in a file. */
-function json_at(path) {
-  const text = bytes_of(path).toString();
-  try {
-    return JSON.parse(text);
-  } catch (error) {
-    throw new Stop(2, `${path} can't be read: ${error.message}`);
-  }
-}
+const GRADER = shape.table({
+  exercise: EXERCISE, sheet: shape.text, names: shape.maybe(shape.table_of_all(shape.text)),
+});
+const METADATA = shape.table({ users: shape.maybe(shape.list(shape.table({}))) });
 
 /** A text as long as a test may tell. */
 const cut = (text) => shown(text).slice(0, MOST).replace(/[\ud800-\udbff]$/, "");
@@ -98,7 +103,6 @@ const OPEN = { visibility: "visible" }, LATER = { visibility: "after_published" 
 function open_tests({ parts, hints, open }) {
   const form = parts.map(({ run, name, lack }) => [`is there: ${run}: ${name}`, lack === null, lack ?? ""]);
   const texts = hints.map((hint) => ["the form of a text", false, hint]);
-  const why_of = ({ cause, why }) => [cause, why].filter(Boolean).join("; ");
   const its = open.map((it) => [`open case: ${it.run}: ${it.name}`, is_right(it), why_of(it)]);
   return [[...form, ...texts], its].flatMap((tests, group) => (
     tests.map((test, k) => test_of(`${group + 1}.${k + 1}`, ...test, OPEN))
@@ -130,11 +134,11 @@ function results_of(look, told, is_known) {
 
 /** Grades a submission within Gradescope, and writes its results. */
 export function autograde(grader, submission, metadata, results) {
-  const it = json_at(grader);
-  if (it.kind !== KIND) throw new Stop(2, `${grader} is no autograder of this version`);
-  const { name, is_known } = name_of(json_at(metadata), it.names), sheet = sheet_of_text(it.sheet, grader);
+  const it = shape.value_of(text_of(grader), grader, GRADER, KIND, "autograder");
+  const about = shape.value_of(text_of(metadata), metadata, METADATA, null);
+  const { name, is_known } = name_of(about, it.names ?? null), sheet = sheet_of_text(it.sheet, grader);
   const look = look_at(sheet, submission, name);
-  const told = graded(unpacked(it.exercise), submission, name, (all) => all);
+  const told = graded(unpacked_in(it.exercise, grader), submission, name, (all) => all);
   if (told.cases.length !== look.parts.length) throw new Stop(2, "the parts of the sheet aren't those of the exercise");
   write_file(results, `${JSON.stringify(results_of(look, told, is_known), null, 1)}\n`);
   return null;

@@ -23,18 +23,27 @@ export class Stop extends Error {
 
 const folder_of = (path) => path.slice(0, Math.max(0, path.lastIndexOf("/")));
 
+/** What the grader says, without its name, and of a held exercise by the name that the user knows. */
+function without_program(text, { path, named = path } = {}) {
+  const said = text.trim().replace(/^xv_grade: /, "");
+  return path === undefined ? said : said.replace(`/${path}`, () => named);
+}
+
 /**
  * The exercise of a path of this host, with all files that it names, under paths of their own: so nothing tells where
- * they lie here. {path, files}: a table of bytes by their paths without the `/` at their head.
+ * they lie here. {path, files, named}: a table of bytes by their paths without the `/` at their head, and the name by
+ * which the user knows it.
  */
 export function held_exercise(given) {
-  const { path, files } = read_exercise(Buffer.from(given));
+  const { path, files } = read_exercise(Buffer.from(given), (why) => {
+    throw new Stop(2, without_program(why));
+  });
   const own = key_of(path), here = folder_of(own);
   const relative = [...files.keys()].map((key) => posix.relative(`/${here}`, `/${key}`));
   const ups = relative.map((it) => /^(?:\.\.\/)*/.exec(it)[0].length / 3);
   const at = Array(Math.max(...ups, 0)).fill("up").join("/"), placed = (it) => key_of(`${at}/${it}`);
   const held = Object.fromEntries([...files.values()].map(({ bytes }, k) => [placed(relative[k]), bytes]));
-  return { path: placed(posix.relative(`/${here}`, `/${own}`)), files: held };
+  return { path: placed(posix.relative(`/${here}`, `/${own}`)), files: held, named: given };
 }
 
 /** An exercise that has this text, and these files beside it. */
@@ -51,7 +60,8 @@ const file_of = (it) => (typeof it === "string" ? Buffer.from(it) : Buffer.from(
 const mapped = (table, each) => Object.fromEntries(Object.entries(table).map(([name, it]) => [name, each(it)]));
 
 export const packed = ({ path, files }) => ({ path, files: mapped(files, packed_file) });
-export const unpacked = ({ path, files }) => ({ path, files: mapped(files, file_of) });
+/** The exercise of a value of JSON that lies in a file of this name. */
+export const unpacked = ({ path, files }, named) => ({ path, files: mapped(files, file_of), named });
 
 // ---- grading
 
@@ -64,12 +74,13 @@ export function exercise_of_held(held) {
 }
 const read = new WeakMap();
 
-function exercise_of({ path, files }) {
+function exercise_of(held) {
+  const { path, files } = held;
   const module = module_of("xv_grade"), whole = Buffer.from(`/${path}`);
   const given = new Map(Object.entries(files).map(([key, bytes]) => [key_of(key), { bytes, size: bytes.length }]));
   const file_at = (key) => given.get(key), words = ["xv_grade", whole];
   const { status, output, errors } = run_held(module, words, file_at, { encoding: "latin1" });
-  if (status !== 0) throw new Stop(2, Buffer.from(errors).toString().trim().replace(/^xv_grade: /, ""));
+  if (status !== 0) throw new Stop(2, without_program(Buffer.from(errors).toString(), held));
   const wanted = Buffer.from(output).toString().split("\n").slice(0, -1);
   const text = createHash("sha256").update(files[path]).digest("hex");
   return { module, path: whole, wanted, files: given, text, common: text, has_pictures: false };
@@ -85,9 +96,9 @@ export function result_of(job, name) {
 }
 
 /** What a job has come to: the row of its CSV, its cases, and `file(name)`, what else was kept; or why it has none. */
-function told_of(job) {
+function told_of(job, held) {
   const text = result_of(job, "result.xml").toString();
-  if (!text) throw new Stop(2, readFileSync(inside(job, "failed"), "utf8").trim());
+  if (!text) throw new Stop(2, without_program(readFileSync(inside(job, "failed"), "utf8"), held));
   return { ...cases_of(text, result_of(job, "result.csv").toString()), file: (name) => result_of(job, name) };
 }
 
@@ -101,7 +112,7 @@ export function graded(held, folder, name, use) {
     const { job, trouble } = stage(room, { path: Buffer.from(folder), name: Buffer.from(name) }, exercise);
     if (trouble) throw new Stop(2, trouble);
     grade_one(module, exercise, job);
-    return use(told_of(job));
+    return use(told_of(job, held));
   } finally {
     rmSync(room, { recursive: true, force: true });
   }

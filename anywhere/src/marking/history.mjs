@@ -1,9 +1,12 @@
 // What a mark was before it was given anew.
+import { shown } from "./shown.mjs";
 
-/** The points of all parts of a mark, by their names. */
+/** The points of all parts of a mark, by their names; one that stands there twice has a number behind the second. */
 function parts_in({ parts = [], hand }) {
   const graded = parts.map(({ run, name, points }) => [`${run}: ${name}`, points]);
-  return new Map([...graded, ...hand.map(({ name, points }) => [name, points])]);
+  const all = [...graded, ...hand.map(({ name, points }) => [name, points])], names = all.map(([name]) => name);
+  const nth = (k) => names.slice(0, k + 1).filter((name) => name === names[k]).length;
+  return new Map(all.map(([name, points], k) => [nth(k) === 1 ? name : `${name} (${nth(k)})`, points]));
 }
 
 /** Which parts of a mark have other points than before. */
@@ -28,17 +31,27 @@ function with_history(mark, before, on) {
   return { ...mark, history: [...history, { ...change, late: [last.late.days, mark.late.days], parts }] };
 }
 
+/** All marks of a student: those of exercises that are gone, too. */
+const all_marks = ({ marks, gone = [] }) => [...gone, ...marks];
+
 /** The marks of a book, by their students and exercises. */
 function marks_in({ students, gone = [] }) {
-  return new Map([...gone, ...students].map(({ id, marks }) => [id, new Map(marks.map((it) => [it.exercise, it]))]));
+  const by_exercises = (student) => new Map(all_marks(student).map((it) => [it.exercise, it]));
+  return new Map([...gone, ...students].map((student) => [student.id, by_exercises(student)]));
+}
+
+/** A student with what each mark was in an earlier book; the marks of exercises that are gone are kept. */
+function with_changes_of({ marks, ...student }, old, on) {
+  const names = new Set(marks.map(({ exercise }) => exercise));
+  const gone = [...(old?.values() ?? [])].filter(({ exercise }) => !names.has(exercise));
+  const now = marks.map((mark) => with_history(mark, old?.get(mark.exercise), on));
+  return { ...student, marks: now, ...(gone.length ? { gone } : {}) };
 }
 
 /** The book, with what each mark was in an earlier one; who is in that alone is kept. */
 export function with_changes(book, before, on) {
   const old = marks_in(before), ids = new Set(book.students.map(({ id }) => id));
-  const students = book.students.map(({ marks, ...student }) => ({
-    ...student, marks: marks.map((mark) => with_history(mark, old.get(student.id)?.get(mark.exercise), on)),
-  }));
+  const students = book.students.map((student) => with_changes_of(student, old.get(student.id), on));
   const gone = [...(before.gone ?? []), ...before.students].filter(({ id }) => !ids.has(id));
   return { ...book, students, gone };
 }
@@ -50,4 +63,14 @@ export function changes_since(book, before) {
     const known = old.get(id)?.get(exercise)?.history?.length ?? 0;
     return history.slice(known).map((change) => ({ id, exercise, ...change }));
   }));
+}
+
+/** Which exercises and students an earlier book has and this one hasn't, a text each: a name may have been changed. */
+export function departed_since(book, { exercises = [], students }) {
+  const names = new Set(book.exercises.map(({ name }) => name)), ids = new Set(book.students.map(({ id }) => id));
+  const gone = exercises.filter(({ name }) => !names.has(name)), away = students.filter(({ id }) => !ids.has(id));
+  return [
+    ...gone.map(({ name }) => `${shown(name)} is no exercise of the course now (was it renamed?)`),
+    ...away.map(({ id }) => `${shown(id)} is no student now (was the id changed?)`),
+  ];
 }

@@ -2,10 +2,11 @@
 // asks for nothing: its policy allows its own style alone.
 import { createHash } from "node:crypto";
 import { join } from "node:path";
-import { is_right } from "./cases.mjs";
+import { is_right, why_of } from "./cases.mjs";
 import { line_of } from "./csv.mjs";
 import { make_folder, write_file } from "./files.mjs";
 import { read_book } from "./gradebook.mjs";
+import { DEVICE } from "./host_names.mjs";
 import { escaped } from "./markup.mjs";
 
 const HEAD = '<!DOCTYPE html>\n<html lang="en"><head><meta charset="utf-8">\n'
@@ -16,7 +17,7 @@ const HEAD = '<!DOCTYPE html>\n<html lang="en"><head><meta charset="utf-8">\n'
   + "td:first-child{white-space:nowrap}pre{background:#eee;padding:.5rem;overflow-x:auto}.no{color:#a00}</style>\n";
 
 const PAGE = "nektavoly.html"; // beside the pages, if nobody says
-const USUAL = /^[A-Za-z0-9][A-Za-z0-9._-]{0,60}$/, NO_FILE = /^(con|prn|aux|nul|com\d|lpt\d)(\.|$)/i; // on Windows
+const USUAL = /^[A-Za-z0-9][A-Za-z0-9._-]{0,60}$/;
 
 const paragraph = (text) => (text ? `<p>${text}</p>\n` : "");
 const row = (...its) => `<tr>${its.map((it) => `<td>${it}</td>`).join("")}</tr>\n`;
@@ -25,10 +26,9 @@ const points = (got, of) => `${got === null ? "?" : escaped(got)} of ${escaped(o
 const CAME_TO = { fault: "a process faults", loops: "it doesn't end", waits: "it waits for ever" };
 
 /** What failed in a part; only its standing, if answers aren't to be told. */
-function why_of(part, { is_closed }) {
+function failure_of(part, { is_closed }) {
   if (is_right(part)) return "";
-  if (part.standing === "refused") return escaped(part.cause);
-  return escaped(is_closed ? CAME_TO[part.standing] ?? "not so" : [part.cause, part.why].filter(Boolean).join("; "));
+  return escaped(is_closed && part.standing !== "refused" ? CAME_TO[part.standing] ?? "not so" : why_of(part));
 }
 
 /** The rows of a mark. If answers aren't to be told, parts have the exercise's names, without what a variant has. */
@@ -36,7 +36,7 @@ function rows_of_mark(mark, exercise, how) {
   const names = how.is_closed ? exercise.parts : mark.parts ?? [];
   const parts = (mark.parts ?? []).map((it, k) => row(
     `<span class="${is_right(it) ? "yes" : "no"}">${points(it.points, it.of)}</span>`,
-    `${escaped(names[k].run)}: ${escaped(names[k].name)}`, why_of(it, how),
+    `${escaped(names[k].run)}: ${escaped(names[k].name)}`, failure_of(it, how),
   ));
   const hand = mark.hand.map((it) => row(
     points(it.points, it.of), escaped(it.name), it.points === null ? "not given yet" : escaped(it.remark),
@@ -93,7 +93,7 @@ function names_of(students) {
   const taken = new Set();
   return students.map(({ id }) => {
     const sum = createHash("sha256").update(id).digest("hex").slice(0, 12);
-    const is_plain = USUAL.test(id) && !NO_FILE.test(id) && !taken.has(id.toLowerCase());
+    const is_plain = USUAL.test(id) && !DEVICE.test(id) && !taken.has(id.toLowerCase());
     const name = is_plain ? id : `${id.replace(/[^A-Za-z0-9]+/g, "-").slice(0, 40)}-${sum}`;
     taken.add(name.toLowerCase());
     return `${name}.html`;

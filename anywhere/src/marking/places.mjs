@@ -7,14 +7,15 @@ import { deflateRawSync } from "node:zlib";
 import { path_of } from "../program.mjs";
 import { ROOT } from "../sources.mjs";
 import { bytes_of } from "./files.mjs";
+import { takes_text } from "./sheet.mjs";
+import { HIDDEN } from "./shown.mjs";
+import { list_of } from "./toml.mjs";
 
 const USUAL = { most_runs: 1000000, quantum: 1000, frames: 4096 }; // what the grader takes if an exercise says nothing
 const SHORT = 100000; // letters of a link that most programs hand on
 const SOON = 20000000; // events that the page plays in some seconds
 const LOOPS = 20000; // an event of a run that loops, at which that can be seen
 const MINE = "mine";
-
-const list_of = (it) => (Array.isArray(it) ? it : []);
 
 /** What a student of this name has of an exercise's variants, as the grader chooses it; an empty table without any. */
 export function variant_of(table, name) {
@@ -33,7 +34,7 @@ const filled = (text, variant) => (
  * - `rules`: how many it has;
  * - `has_own`: whether a program of it lies beside the exercise;
  * - `asks_text`: whether a text is handed in, and no program;
- * - `is_closed`: whether it has texts or numbers that the grader alone may know.
+ * - `is_closed`: whether it has texts, keys or numbers that the grader alone may know.
  */
 export function runs_of(table, path, variant) {
   const folder = path_of(dirname(path)), fill = (text) => filled(text, variant);
@@ -47,8 +48,8 @@ export function runs_of(table, path, variant) {
       rounds: Math.ceil(most / quantum), keys: fill(run.keys ?? ""),
       has_own: list_of(run.with).some(is_own), with: list_of(run.with).map((file) => posix.join(folder, fill(file))),
       texts: list_of(run.texts).map(({ name, text }) => ({ name: fill(name), text: fill(text) })),
-      asks_text: list_of(run.rule).some((rule) => rule.line ?? rule.numbered ?? rule.predicts),
-      is_closed: list_of(run.texts).length > 0 || has_variant(run),
+      asks_text: takes_text(run),
+      is_closed: list_of(run.texts).length > 0 || (run.keys ?? "") !== "" || has_variant(run),
     };
   });
 }
@@ -59,15 +60,20 @@ export function runs_of(table, path, variant) {
 const quoted = (text) => `'${text.replaceAll("'", "'\\''")}'`;
 const word_of = (path) => (/^[\w@%+=:,./][\w@%+=:,./-]*$/.test(path) ? path : quoted(path));
 
-const in_octal = (letter) => `\\${letter.charCodeAt(0).toString(8).padStart(3, "0")}`;
+const in_octal = (letter) => (
+  [...Buffer.from(letter)].map((byte) => `\\${byte.toString(8).padStart(3, "0")}`).join("")
+);
 
-/** A text as printf's format, in one word of a shell. */
-function printed(text) {
+/**
+ * The command that prints a text: its letters are printf's format (POSIX), in one word of a shell. What begins with a
+ * dash would be an option, so `--` stands before it; what can't be seen in a page stands there as numbers.
+ */
+function printing(text) {
   const doubled = text.replace(/[\\%]/g, (it) => it + it).replaceAll("\n", "\\n").replaceAll("\t", "\\t");
-  return quoted(doubled.replace(/[\0-\x1f\x7f]/g, in_octal));
+  return `printf ${text.startsWith("-") ? "-- " : ""}${quoted(doubled.replace(HIDDEN, in_octal))}`;
 }
 
-/** A path as it is from the top of a release, if it lies there. */
+/** A path as it is from the top of a release, if it lies there. ROOT ends with a slash. */
 function from_top(path) {
   const whole = path_of(path), top = path_of(ROOT);
   return whole.startsWith(top) ? whole.slice(top.length) : whole;
@@ -75,12 +81,12 @@ function from_top(path) {
 
 /** The lines that do a run again, with the file that was handed in lying in the folder `mine`. */
 export function lines_to_type(run, file) {
-  const texts = run.texts.map(({ name, text }) => `printf ${printed(text)} >${word_of(`${MINE}/${name}`)}`);
+  const texts = run.texts.map(({ name, text }) => `${printing(text)} >${word_of(`${MINE}/${name}`)}`);
   const own = run.asks_text ? [] : [file];
   const mine = [...run.texts.map(({ name }) => name), ...own].map((name) => `${MINE}/${name}`);
   const files = [...run.with.map(from_top), ...mine];
   const machine = `--frames ${run.frames} --quantum ${run.quantum} --rounds ${run.rounds}`;
-  const input = run.keys ? `printf ${printed(run.keys)} |` : "", end = run.keys ? "" : " </dev/null";
+  const input = run.keys ? `${printing(run.keys)} |` : "", end = run.keys ? "" : " </dev/null";
   return [...texts, `${input && `${input} `}./xv --why ${machine} ${files.map(word_of).join(" ")}${end}`];
 }
 
@@ -96,6 +102,9 @@ function numbers_of_calls() {
   }
 }
 
+/** Whether a note begins with these words. */
+const has_words = (note, words) => words.every((word, k) => note.split(" ")[k] === word);
+
 /** Which of the notes of a kind is the first that is this one, from 1; 0 if none is. */
 function place_among(notes, kind, note) {
   const all = notes.filter((it) => it.startsWith(kind));
@@ -108,7 +117,7 @@ function place_of_note(note, notes) {
   if (name !== undefined) {
     const number = numbers_of_calls().get(name);
     const calls = notes.filter((it) => it.startsWith("call ") && it.split(" ")[2] === number);
-    const place = calls.findIndex((it) => it.startsWith(`call ${pid} ${number} ${value}`)) + 1;
+    const place = calls.findIndex((it) => has_words(it, ["call", pid, number, value])) + 1;
     return number !== undefined && place > 0 ? `${name}.${place}` : null;
   }
   const [, kind] = /^(fault|exit|turn) /.exec(note) ?? [], place = kind ? place_among(notes, `${kind} `, note) : 0;

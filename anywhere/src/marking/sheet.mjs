@@ -5,14 +5,14 @@ import { existsSync } from "node:fs";
 import { basename, dirname, join } from "node:path";
 import { text_of } from "./files.mjs";
 import { Stop, held_exercise, made_exercise, packed, text_of_held, unpacked } from "./held.mjs";
-import { NotRead, table_of, toml_of } from "./toml.mjs";
+import * as shape from "./shape.mjs";
+import { shown } from "./shown.mjs";
+import { NotRead, list_of, table_of, toml_of } from "./toml.mjs";
 
 const KIND = "nektavoly sheet 1";
 /** The answer that stands in a sheet in place of each right one. */
 export const NO_ANSWER = "?";
 const RUNS = 1000; // of a look at the form: enough to begin a program
-
-const list_of = (it) => (Array.isArray(it) ? it : []);
 
 /** The words in braces of a text. */
 const keys_in = (text) => [...String(text).matchAll(/\{([^{}]*)\}/g)].map(([, key]) => key);
@@ -27,7 +27,7 @@ export function question_of({ line }) {
 const is_numbered = (rule) => question_of(rule) !== "" && Number.isInteger(rule.numbered);
 
 /** Whether a run takes a text, and no program. */
-const takes_text = (run) => list_of(run.rule).some((rule) => rule.line ?? rule.numbered ?? rule.predicts);
+export const takes_text = (run) => list_of(run.rule).some((rule) => rule.line ?? rule.numbered ?? rule.predicts);
 
 const files_of = (table, run) => (list_of(run.files).length ? run.files : list_of(table.files));
 const program_of = (file) => file.replace(/\.s$/, "");
@@ -38,7 +38,9 @@ const program_of = (file) => file.replace(/\.s$/, "");
 export function parts_of(table, path) {
   return list_of(table.run).flatMap((run) => list_of(run.rule).map((rule) => {
     const { name, points = 1 } = rule, part = { run: run.name, name, points, files: files_of(table, run) };
-    if (!Number.isInteger(points)) throw new Stop(2, `${path}: the points of ${name} are no number`);
+    const is_named = [run.name, name].every((it) => typeof it === "string");
+    if (!is_named) throw new Stop(2, `${path}: a run or a rule has no name that is a text`);
+    if (!shape.is_count(points)) throw new Stop(2, `${path}: the points of ${shown(name)} are no number of points`);
     const question = question_of(rule);
     return question ? { ...part, question, ...(is_numbered(rule) ? { is_numbered: true } : {}) } : part;
   }));
@@ -119,7 +121,7 @@ const usual_open = (path) => join(dirname(path), "open", basename(path));
 export function sheet_of(path, open = existsSync(usual_open(path)) ? usual_open(path) : null) {
   const table = read_table(text_of_held(held_exercise(path)), path);
   const opened = open === null ? null : held_exercise(open);
-  return { title: table.title, parts: parts_of(table, path), form: form_of(table), open: opened };
+  return { title: table.title, parts: parts_of(table, path), form: { ...form_of(table), named: path }, open: opened };
 }
 
 /** A sheet as the text of a file. */
@@ -127,15 +129,28 @@ export function text_of_sheet({ title, parts, form, open }) {
   return `${JSON.stringify({ kind: KIND, title, parts, form: packed(form), open: open && packed(open) }, null, 1)}\n`;
 }
 
-/** The sheet of the text of a file. */
+const FILE = shape.either("a text, or bytes in base64", shape.text, shape.table({ base64: shape.text }));
+/** The shape of an exercise with its files, in JSON. */
+export const EXERCISE = shape.table({ path: shape.text, files: shape.table_of_all(FILE) });
+const SHEET = shape.table({
+  title: shape.text, form: EXERCISE, open: shape.maybe(EXERCISE),
+  parts: shape.list(shape.table({
+    run: shape.text, name: shape.text, points: shape.count, files: shape.list(shape.text),
+    question: shape.maybe(shape.text), is_numbered: shape.maybe(shape.truth),
+  })),
+});
+
+/** The exercise that a file of this name has, with its own text. */
+export function unpacked_in(it, path) {
+  const lacks = Object.hasOwn(it.files, it.path) ? "" : shown(it.path);
+  if (lacks) throw new Stop(2, `${path}: an exercise lacks its own file, ${lacks}`);
+  return unpacked(it, path);
+}
+
+/** The sheet of the text of a file. What is wrong in its exercises is told by the name of this file. */
 export function sheet_of_text(text, path) {
-  try {
-    const it = JSON.parse(text);
-    if (it?.kind !== KIND) throw new Error("it is no sheet of this version");
-    return { ...it, form: unpacked(it.form), open: it.open && unpacked(it.open) };
-  } catch (error) {
-    throw new Stop(2, `${path} can't be read: ${error.message}`);
-  }
+  const it = shape.value_of(text, path, SHEET, KIND, "sheet");
+  return { ...it, form: unpacked_in(it.form, path), open: it.open ? unpacked_in(it.open, path) : null };
 }
 
 /** The sheet of a file: one that was handed out, or an exercise. */

@@ -1,7 +1,8 @@
 // How a text of a student's, or a name, is shown: control letters, and what turns the order of letters, as escapes; so
 // nothing of it reaches a terminal.
 
-const HIDDEN = /[\p{Cc}\p{Zl}\p{Zp}\u200b\u200e\u200f\u202a-\u202e\u2060-\u206f\ufeff\ufffe\uffff\p{Cs}]/gu;
+/** The letters that are shown so. */
+export const HIDDEN = /[\p{Cc}\p{Zl}\p{Zp}\u200b\u200e\u200f\u202a-\u202e\u2060-\u206f\ufeff\ufffe\uffff\p{Cs}]/gu;
 
 /** A text in one line. */
 export const shown = (text) => String(text).replace(HIDDEN,

@@ -1,10 +1,11 @@
 // What the grader has left of an exercise: a mark for each folder that was graded, with its parts.
 import { createHash } from "node:crypto";
-import { readFileSync, readdirSync } from "node:fs";
+import { readFileSync } from "node:fs";
 import { basename, join } from "node:path";
 import { failure_of, shown } from "../grading/results.mjs";
 import { has_result } from "../grading/stage.mjs";
 import { cases_of } from "./cases.mjs";
+import { names_if_folder } from "./files.mjs";
 import { Stop } from "./held.mjs";
 
 const sum_of = (bytes) => createHash("sha256").update(bytes).digest("hex");
@@ -36,18 +37,9 @@ function parts_of_mark(parts, told) {
   return is_same ? made : null;
 }
 
-/** The names in a folder; null if there is no such folder. */
-function names_in(folder) {
-  try {
-    return readdirSync(folder);
-  } catch {
-    return null;
-  }
-}
-
 /** The files of a job, as they were handed in. */
 function sources_of(folder) {
-  const names = names_in(join(folder, "files")) ?? [];
+  const names = names_if_folder(join(folder, "files")) ?? [];
   return Object.fromEntries(names.map((name) => [name, bytes_at(folder, "files", name)]).filter(([, bytes]) => bytes));
 }
 
@@ -91,9 +83,9 @@ function mark_of({ folder, name, is_of_now }, parts) {
  * `sources()` gives what was handed in, and `notes(N)` the notes of run N.
  */
 export function marks_in(work, exercise, text, parts) {
-  const names = names_in(join(work, "jobs"));
+  const names = names_if_folder(join(work, "jobs"));
   if (names === null) return null;
-  const jobs = names.sort().flatMap((job) => job_of(work, job, exercise, sum_of(text)));
+  const jobs = names.flatMap((job) => job_of(work, job, exercise, sum_of(text)));
   const of_now = new Set(jobs.filter(({ is_of_now }) => is_of_now).map(({ name }) => name));
   // Of several earlier ones the first stands for all.
   const others = new Map(jobs.filter(({ name }) => !of_now.has(name)).reverse().map((job) => [job.name, job]));
