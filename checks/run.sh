@@ -104,7 +104,7 @@ begin_node() {
 
 # What needs a program: the quick ones first.
 quick='checks/words/run.sh checks/refusals/run.sh checks/sessions/run.sh checks/rows/wild.sh'
-longer='checks/stored-runs/run.sh checks/rows/run.sh checks/why/run.sh checks/c-programs/run.sh checks/gdb/run.sh checks/terminal/run.sh checks/terminal/kept.py checks/terminal/replayed.py checks/debugger/run.sh checks/debugger/typed.py checks/lines.py checks/reasons.py checks/beside-disassemblers/sample.py checks/grading/run.sh checks/grading/course.py checks/grading/readers.py'
+longer='checks/stored-runs/run.sh checks/rows/run.sh checks/why/run.sh checks/c-programs/run.sh checks/gdb/run.sh checks/terminal/run.sh checks/terminal/kept.py checks/terminal/replayed.py checks/debugger/run.sh checks/debugger/typed.py checks/lines.py checks/reasons.py checks/beside-disassemblers/sample.py checks/grading/run.sh checks/grading/course.py checks/grading/readers.py checks/grading/strange.py'
 
 # shellcheck disable=SC2086
 case "$*" in

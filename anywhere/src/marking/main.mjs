@@ -52,7 +52,8 @@ function read_words(name, left) {
   return { words, options };
 }
 
-async function done(all) {
+/** Does what these words ask for, and gives what is to be printed. */
+export async function done(all) {
   const [name, ...left] = all.map(String);
   if (name === "--help" || name === "-h") return head_of(new URL("../../marks.mjs", import.meta.url));
   if (!Object.hasOwn(COMMANDS, name ?? "")) throw new Stop(1, "usage: marks COMMAND ..; --help tells the commands");
