@@ -1,8 +1,9 @@
 #!/bin/bash
-# check.sh [PAGE.html]: looks whether what runs a machine stands alone (anywhere/machine), and how records that are cut off are
-# read; plays the stored runs and the sessions of the repository by the module of the page, in Node, and compares; then goes to and
-# fro in a run and compares with the proved `back_to`, makes a long record again, brings back runs that keys have cut off, gives the
-# module bad input, looks back in a run for stores and stops, and compares the reports of faults and sleepers with those of xv_why.
+# check.sh [PAGE.html]: looks whether what runs a machine stands alone (anywhere/machine), and whether records that are
+# whole, cut off or damaged are read as xv_terminal reads them; plays the stored runs and the sessions of the repository by
+# the module of the page, in Node, and compares; then goes to and fro in a run and compares with the proved `back_to`, makes
+# a long record again, brings back runs that keys have cut off, gives the module bad input, looks back in a run for stores
+# and stops, and compares the reports of faults and sleepers with those of xv_why.
 # It needs node (Debian's nodejs) and python3. The status is 1 if something differs.
 set -euo pipefail
 cd "$(dirname "$(readlink -f "$0")")"

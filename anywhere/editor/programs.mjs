@@ -57,6 +57,7 @@ export class Programs {
   recorded(path) {
     const found = recorded(path, this.files);
     this.files = found.files;
+    this.told = [this.told, found.told].filter(Boolean).join("\n");
     return found;
   }
 

@@ -3,34 +3,45 @@
 import { createHash } from "node:crypto";
 import { existsSync, readFileSync, writeFileSync } from "node:fs";
 import { grouped } from "../machine/number_words.mjs";
-import { RECORD_BEGINNING, read_record, record_text } from "../machine/record_text.mjs";
+import { ENDING_WORDS, record_in, record_text } from "../machine/record_text.mjs";
 import { refuse } from "./arguments.mjs";
 
 const MOST_EVENTS = 400000000; // of a record that is played at a launch: some seconds
 
 const sum_of = (bytes) => createHash("sha256").update(bytes).digest("hex");
 
-/** What a record says, {frames, programs, spans}; refused in words if it is none, or too long. */
-function read(path) {
+/** What the record at a path says; refused in words if it is none. */
+function read_whole(path) {
   if (!existsSync(path)) refuse(`${path}: there is no such record`);
-  const text = readFileSync(path, "utf8").replaceAll("\r\n", "\n");
-  if (!text.startsWith(RECORD_BEGINNING)) refuse(`${path} is no record: it begins with other words than one does`);
-  const said = read_record(text), events = said.spans.reduce((sum, [, , count]) => sum + count, 0);
+  try {
+    return record_in(readFileSync(path));
+  } catch (error) {
+    return refuse(`${path}: ${error.message}`);
+  }
+}
+
+/** The same, refused if it is too long. */
+function read(path) {
+  const said = read_whole(path), events = said.spans.reduce((sum, [, , count]) => sum + count, 0);
   const [has, most] = [events, MOST_EVENTS].map(grouped);
   if (events > MOST_EVENTS) refuse(`${path} has ${has} events, and ${most} are played here`);
   return said;
 }
 
-/** A record that is at a path, {frames, spans, files}: its programs are those of the files that have their sums. */
+/**
+ * A record that is at a path, {frames, spans, files, told}: its programs are those of the files that have their sums,
+ * and `told` says what of the file is left out; nothing if it is whole.
+ */
 export function recorded(path, files) {
-  const { frames, programs, spans } = read(path), by_sum = new Map(files.map((it) => [sum_of(it.bytes), it]));
+  const { frames, programs, spans, ending } = read(path), words = ENDING_WORDS[ending];
+  const by_sum = new Map(files.map((it) => [sum_of(it.bytes), it]));
   const file_of = ({ sum, name }) => {
     const found = by_sum.get(sum), same = files.some((it) => it.name === name);
     const why = same ? "the file of this name is another one than that which was recorded" : "no file here is that";
     if (found) return { ...found, name };
     return refuse(`the record has the program ${name}, and ${why} (SHA-256 ${sum.slice(0, 12)}..)`);
   };
-  return { frames, spans, files: programs.map(file_of) };
+  return { frames, spans, files: programs.map(file_of), told: words && `${path}: ${words}` };
 }
 
 /** Writes a run as a record, up to where its record goes. Refuses to write over a file. */

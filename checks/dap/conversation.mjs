@@ -195,9 +195,24 @@ async function recorded() {
   await stopped(client, "the last time", await client.stop_after("goto", { targetId: targets[1].id }));
   say(client.output.trim());
   await left(client);
-  writeFileSync(kept, readFileSync(kept, "utf8").replace(/program [0-9a-f]{4}/, "program 0000"));
+  await damaged(kept);
+}
+
+/** Records that are cut off, have more behind their end, or are none. */
+async function damaged(kept) {
+  const text = readFileSync(kept, "utf8"), wanted = { programs: "programs/bin", replay: kept, clock: "rounds" };
+  for (const left_out of [text.slice(0, -40), `${text}more`]) {
+    writeFileSync(kept, left_out);
+    const client = await begun(wanted);
+    await stopped(client, "entry", await client.event("stopped"));
+    say(client.output.trim());
+    await left(client);
+  }
   const other = new Client(process.cwd());
-  await tried(other, "launch", { programs: "programs/bin", replay: kept });
+  for (const bad of [text.replace(/program [0-9a-f]{4}/, "program 0000"), text.replace("run ", "run 0"), "x"]) {
+    writeFileSync(kept, bad);
+    await tried(other, "launch", wanted);
+  }
   await left(other);
 }
 

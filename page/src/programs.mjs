@@ -421,7 +421,7 @@ function file_of(name, bytes) {
   }
 }
 
-/** What some files are besides files of the machine, by how they begin: who takes their texts. */
+/** What some files are besides files of the machine, by how they begin: who takes their texts, names and bytes. */
 const kinds = new Map();
 export const take_texts = (beginning, taker) => kinds.set(beginning, taker);
 
@@ -430,15 +430,25 @@ async function taker_of(it) {
   return [...kinds].find(([beginning]) => head.startsWith(beginning))?.[1] ?? null;
 }
 
-/** Takes files that were dropped or chosen: programs, sources, texts, or a run. */
+/** Says which files were taken, and which weren't, and why. */
+function tell_taken(taken, refusals) {
+  const many = taken.length > 1, words = taken.length
+    ? `${taken.length} file${many ? "s" : ""} taken. Boot runs the machine with ${many ? "them" : "it"}.` : "";
+  if (refusals.length) {
+    problem(`Not taken: ${refusals.join("; ")}.`);
+    refuse([`Not taken: ${refusals.join("; ")}.`, words].join(" ").trim());
+  } else if (words) say(words);
+}
+
+/** Takes files that were dropped or chosen: programs, sources, texts; then a run, or slides, if there are some. */
 export async function take(list) {
-  const taken = [], refusals = [];
+  const taken = [], refusals = [], runs = [];
   for (const it of list) {
     try {
       const taker = await taker_of(it), most = taker ? MOST_BYTES_OF_RECORD : MOST_BYTES;
       if (it.size > most) { refusals.push(too_large(it.name, it.size)); continue; }
       const bytes = new Uint8Array(await it.arrayBuffer());
-      if (taker) { await taker(new TextDecoder().decode(bytes), it.name); tell("taken"); return; }
+      if (taker) { runs.push({ taker, name: it.name, bytes }); continue; }
       const file = { ...file_of(it.name, bytes), changed: true };
       add(file);
       taken.push(file);
@@ -446,14 +456,11 @@ export async function take(list) {
       refusals.push(`${it.name} can't be read (${error.message})`);
     }
   }
-  if (taken.length) { editor.open(taken.at(-1)); show_files(); tell("taken"); }
-  const words = taken.length
-    ? `${taken.length} file${taken.length > 1 ? "s" : ""} taken. Boot runs the machine with ${taken.length > 1 ? "them" : "it"}.`
-    : "";
-  if (refusals.length) {
-    problem(`Not taken: ${refusals.join("; ")}.`);
-    refuse([`Not taken: ${refusals.join("; ")}.`, words].join(" ").trim());
-  } else say(words);
+  if (taken.length) { editor.open(taken.at(-1)); show_files(); }
+  const [run, ...others] = runs;
+  tell_taken(taken, [...refusals, ...others.map(({ name }) => `${name}: one run, or slides, can be opened at a time`)]);
+  if (run) await run.taker(new TextDecoder().decode(run.bytes), run.name, run.bytes);
+  if (run || taken.length) tell("taken");
 }
 
 export function start() {

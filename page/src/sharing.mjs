@@ -1,7 +1,7 @@
 // Sharing: a run as a link, as a file that the page opens, and as a record that the terminal plays too.
 import { $, app, ask, base64, element, once, say, tell } from "./app.mjs";
 import { grouped } from "../../anywhere/machine/number_words.mjs";
-import { RECORD_BEGINNING, read_record, record_text } from "../../anywhere/machine/record_text.mjs";
+import { ENDING_WORDS, RECORD_BEGINNING, record_in, record_text } from "../../anywhere/machine/record_text.mjs";
 import { beginning_of, spans_of } from "../../anywhere/machine/events.mjs";
 import { bytes_of_file, packed_file, touch, unpacked_file } from "./works.mjs";
 import { problem } from "./messages.mjs";
@@ -349,9 +349,9 @@ async function files_by_sum() {
 }
 
 /** Plays a record, of programs that are here. */
-async function play_record(text, name) {
+async function play_record(_, name, bytes) {
   try {
-    const said = read_record(text), known = await files_by_sum();
+    const said = record_in(bytes), known = await files_by_sum();
     const missing = said.programs.find(({ sum }) => !known.has(sum));
     const count = said.spans.reduce((sum, [, , many]) => sum + many, 0);
     if (count > MOST_EVENTS) {
@@ -361,8 +361,11 @@ async function play_record(text, name) {
     }
     if (missing) throw new Error(`the record wants another file ${missing.name}: add it first`);
     const files = said.programs.map((it) => ({ ...known.get(it.sum), name: it.name }));
-    programs.begin("replay", { files, config: { frames: said.frames, trace: 0 }, how: {}, spans: said.spans });
-    if (said.is_cut) problem(`The record ${name} is cut off: it is played up to its last whole line.`);
+    const config = { frames: said.frames, trace: 0 };
+    const id = await programs.replay({ files, config, how: {}, spans: said.spans });
+    if (id === null) throw new Error($("mistake").textContent);
+    const told = ENDING_WORDS[said.ending];
+    if (told) problem(`The record ${name}: ${told}.`);
   } catch (error) {
     programs.refuse(error.message);
     problem(`The record ${name} isn't played: ${error.message}.`);

@@ -112,7 +112,37 @@ const RECORDS = [
 ];
 const TABLES = ["function 0 x main\n", "0 16\nfile wc.c\n-1 7\n", "frame 0 sp x 0 0\n", "frame 0 constructor 1 1 1\n", "0 1 2 3\n"];
 
+const SOURCE = "  li a0, 3\n  li a7, 2\n  ecall\n";
+
+/** What is told of records of which something is left out, and of a run beside other files. */
+async function told_of_records(page) {
+  await type(page, "echo one\n");
+  await page.until("/one\\s+one/.test(document.getElementById('screen').textContent)");
+  const text = await page.eval("page.sharing.run_as_record()"), cut = text.slice(0, -20), mark = "\ufeff";
+  const says = async (what, content, wanted) => {
+    const words = await told(page, what, () => drop(page, [["r.txt", JSON.stringify(content)]]));
+    holds(words.some((it) => it.includes(wanted)), `${what}: ${words.join(" ")}`);
+  };
+  for (const [form, of] of [["", (it) => it], [" with returns", (it) => it.replaceAll("\n", "\r\n")]]) {
+    await says(`a record that is cut off${form}`, of(cut), "r.txt: cut off: it is played up to its last whole line");
+    await says(`a record with more behind its end${form}`, of(`${text}more`), "what stands after its line `end` is left out");
+  }
+  await says("a record whose last line has no line break", text.trimEnd(), "cut off");
+  await says("a record with another mark before it", mark + text, "isn't played: not a record");
+  await says("a record with a number in another form", text.replace(/run (\d)/, "run 0$1"), "otherwise than a record is");
+  await dismiss(page);
+  const before = await page.eval("page.app.files.length");
+  await drop(page, [["r.txt", JSON.stringify(text)], ["own.s", JSON.stringify(SOURCE)]]);
+  const is_taken = (await page.eval("page.app.files.length")) === before + 1 && !(await problems(page)).length;
+  holds(is_taken && (await comes(page, stands)), "a source that comes after a record is taken too");
+  const words = await told(page, "two records", () => drop(page, [["one.txt", JSON.stringify(text)], ["two.txt", JSON.stringify(text)]]));
+  holds(words.some((it) => it.includes("two.txt: one run")), `of two records one is played, and the other told: ${words.join(" ")}`);
+  const large = await told(page, "a large file and a record", () => drop(page, [["big", "new Uint8Array((1 << 20) + 1)"], ["r.txt", JSON.stringify(text)]]));
+  holds(large.some((it) => it.includes("big")), "a file that is refused before a record is told");
+}
+
 async function files(page) {
+  await told_of_records(page);
   for (const text of RECORDS) await told(page, `the record ${JSON.stringify(text)}`, () => drop(page, [["r.txt", JSON.stringify(text)]]));
   await example(page, "shell");
   for (const text of TABLES) {
