@@ -41,8 +41,9 @@ function of_line(booted, file, stop) {
   };
 }
 
+/** A break point of the work: `of` is the variable of which the address is watched, if it is one. */
 function of_work(booted, it) {
-  const { kind, name, program } = it, changed = () => { touch(); show(); };
+  const { kind, name, program, of } = it, changed = () => { touch(); show(); };
   const gone = () => { app.work.breaks = app.work.breaks.filter((other) => other !== it); changed(); };
   if (kind === "call") {
     const number = number_of_call(name);
@@ -51,8 +52,9 @@ function of_work(booted, it) {
   const place = program === null ? null : place_of(booted, program);
   const address = ADDRESS.test(name) ? BigInt(name) : label_of(booted, place, name);
   const where = address === null || ADDRESS.test(name) ? "" : ` ${hex(address)}`;
-  const words = `${kind === "store" ? "store to" : "at"} ${name}${where}${program === null ? "" : ` in ${program}`}`;
-  const sent = address === null || place === -1 ? null : { kind, address, name, program: place };
+  const what = of === undefined ? name : `${of}, ${name},`;
+  const words = `${kind === "store" ? "store to" : "at"} ${what}${where}${program === null ? "" : ` in ${program}`}`;
+  const sent = address === null || place === -1 ? null : { kind, address, name: of ?? name, program: place };
   return { it, words, changed, sent, gone };
 }
 
@@ -137,13 +139,31 @@ export const stops_in = (program) => app.work.breaks.filter(
   (it) => it.kind === "address" && it.program === program && LINE.test(it.name)
 ).map((it) => it.name);
 
-/** Sets a break point at a line in C of a program, or takes it away. */
-export function toggle_stop(name, program) {
-  const is = (it) => it.kind === "address" && it.name === name && it.program === program;
-  app.work.breaks = app.work.breaks.some(is) ? app.work.breaks.filter((it) => !is(it))
-    : [...app.work.breaks, { kind: "address", name, program }];
+/** Whether a break point is of a kind, at a place of a program. */
+const is_of = (it, kind, name, program) => it.kind === kind && it.name === name && it.program === program;
+
+/** Takes away the break points of a kind at a place of a program, and sets this one, if there is one. */
+function set_in_place(kind, name, program, it) {
+  app.work.breaks = [...app.work.breaks.filter((other) => !is_of(other, kind, name, program)), ...(it ? [it] : [])];
   touch();
   show();
+}
+
+/** Sets a break point at a line in C of a program, or takes it away. */
+export function toggle_stop(name, program) {
+  const kind = "address", is_there = app.work.breaks.some((it) => is_of(it, kind, name, program));
+  set_in_place(kind, name, program, is_there ? null : { kind, name, program });
+}
+
+/** Whether a break point stops before stores to an address of a program. */
+export const is_watched = (name, program) => (
+  app.work.breaks.some((it) => is_of(it, "store", name, program) && !it.off)
+);
+
+/** Watches the address of a variable of a program, or does so no more. */
+export function toggle_watch(of, name, program) {
+  const kind = "store";
+  set_in_place(kind, name, program, is_watched(name, program) ? null : { kind, name, program, of });
 }
 
 function add() {

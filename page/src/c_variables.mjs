@@ -1,6 +1,7 @@
 // The variables of a program in C: of the call that is chosen its arguments and locals, and those of the program. The
 // worker tells them when the machine stands; those that aren't as they were at the last stop of the process are marked.
-import { $, app, ask, element, on, say, tell, write } from "./app.mjs";
+import { $, app, ask, element, on, program_name, say, tell, write } from "./app.mjs";
+import { is_watched, toggle_watch } from "./breaks.mjs";
 import { MOST_VARIABLES, TABLES, parts_of, path_of, shown_name } from "../../anywhere/machine/variables.mjs";
 
 /** What the module tells of a value that isn't known, in words. */
@@ -11,6 +12,7 @@ const UNKNOWN = {
 const HEADS = ["name", "type", "value", ""];
 const KINDS = [["c-locals", "locals"], ["c-globals-told", "globals"]]; // where each scope is drawn
 const CHANGED = "changed since the last stop";
+const MOST_BEFORE = 60; // letters of an earlier value that are read out
 
 const open = new Set(); // the structures and arrays that are open: their scope, function and path
 const stops = new Map(); // where each process stood when it was looked at last, {edits, now, before}, by pid
@@ -58,6 +60,20 @@ function stored_button({ address }, path) {
   }, "who stored?");
 }
 
+/** A switch: it is stopped before each store to the variable, whoever makes it in the program. */
+function watch_button({ address }, path) {
+  const program = program_name(shown.program), is_on = is_watched(address, program);
+  const label = `Watch ${path}, at ${address}: stop before each store to it`;
+  return element("button", {
+    class: "stored", "data-of": `${path} watch`, "aria-label": label, title: label,
+    "aria-pressed": is_on ? "true" : "false",
+    onclick: () => {
+      toggle_watch(path, address, program);
+      say(is_on ? `${path} isn't watched any more` : `${path} is watched: Play stops before the next store to it`);
+    },
+  }, is_on ? "watched" : "watch");
+}
+
 function toggle(key, path, is_open) {
   return element("button", {
     class: "opens", "data-of": `${path} opens`, "aria-label": `Parts of ${path}`,
@@ -71,19 +87,26 @@ const is_changed = ({ value, before }) => (
   typeof before === "string" && before !== value && !UNKNOWN[before] && !UNKNOWN[value]
 );
 
+/** The sign before a variable that has changed, and what is read out there. */
+function sign_of(it, is_new) {
+  const sign = element("span", { class: "sign" }, is_new ? "✱" : "");
+  if (!is_new) return sign;
+  const was = it.before.length > MOST_BEFORE ? `${it.before.slice(0, MOST_BEFORE)} ..` : it.before;
+  sign.append(element("span", { class: "unseen" }, `${CHANGED}: it was ${was}`));
+  return sign;
+}
+
 /** The row of a variable or of a part of one, with those of its parts if it is open. */
 function rows_of(it, scope, path = it.name, depth = 0) {
   const parts = parts_of(it.value), key = `${scope} ${path}`, is_open = parts.length > 0 && open.has(key);
-  const is_new = is_changed(it);
-  const sign = element("span", { class: "sign" }, is_new ? "✱" : "");
-  if (is_new) sign.append(element("span", { class: "unseen" }, CHANGED));
+  const is_new = is_changed(it), sign = sign_of(it, is_new);
   const opens = parts.length ? toggle(key, path, is_open) : element("span", { class: "opens" });
   const name = element("th", { scope: "row", class: "mono", style: `padding-left:${depth * 14}px` }, sign, opens,
     element("b", {}, depth ? it.name : shown_name(it)));
   const value = element("td", { class: "mono value", title: is_new ? `${CHANGED}: it was ${it.before}` : null },
     ...(is_open ? [] : parts.length ? [element("span", {}, it.value)] : value_told(it.value, path)));
   const type = element("td", { class: "mono type" }, it.type ?? "");
-  const stored = element("td", {}, it.address ? stored_button(it, path) : "");
+  const stored = element("td", {}, ...(it.address ? [stored_button(it, path), " ", watch_button(it, path)] : []));
   const row = element("tr", { class: is_new ? "changed" : "" }, name, type, value, stored);
   if (!is_open) return [row];
   const before = typeof it.before === "string" ? parts_of(it.before) : [];
@@ -183,6 +206,7 @@ export function start() {
     if (shown && app.view && !it.is_left && !why_none()) { look(); draw(); }
   });
   on("refused", () => { is_asking = false; });
+  on("stops shown", () => { drawn = ""; if (shown && app.view && !why_none()) draw(); });
   on("booted", clear);
   $("c-globals").addEventListener("toggle", () => { if (shown && app.view && !why_none()) { look(); draw(); } });
 }

@@ -74,6 +74,7 @@ const break_point = (it, what) => ({
   kind: KINDS_OF_BREAKS.includes(own(it, "kind")) ? own(it, "kind") : refuse(what, "has no kind of a break point"),
   name: text(own(it, "name"), `${what} its name`, MOST_NAME),
   program: if_there(own(it, "program"), null, (name) => text(name, `${what} its program`, MOST_NAME)),
+  ...if_there(own(it, "of"), {}, (name) => ({ of: text(name, `${what} its variable`, MOST_NAME) })),
   ...switched(it, what),
 });
 const breaks = (it) => if_there(it, [], (all) => list(all, "the list of break points", MOST_BREAKS, break_point));

@@ -261,7 +261,10 @@ async function into(page, where) {
 }
 
 /** The rows of a table of variables: name, type and value, with a sign before a name that has changed. */
-const variables_in = (page, id) => page.eval(`[...document.querySelectorAll('#${id} tbody tr')].map((row) => [...row.children].slice(0, 3).map((it) => it.textContent.replace("changed since the last stop", "").replace(/[▸▾]/, "")).join(" | "))`);
+const variables_in = (page, id) => page.eval(`(() => {
+  const seen = (cell) => { const it = cell.cloneNode(true); it.querySelectorAll('.unseen').forEach((part) => part.remove()); return it.textContent.replace(/[▸▾]/, ''); };
+  return [...document.querySelectorAll('#${id} tbody tr')].map((row) => [...row.children].slice(0, 3).map(seen).join(' | '));
+})()`);
 
 async function open_globals(page) {
   await page.eval("document.querySelector('#c-globals').open || document.querySelector('#c-globals summary').click()");
@@ -275,6 +278,7 @@ async function variables_of_c(page) {
   await into(page, "weight, points.c:20");
   const told = await variables_in(page, "c-locals");
   holds(told.includes("✱part | long int | -1") && told.includes("letter | char | 97 'a'"), `arguments and locals, and which has changed: ${told.join("; ")}`);
+  holds((await page.eval("document.querySelector('#c-locals .changed .unseen').textContent")) === "changed since the last stop: it was 0", "and what it was is read out");
   await page.eval("document.querySelector('#c-locals .to-memory').click()");
   await page.until("document.getElementById('memory').textContent.startsWith('0x1000')");
   holds(await page.eval("document.getElementById('address').value === '0x1000'"), "a pointer leads to its memory");
@@ -291,6 +295,34 @@ async function variables_of_c(page) {
   await page.eval("document.querySelector('#c-locals .stored').click()");
   await page.until(`page.app.view?.at < ${before}`);
   holds((await element_text(page, "c-where")).startsWith("main, points.c:2"), "who stored last in a variable");
+  await watched(page);
+}
+
+/** A variable that is watched: it is stopped before each store to it, forth and back. */
+async function watched(page) {
+  await into(page, "weight, points.c:20");
+  const button = "document.querySelector('#c-locals [data-of=\"total watch\"]')", from = await at(page);
+  await page.eval(`${button}.focus()`);
+  await page.key("Enter");
+  holds(await page.eval(`${button} === document.activeElement && ${button}.getAttribute('aria-pressed') === 'true'`), "a variable is watched by a key, which stays there");
+  holds(/store to total, 0x[0-9a-f]+, in init/.test(await element_text(page, "break-list")), `the list of break points has it: ${await element_text(page, "break-list")}`);
+  const places = [];
+  for (let k = 0; k < 2; k++) {
+    const before = await at(page);
+    await page.click("#play");
+    await page.until(`page.app.view?.at > ${before} && !page.app.view.playing`);
+    places.push(await at(page));
+  }
+  holds((await element_text(page, "clock")).includes("before a store to total") && places[0] > from, `Play stops before each store to it: ${places.join(", ")}`);
+  await page.click("#back-break");
+  await page.until(`page.app.view?.at < ${places[1]}`);
+  holds((await at(page)) === places[0], "and the way back does");
+  await page.until("document.getElementById('c-locals').getAttribute('aria-busy') !== 'true'");
+  holds((await variables_in(page, "c-locals")).some((it) => it.startsWith("✱")), "back, too, what has changed since the last stop has the sign");
+  await page.eval("document.getElementById('c-locals').scrollIntoView({ block: 'center' })");
+  await page.picture(`${folder}/watched.png`);
+  await page.click("#c-locals [data-of='total watch']");
+  holds((await element_text(page, "break-list")) === "", "a second click takes it away");
 }
 
 /** Tables that aren't there, are damaged, or of another program. */

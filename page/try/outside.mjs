@@ -77,6 +77,7 @@ const VALUES = [
   { files: [["init.s", "  ecall\n"]], run: { ...RUN, keys: [999] } }, { files: [["init.s", "  ecall\n"]], run: { ...RUN, at: "x" } },
   { files: [["init.s", "  ecall\n"]], breaks: [{ kind: "call", name: "write", condition: "a0 is 5" }] },
   { files: [["init.s", "  ecall\n"]], breaks: [{ kind: "call", name: "write", condition: 5 }] },
+  { files: [["init.s", "  ecall\n"]], breaks: [{ kind: "store", name: "0x10", of: 5 }] },
   { files: [["init.s", "  ecall\n"]], stops: [[{ line: 1, text: "ecall", condition: "__proto__ == 1" }]] },
   { files: [["init.s", "  ecall\n"]], run: { ...RUN, marks: 5 } }, { files: [["init.s", "  ecall\n"]], run: { ...RUN, marks: "a b" } },
   { files: [["init.s", "  ecall\n"]], run: RUN }, { files: Array.from({ length: 300 }, (_, k) => [`f${k}`, "x"]) },
