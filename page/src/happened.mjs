@@ -161,9 +161,9 @@ function last_fault() {
 /** What the worker tells of an event: asked for, if it isn't known. */
 async function told_at(at) {
   if (!known.has(at)) {
-    const id = ++asked, told = once("events told");
+    const id = ++asked;
     ask("tell_events", { id, key: known_of, places: [at] });
-    await told;
+    while ((await once("events told")).it.id !== id) { /* that was the answer to another question */ }
   }
   return known.get(at);
 }

@@ -164,6 +164,21 @@ export function step(what, back) {
   if (app.booted) ask("step", { what, back });
 }
 
+// ---- what stands beside the slider
+
+const refused = { key: "", words: "" }; // of the call that was answered last, if it was refused
+/** Why that call was refused, in words; nothing if it wasn't, or as long as the worker hasn't told. */
+function why_refused() {
+  const { view, line } = app, place = view.at - 1, k = line.find(place);
+  const is_refused = k >= 0 && line.has(place, place) && line.kind[k] === KIND.CALL && line.value[k] === -1;
+  const key = is_refused ? `refused ${app.booted.id} ${view.edits} ${view.at}` : "";
+  if (key !== refused.key) {
+    Object.assign(refused, { key, words: "" });
+    if (key) ask("tell_events", { id: 0, key, places: [place] });
+  }
+  return refused.words;
+}
+
 const clock = {
   words: document.createTextNode(""),
   stuck: element("button", {
@@ -182,7 +197,8 @@ function told() {
     clock.words,
     `event ${grouped(view.at)}${past ? ` of ${grouped(view.end)}` : ""} · tick ${grouped(facts.clock)} · ${state}`
   );
-  const last = view.playing || view.at === 0 ? "" : event_words(view.at - 1);
+  if (view.playing) refused.key = "";
+  const last = view.playing || view.at === 0 ? "" : `${event_words(view.at - 1)}${why_refused()}`;
   write(clock.last, last && ` · last: ${last}`);
   const stopped = !view.playing && view.stopped !== "paused" ? view.stopped : "";
   write(clock.between, stopped ? " · " : "");
@@ -298,6 +314,11 @@ export function start() {
     }
     told();
     show_slider();
+  });
+  on("events told", ({ key, list: [it] }) => {
+    if (key !== refused.key || !it) return;
+    refused.words = it.answer.replace(/^-1/, "");
+    told();
   });
   on("panels", () => { tell_slider(); tell_stuck(); tell_futures(); });
   on("zoom", () => { if (app.view) show_slider(); });
