@@ -194,6 +194,24 @@ function keep_clear() {
   ).observe(bar);
 }
 
+const EDGE = 8; // pixels that a list which is open keeps from the window's edge
+
+/** A list that opens below its name stands within the window, wherever the name stands. */
+function keep_within() {
+  for (const menu of document.querySelectorAll(".menu:not(.wide)")) {
+    const list = menu.querySelector(":scope > div");
+    const place = () => {
+      list.style.translate = "";
+      if (!menu.open) return;
+      const { left, right } = list.getBoundingClientRect(), most = document.documentElement.clientWidth - EDGE;
+      list.style.translate = `${left < EDGE ? EDGE - left : Math.min(0, most - right)}px`;
+    };
+    menu.addEventListener("toggle", place);
+    addEventListener("resize", place);
+    new ResizeObserver(place).observe(menu.parentElement);
+  }
+}
+
 /** The ways to the first machine, in their order: where the address leads, what was here last time, the shell. */
 const WAYS = [
   () => sharing.follow(location.hash, "Here is what you had, or the shell, in its place."),
@@ -235,6 +253,7 @@ function begin() {
   kept_is_read = session.begin();
   tabs();
   keep_clear();
+  keep_within();
   on("ready", first_machine);
   addEventListener("hashchange", () => {
     for (const it of ["dialog", "manual"]) if ($(it).open && location.hash) $(it).close();

@@ -5,6 +5,9 @@ import { KIND } from "../../anywhere/machine/machine.mjs";
 import { range } from "./time.mjs";
 
 /** In which call a process sleeps, and on what: the report's words, without who could wake it. */
+// What the lines of the picture of turns mean; in short if that picture is narrower than so many pixels.
+const KEY = "solid: it runs · blue: it sleeps · lines: forks · dotted: an end is waited for";
+const SHORT_KEY = "solid: runs · blue: sleeps · lines: forks · dotted: an end", WIDTH_OF_KEY = 380;
 const sleep_of = ({ wait }) => /sleeps in [^:;]*/.exec(wait ?? "")?.[0] ?? "sleeps";
 
 /** What a process does: the name of its colour, and words. */
@@ -217,9 +220,7 @@ export function paint_turns(draw, width, height) {
   draw.fillRect(x_of(view.at) - 0.5, 0, 1, height - 10);
   draw.fillStyle = style_of("--dim");
   draw.font = "10px system-ui, sans-serif";
-  draw.fillText(
-    "solid: it runs · blue: it sleeps · lines: forks · dotted: an end is waited for", width < 480 ? 2 : left, height - 2
-  );
+  draw.fillText(width < WIDTH_OF_KEY ? SHORT_KEY : KEY, width < 480 ? 2 : left, height - 2);
   return shown;
 }
 

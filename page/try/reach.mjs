@@ -111,6 +111,54 @@ const CUT = `(() => {
   return found;
 })()`;
 
+/** What stands beyond the window's edges, or beyond those of a box that hides it, and no box of its own scrolls it. */
+const BEYOND = `(() => {
+  const width = document.documentElement.clientWidth, own = (it) => getComputedStyle(it), found = [];
+  const is_seen = (it) => it.checkVisibility() && it.getClientRects().length && !it.closest('.unseen, #after-terminal, #typed, .skip, [aria-hidden=true], details:not([open]) > :not(summary)');
+  const name = (it) => it.tagName.toLowerCase() + (it.id ? '#' + it.id : '') + ' ' + it.textContent.trim().slice(0, 24);
+  if (document.documentElement.scrollWidth > width + 1) found.push('the page is ' + document.documentElement.scrollWidth + ' wide');
+  const box_of = (it) => { for (let at = it.parentElement; at; at = at.parentElement) if (own(at).overflowX !== 'visible' && at !== document.body) return at; return null; };
+  for (const it of document.querySelectorAll('body *')) {
+    if (!is_seen(it) || it.closest('pre, .editor, #c-text, #code')) continue;
+    const { left, right } = it.getBoundingClientRect(), box = box_of(it), edges = box?.getBoundingClientRect();
+    const scrolls = box && /auto|scroll/.test(own(box).overflowX) && /^(TABLE|PRE)$/.test(box.tagName);
+    if (scrolls || right - left < 1) continue;
+    if (left < -1 || right > width + 1) found.push('beyond the edge: ' + name(it));
+    else if (box && (right > edges.right + 1 || left < edges.left - 1)) found.push('beyond its box: ' + name(it));
+  }
+  return [...new Set(found)];
+})()`;
+
+const press = (id) => `document.getElementById('${id}').click()`;
+const PANELS = ["instruction", "pages", "translate", "opened", "happened", "why", "programs"];
+/** What can be shown, by what shows it, and what takes it away again. */
+const SHOWN = {
+  ...Object.fromEntries(PANELS.map((name) => [name, [`show_tab('${name}')`, ""]])),
+  "the break points": ["document.getElementById('breaks').open = true", "document.getElementById('breaks').open = false"],
+  "side by side": [press("open-beside"), press("close-beside")],
+  ...Object.fromEntries([0, 1, 2, 3, 4, 5].map((k) => [`lesson ${k + 1}`, [`show_tab('lessons'); open_lesson(${k})`, ""]])),
+  "Your runs": [press("your-runs"), "document.getElementById('dialog').close()"],
+  Share: [press("share"), "document.getElementById('dialog').close()"],
+  Manual: [press("open-manual"), "document.getElementById('manual').close()"],
+  "a slide": ["location.hash = 'example=pages&at=1&tab=pages&view=lecture'", ""],
+};
+
+/** All that can be shown stands within the window, with break points in two rows of the bar of time. */
+async function within(page, width) {
+  await page.eval("for (const [kind, where] of [['call', 'write'], ['address', 'count']]) { document.getElementById('break-kind').value = kind; document.getElementById('break-where').value = where; document.getElementById('break-add').click(); } document.getElementById('run-before').hidden = false");
+  for (const [what, [action, back]] of Object.entries(SHOWN)) {
+    await page.eval(action);
+    await page.sleep(what === "a slide" ? 1500 : 400);
+    const found = await page.eval(BEYOND);
+    if (found.length) {
+      holds(false, `${width}, ${what}${found.slice(0, 6).map((it) => `\n      ${it}`).join("")}`);
+      await page.picture(`${folder}/beyond-${width}-${what.replaceAll(" ", "-")}.png`);
+    }
+    await page.eval(back);
+  }
+  holds(true, `${width}: ${Object.keys(SHOWN).length} panels, lessons and dialogs were looked at`);
+}
+
 // (650 x 400 are 1300 x 800 at 200 %.)
 const SIZES = [[360, 740], [412, 860], [650, 400], [853, 480], [1300, 800], [1920, 1000]];
 
@@ -131,6 +179,7 @@ async function widths() {
       const more = await page.eval(CUT);
       holds(more.length === 0, `${width}, ${tab}${[...new Set(more)].map((it) => `\n      ${it}`).join("")}`);
     }
+    await within(page, width);
     await page.close();
     holds(page.logs.length === 0, `${width}: no errors of the page: ${page.logs.join("; ")}`);
   }
