@@ -2,7 +2,7 @@
 -- section's header says is given.
 use Rattle.std.proofs.Common.{◌≡◌, ℕ, List, true, false, Some, None, [], ◌∷◌, codes, ◌++◌, refl}
 use Rattle.elf_symbols.specs.declared.section.Section.{Section}
-use Rattle.elf_symbols.specs.Sections.{bytes_found, bytes_of, has_bytes}
+use Rattle.elf_symbols.specs.Sections.{bytes_found, bytes_of, has_bytes, or_no_bytes}
 
 -- six bytes of names, and six of what a section holds
 abbrev file : List ℕ
@@ -42,3 +42,10 @@ other_flags = refl
 
 pub not_found : bytes_found file None ≡ None
 not_found = refl
+
+-- no bytes of a section that isn't found, or of a file that has no sections
+pub none_are_no_bytes : or_no_bytes None ≡ []
+none_are_no_bytes = refl
+
+pub found_bytes : or_no_bytes (Some (codes "bcd")) ≡ codes "bcd"
+found_bytes = refl

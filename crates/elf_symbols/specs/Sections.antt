@@ -1,5 +1,5 @@
 -- The bytes of a section by its name (ELF-64 Object File Format, "Sections" and "String Table"). All numbers are little-endian.
-use Rattle.std.specs.Prelude.{ℕ, ◌/◌, ◌%◌, Bool, not, ◌&&◌, ◌==◌, nat_lt, if◌then◌else◌, List, take, drop, Option, Some, None, option_map}
+use Rattle.std.specs.Prelude.{ℕ, ◌/◌, ◌%◌, Bool, not, ◌&&◌, ◌==◌, nat_lt, if◌then◌else◌, List, [], take, drop, Option, Some, None, option_map}
 use Rattle.xk_base.specs.Words.{least_below}
 use Rattle.xk_base.specs.ProgramFile.{number_at}
 use Rattle.elf_symbols.specs.declared.section.Section.{Section}
@@ -39,3 +39,11 @@ abbrev pub section_named : List ℕ → List ℕ → Option (List ℕ)
 section_named file name =
     if has_sections file && nat_lt (names_number file) (section_count file)
     then bytes_named file (sections_place file) (section_count file) (section file (sections_place file) (names_number file)) name else None
+
+abbrev pub or_no_bytes : Option (List ℕ) → List ℕ
+or_no_bytes (Some bytes) = bytes
+or_no_bytes None = []
+
+-- the same, and no bytes if there are none
+abbrev pub section_bytes : List ℕ → List ℕ → List ℕ
+section_bytes file name = or_no_bytes (section_named file name)

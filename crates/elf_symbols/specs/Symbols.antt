@@ -186,16 +186,6 @@ abbrev pub symbol_count : List ℕ → ℕ
 symbol_count file =
     if has_sections file then symbols_in file (symbol_table file (sections_place file) (section_count file)) else 0
 
--- symbol i of a table, if it has so many: none if the table isn't wholly in the file
-abbrev pub nth_in : List ℕ → ℕ → Option Section → Option Symbol
-nth_in file i (Some table) = if is_within file table && nat_lt i (table.size / 24) then Some (symbol file table i) else None
-nth_in file i None = None
-
--- symbol i of the file's first symbol table
-abbrev pub nth_symbol : List ℕ → ℕ → Option Symbol
-nth_symbol file i =
-    if has_sections file then nth_in file i (symbol_table file (sections_place file) (section_count file)) else None
-
 -- What a symbol stands for is in the low half of its byte of information: nothing that is told (0), or a function (2). In the high half is its binding: a local one (0) is known in its own source alone.
 abbrev pub is_function : Symbol → Bool
 is_function s = s.info % 16 == 2

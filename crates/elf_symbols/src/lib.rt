@@ -6,8 +6,8 @@
 //! each place is tested before it is read, and what isn't wholly in the file has no name. It takes no memory of the host,
 //! and no more steps than there are section headers, symbols and bytes of a name.
 //!
-//! [`nth_symbol`] gives a symbol of whatever kind, [`symbol_at`] each one of a table whose bytes are known, and [`section_named`] the bytes of a section, which a reader of a compiler's
-//! tables begins with.
+//! [`symbol_at`] gives each symbol of a table whose bytes are known. [`section_named`] and [`section_bytes`] give the
+//! bytes of a section, which a reader of a compiler's tables begins with.
 //!
 //! What a name is found by is written in `specs/Symbols.antt`, and a section in `specs/Sections.antt`.
 #![tactic(auto)]
@@ -19,5 +19,5 @@ mod table;
 
 pub use symbol::{SYMBOL_BYTES, Symbol, symbol_at};
 pub use table::{
-    address_of, function_at, function_start, nth_symbol, section_named, symbol_count, symbol_name,
+    address_of, function_at, function_start, section_bytes, section_named, symbol_count, symbol_name,
 };

@@ -165,16 +165,6 @@ pub(crate) fn nth_name<'a>(
     name_at(file, strings, symbol.name)
 }
 
-/// The symbol of this number in a table, if the table is wholly in the file and has so many.
-pub(crate) fn nth(file: &[u8], table: &Section, number: usize) -> Option<Symbol>
-    ensures { result ≡ meant.nth_in file.now number (Some table.now) }
-{
-    if !table.is_within(file) || number >= table.size as usize / SYMBOL_BYTES {
-        return None;
-    }
-    Some(symbol_at(file, table.off as usize + SYMBOL_BYTES * number))
-}
-
 /// Where the first zero byte stands.
 fn zero_byte(bytes: &[u8]) -> Option<usize>
     ensures first { result ≡ position (λ b. b == 0) bytes.now }

@@ -6,7 +6,7 @@ ghost use Rattle.elf_symbols.specs.Symbols as meant;
 ghost use Rattle.elf_symbols.specs.Sections as named;
 
 use crate::section::{STRING_TABLE, Section, bytes_named, read_section, symbol_table};
-use crate::symbol::{SYMBOL_BYTES, Symbol, first_function, first_named, name_at, nth, nth_name};
+use crate::symbol::{SYMBOL_BYTES, first_function, first_named, name_at, nth_name};
 use xk_base::file_number::{u16_at, u64_at};
 
 /// Bytes of a file header (ELF-64 Object File Format, "ELF Header": `Elf64_Ehdr`).
@@ -133,16 +133,6 @@ pub fn symbol_count(file: &[u8]) -> usize
     }
 }
 
-/// The symbol of this number, counted from 0, in the file's first symbol table, of whatever kind it is: none if there are no
-/// more, if the file has no symbol table, or if its section headers or that table aren't wholly in the file.
-pub fn nth_symbol(file: &[u8], number: usize) -> Option<Symbol>
-    ensures { result ≡ meant.nth_symbol file.now number }
-{
-    let headers = read_headers(file)?;
-    let table = symbol_table(file, headers.place, headers.count)?;
-    nth(file, &table, number)
-}
-
 /// The bytes of the first section that has this name, as `.debug_line`.
 ///
 /// There are none if no section has the name, if its bytes stand in no file (`SHT_NOBITS`) or are compressed
@@ -157,6 +147,17 @@ pub fn section_named<'a>(file: &'a [u8], name: &[u8]) -> Option<&'a [u8]>
     }
     let names = read_section(file, headers.place, headers.names);
     bytes_named(file, headers.place, headers.count, &names, name)
+}
+
+/// The bytes of the first section that has this name, and no bytes if [`section_named`] gives none: a table that isn't
+/// there tells nothing.
+pub fn section_bytes<'a>(file: &'a [u8], name: &[u8]) -> &'a [u8]
+    ensures { result.now ≡ named.section_bytes file.now name.now }
+{
+    match section_named(file, name) {
+        Some(bytes) => bytes,
+        None => b"".as_slice(),
+    }
 }
 
 /// The name of the symbol of this number, counted from 0, in the file's first symbol table, if the symbol is a function,
