@@ -3,3 +3,4 @@ pub mod Cuts
 pub mod Led
 pub mod Places
 pub mod Replays
+pub mod Taken

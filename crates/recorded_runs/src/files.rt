@@ -1,8 +1,9 @@
 //! The FILEs of a record's programs, and what is known of their sources.
-ghost use Rattle.std.specs.Prelude.{◌≡◌, ◌++◌, IfErr, IfOk, OnOk, map, option_map, string_bytes};
+ghost use Rattle.std.specs.Prelude.{◌≡◌, ◌++◌, None, IfErr, IfOk, OnOk, get_or, map, option_map, string_bytes};
 ghost use Rattle.program_files.specs.Failures.{failure_status};
 ghost use Rattle.std.specs.Option.{option_to_list};
 ghost use Rattle.recorded_runs.specs.Places.{path_at, paths_at, place_of, places_of};
+ghost use Rattle.recorded_runs.specs.Taken.{AreTaken, without_at};
 ghost use Rattle.xv_record.specs.Told.{program_told, told_program};
 
 use crate::reading::recorded_programs;
@@ -99,21 +100,30 @@ fn paths_at(
     Ok(chosen)
 }
 
+// Takes the lines at a place, if there are any.
+fn take_lines(lines: &mut [Option<SourceLines>], place: usize) -> Option<SourceLines>
+    ensures taken { result ≡ get_or lines.old place None }
+    ensures left { lines.new ≡ without_at place lines.old }
+{
+    if place < lines.len() {
+        lines[place].take()
+    } else {
+        None
+    }
+}
+
 // The lines at these places, which are taken.
 fn lines_at(
     alloc: Global,
     lines: &mut [Option<SourceLines>],
     places: &[usize],
 ) -> Result<Vec<Option<SourceLines>>, Failure<'static>>
-    ensures { IfErr result (λ e. failure_status e ≡ 2) }
+    ensures lines { IfOk result (λ chosen. AreTaken lines.old places.now chosen.items) }
+    ensures refused { IfErr result (λ e. failure_status e ≡ 2) }
 {
     let mut chosen = Vec::new(alloc);
     for place in places {
-        let its = match lines.get_mut(*place) {
-            Some(its) => its.take(),
-            None => None,
-        };
-        chosen.push(its)?;
+        chosen.push(take_lines(lines, *place))?;
     }
     Ok(chosen)
 }
@@ -155,6 +165,8 @@ pub fn recorded_files(
     ensures programs { IfOk result (λ files. map program_told files.programs.items ≡ map told_program kept.now.programs.items) }
     // each path is that of the first FILE whose program has the name that was recorded
     ensures paths { IfOk result (λ files. map string_bytes files.paths.items ≡ paths_at paths.now (places_of made.programs.items kept.now.programs.items)) }
+    // and so are the lines of its source
+    ensures lines { IfOk result (λ files. AreTaken made.lines.items (places_of made.programs.items kept.now.programs.items) files.lines.items) }
     ensures refused { IfErr result (λ e. failure_status e ≡ 2) }
 {
     let SourcedPrograms { programs, lines } = made;

@@ -16,10 +16,13 @@ mod quiet;
 mod reading;
 mod words;
 
+pub use counting::PLAYED_AGAIN;
 pub use cutting::{CutError, first_events};
 pub use ending::{RecordEnd, close_record};
 pub use files::{RecordedFiles, recorded_files};
 pub use playing::{play_lines, play_record};
 pub use quiet::play_quietly;
 pub use reading::{record_of, recorded_programs, whole_record};
-pub use words::{AT_WORD, REPLAY_WORD, Replay, ReplayRefusal, ReplayWords, replay_words};
+pub use words::{
+    AT_WORD, REPLAY_WORD, Replay, ReplayRefusal, ReplayWords, TOLD_BY_RECORD, replay_words,
+};

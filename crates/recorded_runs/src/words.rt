@@ -1,9 +1,11 @@
 //! What a command line says of a record that is to be played.
-ghost use Rattle.std.specs.Prelude.{◌≡◌, IfOk};
-ghost use Rattle.recorded_runs.specs.Asked.{AreGiven};
+ghost use Rattle.std.specs.Prelude.{◌≡◌, IfOk, IfSome};
+ghost use Rattle.recorded_runs.specs.Asked.{AreGiven, IsNameOf};
 
 use program_files::exit_statuses::WORDS_REFUSED;
-use program_files::{CommandWord, Given, NumberOption, WordsError, words};
+use program_files::{
+    CommandWord, FRAMES, Given, NumberOption, QUANTUM, ROUNDS, WordsError, words,
+};
 use std::io::Write;
 use std::rt::Env;
 use thiserror::Error;
@@ -25,6 +27,9 @@ pub const AT_WORD: CommandWord = CommandWord::Text {
     value: "N",
     help: "Play the first N events of the record alone",
 };
+
+/// The options of a run in rounds that a record tells itself, so that they can't stand beside it.
+pub const TOLD_BY_RECORD: [&NumberOption; 3] = [&FRAMES, &ROUNDS, &QUANTUM];
 
 /// What the words of a command line say of a record.
 #[derive(Drop)]
@@ -83,7 +88,9 @@ fn is_option(word: &str, name: &str) -> bool {
 }
 
 // The name of the option among these that a word is.
-fn option_in(word: &str, options: &[&'static NumberOption]) -> Option<&'static str> {
+fn option_in(word: &str, options: &[&'static NumberOption]) -> Option<&'static str>
+    ensures { IfSome result (λ name. IsNameOf name.now options.now) }
+{
     for option in options {
         if is_option(word, option.name) {
             return Some(option.name);
@@ -93,7 +100,9 @@ fn option_in(word: &str, options: &[&'static NumberOption]) -> Option<&'static s
 }
 
 // The name of the first of these options that stands among words before the word `--`.
-fn first_option(words: &[String], options: &[&'static NumberOption]) -> Option<&'static str> {
+fn first_option(words: &[String], options: &[&'static NumberOption]) -> Option<&'static str>
+    ensures { IfSome result (λ name. IsNameOf name.now options.now) }
+{
     for word in words {
         if word.as_str() == "--" {
             return None;
@@ -106,7 +115,8 @@ fn first_option(words: &[String], options: &[&'static NumberOption]) -> Option<&
     None
 }
 
-/// What the words of a command line say of a record, beside which these options can't be given.
+/// What the words of a command line say of a record, beside which these options can't be given. That an option is seen
+/// among the host's words, and only one that stands there, is tested (`checks/words`): no contract tells the words.
 ///
 /// # Errors
 ///
@@ -116,7 +126,7 @@ pub fn replay_words<R: Env + AllocGlobal>(
     given: &Given,
     others: &[&'static NumberOption],
 ) -> Result<ReplayWords, WordsError>
-    ensures { IfOk result (λ asked. AreGiven given.now.words.items asked) }
+    ensures { IfOk result (λ asked. AreGiven given.now.words.items others.now asked) }
 {
     let Ok(all) = words(rt) else {
         return Err(WordsError::NoWords);
