@@ -188,12 +188,29 @@ def try_course(folder, files, status, *texts):
     return said
 
 
+# Exercises that no grader has seen yet: what is told of one comes from its file alone.
+UNGRADED = [
+    ('title = "Typed"', "title = 1", "exercise.toml has no title that is a text"),
+    ('title = "Typed"\n', "", "has no title"), ("shows", "points = -1\nshows", "no number of points"),
+    ('name = "it says yes"', "name = 5", "of [[run.rule]] one has no name that is a text"),
+    ('name = "typed at it"\n', "", "of [[run]] one has no name"),
+    ("shows", "points = 1.5\nshows", "line 10: this is no text"), (EXERCISE, EXERCISE.encode("utf-16"), "UTF-8"),
+    ("[[run]]", "[run]", "exercise.toml lacks [[run]]"), ("[[run.rule]]", "[run.rule]", "lacks [[run.rule]]"),
+    (EXERCISE, "title = 'x'\nrun = [5]\n", "of [[run]] one has no name"),
+    ("shows", "points = 01\nshows", "line 10: "), (EXERCISE, "a" * 100000, "line 1: "),
+]
+
+
 def courses(room):
     changes = [{"course.toml": COURSE.replace(old, new) if isinstance(new, str) else new} for old, new, _ in COURSES]
     cases = [({"roster.csv": text}, *its) for text, *its in ROSTERS]
     cases += [({"by-hand.csv": HAND + text}, *its) for text, *its in HANDS]
     cases += [({"late.csv": LATE + text}, *its) for text, *its in LATES]
     cases += [(change, 2, why) for change, (*_, why) in zip(changes, COURSES)]
+    cases += [({"exercise.toml": EXERCISE.replace(old, new) if isinstance(new, str) else new}, 2, why)
+              for old, new, why in UNGRADED]
+    cases += [({"course.toml": COURSE.replace('"one"', f'"{NFC}"'), "by-hand.csv": f"{HAND}s1,{NFD},drawing,1,\n"}, 0,
+               '"points": 1')]
     undue = {"late.csv": LATE + "s1,one,,2028-03-01T12:00Z\n", "course.toml": COURSE.replace("due =", "canvas =")}
     cases += [(undue, 2, "line 2: s1, one: the exercise has no due")]
     for k, case in enumerate(cases):
@@ -293,8 +310,8 @@ def made_by(folder):
 
 
 def try_moodle(room):
-    rows = ["id,name,moodle,folder", "s1,Ada,11,a/b: c", "s2,Bob,12,..", f"s3,{NFC},,con", "s4,Eve,14,", "s5,Eve,15, x. ",
-            "s6,Zoe,16,"]
+    rows = ["id,name,moodle,folder", "s1,Ada,11,a/b: c", "s2,Bob,12,..", f"s3,{NFC},,con", "s4,Eve,14,",
+            "s5,Eve,15, x. ", "s6,Zoe,16,"]
     put(room / "roster.csv", "".join(f"{row}\n" for row in rows))
     names = ["Ada_11", "Bob_13", f"{NFD}_17", "Eve_14", "Eve_15", "Zoe_12", "..x\n_18"]
     for name in names:
@@ -302,7 +319,7 @@ def try_moodle(room):
     put(room / "down/notes.txt", "of nobody")
     words = ["collect", "moodle", room / "down", "--roster", room / "roster.csv", "--to", room / "class"]
     says(words, 0, "unknown 13 Bob: its number is 13, and that of s2 is 12", "nobody of the roster is ..x\\x0a, or",
-         "unknown 12 Zoe: the number 12 is that of s2, and the name that of s6", "notes.txt has no name that moodle")
+         "unknown 12 Zoe: the number 12 is that of s2, and the name that of s6", "notes.txt isn't taken")
     made = made_by(room / "class")
     wanted = ["a_b_ c", "unknown 13 Bob", "_con", "s4", "x_", "unknown 12 Zoe", "unknown 18 ..x"]
     expect(sorted(made) == sorted(wanted), f"moodle: {sorted(made)}")
@@ -318,7 +335,8 @@ def try_others(room):
         put(room / "canvas" / name, name)
     words = ["collect", "canvas", room / "canvas", "--roster", room / "roster.csv", "--to"]
     said = says([*words, room / "class-1", "--exercise", room / "exercise.toml"], 0, "2 submissions",
-                "strange.txt has no name that canvas", "s2: init.s is there twice", "s2: handed in late")
+                "strange.txt isn't taken: it is no folder or file as canvas", "s2: init.s is there twice",
+                "s2: handed in late")
     expect("s1: handed in late" not in said, f"canvas: {said}")
     expect(made_by(room / "class-1") == {"s1": ["init.s"], "s2": ["init.s"]}, f"canvas: {made_by(room / 'class-1')}")
     says([*words, room / "class-2"], 0)
@@ -327,7 +345,7 @@ def try_others(room):
         put(room / "clones/lab-git-1" / name, name)
     put(room / "clones/other/init.s", "x")
     says(["collect", "github", room / "clones", "--roster", room / "roster.csv", "--to", room / "class-3", "--prefix",
-          "lab", "--exercise", room / "exercise.toml"], 0, "other has no name that github gives")
+          "lab", "--exercise", room / "exercise.toml"], 0, "other isn't taken")
     taken = (room / "class-3/s1/init.s").read_text(encoding="utf-8")
     expect(taken == "init.s", f"github: {taken} is taken for init.s")
 
@@ -365,7 +383,8 @@ def try_class(room):
     put(room / "down/Ada_11_assignsubmission_file_/init.s", "  li a0, 1\n  li a7, 2\n  ecall\n")
     says(["collect", "moodle", room / "down", "--roster", room / "roster.csv", "--to", room / "class"], 0)
     grader = ["node", TOP / "anywhere/grade.mjs", "--work", room / "work", room / "exercise.toml"]
-    subprocess.run([*grader, *(room / "class").iterdir()], capture_output=True, env={**os.environ, "XV_PICTURE": ""}, check=True)
+    without_pictures = {**os.environ, "XV_PICTURE": ""}
+    subprocess.run([*grader, *(room / "class").iterdir()], capture_output=True, env=without_pictures, check=True)
     marks, words = room / "marks.json", ["json", course, "--to", room / "marks.json"]
     says([*words, "--on", "2028-02-29"], 0)
     book = json.loads(marks.read_text(encoding="utf-8"))

@@ -167,8 +167,8 @@ export function collect(way, folder, { to, roster: path, exercise, prefix }) {
   if (!ways.includes(way)) throw new Stop(1, `collect takes one of ${ways.join(", ")}, and not ${way}`);
   const roster = path ? read_roster(path) : null;
   const wanted = exercise ? exercise_of_held(held_exercise(exercise)).wanted : null;
-  const found = WAYS[way](folder, prefix), all = placed(found.all, roster), its_name = `no name that ${way} gives`;
-  const lines = found.strange.map((name) => `${shown(name)} has ${its_name}, and isn't taken\n`);
+  const found = WAYS[way](folder, prefix), all = placed(found.all, roster);
+  const lines = found.strange.map((name) => `${shown(name)} isn't taken: it is no folder or file as ${way} gives it\n`);
   make_empty(to);
   for (const it of all) {
     const { taken, told } = taken_of(it, wanted), say = (text) => lines.push(`${shown(it.folder)}: ${text}\n`);

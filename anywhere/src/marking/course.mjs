@@ -85,7 +85,7 @@ function rule_of(course, path) {
 
 /** What is given by hand in an exercise. Its names are other ones than those of the parts that are graded. */
 function hand_of(table, name, parts, path) {
-  const hand = tables_in(table, "hand", path).map((it) => ({ name: it.name, points: it.points }));
+  const hand = tables_in(table, "hand", path).map((it) => ({ name: same_form(it.name), points: it.points }));
   check_names(hand, `parts of ${shown(name)} that are given by hand and called`, path);
   const graded = new Set(parts.map((it) => `${it.run}: ${it.name}`)), both = hand.find((it) => graded.has(it.name));
   if (both) throw new Stop(2, `${path}: ${shown(both.name)} is graded, and can't be given by hand too`);
@@ -93,8 +93,10 @@ function hand_of(table, name, parts, path) {
 }
 
 function exercise_of(table, path, at) {
-  const { file, work, due = null, name = basename(file).replace(/\.toml$/, ""), canvas = null } = table;
-  const whole = at(file), text = text_of(whole), read = read_table(text, whole), parts = parts_of(read, whole);
+  const { file, work, due = null, canvas = null } = table, whole = at(file), text = text_of(whole);
+  const name = same_form(table.name ?? basename(file).replace(/\.toml$/, ""));
+  const read = read_table(text, whole), parts = parts_of(read, whole);
+  if (!is_text(read.title)) throw new Stop(2, `${whole} has no title that is a text`);
   const hand = hand_of(table, name, parts, path);
   return { name, title: read.title, path: whole, work: at(work), due, canvas, hand, text, table: read, parts };
 }
@@ -109,9 +111,9 @@ export const where_of = (record) => `${record.file}: line ${record[LINE]}`;
 function by_keys(records, file) {
   const table = new Map();
   for (const record of records) {
-    const key = key_of(record.id, record.exercise);
+    const exercise = same_form(record.exercise), part = same_form(record.part ?? ""), key = key_of(record.id, exercise);
     if (!table.has(key)) table.set(key, []);
-    table.get(key).push({ ...record, file });
+    table.get(key).push({ ...record, exercise, part, file });
   }
   return table;
 }

@@ -7,7 +7,7 @@ import { text_of } from "./files.mjs";
 import { Stop, held_exercise, made_exercise, packed, text_of_held, unpacked } from "./held.mjs";
 import * as shape from "./shape.mjs";
 import { shown } from "./shown.mjs";
-import { NotRead, list_of, table_of, toml_of } from "./toml.mjs";
+import { NotRead, is_table, list_of, table_of, toml_of } from "./toml.mjs";
 
 const KIND = "nektavoly sheet 1";
 /** The answer that stands in a sheet in place of each right one. */
@@ -32,14 +32,21 @@ export const takes_text = (run) => list_of(run.rule).some((rule) => rule.line ??
 const files_of = (table, run) => (list_of(run.files).length ? run.files : list_of(table.files));
 const program_of = (file) => file.replace(/\.s$/, "");
 
+/** The tables of a list that is needed, each with a name. */
+function named_in(list, what, path) {
+  const all = list_of(list), is_named = (it) => is_table(it) && typeof it.name === "string";
+  if (all.length === 0) throw new Stop(2, `${path} lacks ${what}`);
+  if (!all.every(is_named)) throw new Stop(2, `${path}: of ${what} one has no name that is a text`);
+  return all;
+}
+
 /**
  * The parts of an exercise, in the grader's order. A word in braces stays as it is: what it stands for may be secret.
  */
 export function parts_of(table, path) {
-  return list_of(table.run).flatMap((run) => list_of(run.rule).map((rule) => {
+  const rules_of = (run) => named_in(run.rule, "[[run.rule]]", path);
+  return named_in(table.run, "[[run]]", path).flatMap((run) => rules_of(run).map((rule) => {
     const { name, points = 1 } = rule, part = { run: run.name, name, points, files: files_of(table, run) };
-    const is_named = [run.name, name].every((it) => typeof it === "string");
-    if (!is_named) throw new Stop(2, `${path}: a run or a rule has no name that is a text`);
     if (!shape.is_count(points)) throw new Stop(2, `${path}: the points of ${shown(name)} are no number of points`);
     const question = question_of(rule);
     return question ? { ...part, question, ...(is_numbered(rule) ? { is_numbered: true } : {}) } : part;

@@ -162,7 +162,7 @@ function new_table() {
 /** The line in which a table has a key, from 1. */
 export const line_of = (table, key) => table[LINES]?.[key];
 
-const is_table = (it) => it !== null && typeof it === "object" && !Array.isArray(it);
+export const is_table = (it) => it !== null && typeof it === "object" && !Array.isArray(it);
 
 /**
  * Which tables may still get keys: `headed` were begun by a header, `dotted` by dots of keys below some header, and
@@ -256,7 +256,6 @@ export function table_of(whole) {
 
 /** The tables of a list; none if it isn't there. */
 export const list_of = (it) => (Array.isArray(it) ? it : []);
-export { is_table };
 
 /** A value as TOML. A text of JSON is one of TOML, but for the letter that TOML doesn't take. */
 export function toml_of(it) {
