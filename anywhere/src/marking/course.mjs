@@ -9,13 +9,13 @@ import { read_roster, records_at } from "./roster.mjs";
 import { is_count } from "./shape.mjs";
 import { parts_of, read_table } from "./sheet.mjs";
 import { shown } from "./shown.mjs";
-import { MOMENT_FORM, moment_of } from "./times.mjs";
+import { MOMENT_FORM, MOST_DAYS, moment_of } from "./times.mjs";
 import { is_table, line_of } from "./toml.mjs";
 
 const is_text = (it) => typeof it === "string" && it.trim() !== "";
 const is_list = (it) => Array.isArray(it) && it.every(is_table);
 const is_moment = (it) => typeof it === "string" && moment_of(it) !== null;
-const MOST_DAYS = 10000, MOST_POINTS = 1000000;
+const MOST_POINTS = 1000000;
 
 const TEXT = [is_text, "a text that isn't empty"];
 const DAYS = [(it) => is_count(it) && it <= MOST_DAYS, `a whole number of days, from 0 to ${MOST_DAYS}`];

@@ -2,7 +2,7 @@
 import { where_of } from "./course.mjs";
 import { Stop } from "./held.mjs";
 import { shown } from "./shown.mjs";
-import { DAY, MOMENT_FORM, moment_of } from "./times.mjs";
+import { DAY, MOMENT_FORM, MOST_DAYS, moment_of } from "./times.mjs";
 
 /** Points as whole hundredths: so no sum is made of parts that binary numbers don't have. */
 const hundredths = (points) => Math.round(points * 100);
@@ -36,8 +36,9 @@ export function given_by_hand(exercise, records) {
 
 /** The days of a record, which has their number, or the time when it came. */
 function days_of(record, due) {
-  const { days = "", handed_in = "" } = record;
-  if (days !== "") return /^\d{1,4}$/.test(days) ? Number(days) : refuse(record, `${shown(days)} is no number of days`);
+  const { days = "", handed_in = "" } = record, is_number = /^\d+$/.test(days) && Number(days) <= MOST_DAYS;
+  if (is_number) return Number(days);
+  if (days !== "") refuse(record, `${shown(days)} is no number of days, from 0 to ${MOST_DAYS}`);
   const came = moment_of(handed_in);
   if (handed_in === "") refuse(record, "there are no days, and no time in handed_in");
   if (came === null) refuse(record, `handed_in is ${shown(handed_in)}, and is to be ${MOMENT_FORM}`);

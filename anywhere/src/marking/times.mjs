@@ -3,6 +3,7 @@
 
 const MINUTE = 60 * 1000; // milliseconds
 export const DAY = 24 * 60 * MINUTE;
+export const MOST_DAYS = 9999; // that anything may be late
 /** What a moment is to look like, for messages. */
 export const MOMENT_FORM = "a time as 2027-04-12T23:59:00+02:00, or with Z in place of +02:00";
 
