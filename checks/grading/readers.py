@@ -3,6 +3,7 @@
 
 - TOML (marking/toml.mjs) with tomllib: a table of texts, and 6,000 at random. What one reads, the other reads alike;
   times, numbers with a point and numbers of more than 53 bits are refused by the first.
+- The grader's own reader of TOML with both: what it has for a student, of values in all forms.
 - CSV (marking/csv.mjs) with csv.reader, which takes it strictly: a table, and 3,000 at random.
 - Moments (marking/times.mjs) with datetime: a table, and all days of the months of leap years and others.
 
@@ -12,11 +13,13 @@ import csv
 import datetime
 import io
 import json
+import os
 import pathlib
 import random
 import shutil
 import subprocess
 import sys
+import tempfile
 import tomllib
 
 TOP = pathlib.Path(__file__).resolve().parents[2]
@@ -121,7 +124,32 @@ def try_toml(chance):
             expect(told.startswith("line "), f"TOML {text!r} is refused without its line: {told}")
         if place < len(TOML) + len(NO_TOML):
             expect(is_read == (place < len(TOML)), f"TOML {text!r}: {told}")
-    print(f"readers: of {len(texts)} texts of TOML {sum(isinstance(it, list) for it in made)} are read, as tomllib does")
+    count = sum(isinstance(it, list) for it in made)
+    print(f"readers: of {len(texts)} texts of TOML {count} are read, as tomllib does")
+
+
+VALUES = [
+    "'''it's ''x'''''", '"""" q""""', "0x1F", "1_000", "-0", "+7", "'C:\\x'", '"\\u00e9\\U0001F600 \\\\"',
+    '"""a\\\n  b"""', "0b101", "0o17", "'''\nfirst'''", "9007199254740991",
+]
+
+
+def try_grader():
+    """The grader reads the values of a variant as both do."""
+    lines = [f"k{place} = {value}\n" for place, value in enumerate(VALUES)]
+    text = ('title = "x"\nfiles = ["init"]\n[[variant]]\n' + "".join(lines)
+            + '[[run]]\nname = "r"\n[[run.rule]]\nname = "n"\nstatus = 3\n')
+    wanted = tomllib.loads(text)["variant"]
+    [made] = read_by_node("toml.mjs", "NotRead, table_of", "table_of(text).variant", [text])
+    expect(made == [wanted], f"TOML: the values are {made}, and by tomllib {wanted}")
+    with tempfile.TemporaryDirectory() as room:
+        path = pathlib.Path(room, "values.toml")
+        path.write_text(text, encoding="utf-8")
+        words = [TOP / "bin/xv_grade", "--variant", path, "anna"]
+        done = subprocess.run(words, capture_output=True, env={**os.environ, "XV_NODE": "yes"})
+    told = done.stdout.decode().splitlines()
+    expect(sorted(told) == sorted(f"{key}: {value}" for key, value in wanted[0].items()),
+           f"TOML: the grader reads {told} {done.stderr.decode()}")
 
 
 # ---- CSV
@@ -195,6 +223,7 @@ def main():
         return 0
     chance = random.Random(int(sys.argv[1]) if sys.argv[1:] else 1)
     try_toml(chance)
+    try_grader()
     try_csv(chance)
     try_moments()
     print(f"readers: {len(failed)} things are not as they should be" if failed else "readers: all is as it should be")
