@@ -407,6 +407,27 @@ def try_class(room):
     expect([(it["from"], it["to"]) for it in history] == [(0, 2)], f"a renamed exercise loses its history: {history}")
     put(room / "roster.csv", "id,name,folder,moodle\ns1,Ada,a/b: c,11\n")
     says(words, 0, "s2 is no student now")
+    try_work(room, words)
+
+
+def try_work(room, words):
+    """What the grader didn't write in its folder is passed over, or refused by the folder's name."""
+    jobs = room / "work/jobs"
+    [job] = jobs.iterdir()
+    put(jobs / "a-file", "x")
+    put(jobs / "a-folder/name/inside", "x")
+    put(jobs / "empty/name", "")
+    put(jobs / "of-another/name", b"\xff\xfe")
+    put(jobs / "of-another/exercise", "/somewhere/else.toml\n")
+    says(words, 0)
+    for name, text in [("result.csv", "a,b\n"), ("result.csv", '"'), ("result.csv", b"\xff"), ("result.xml", "<x/>"),
+                       ("result.xml", '{"tests": []}\n\n\n\n'), ("result.xml", "")]:
+        before = (job / "out" / name).read_bytes()
+        put(job / "out" / name, text)
+        says(words, 2, str(job))
+        put(job / "out" / name, before)
+    (job / "out/stamp").write_text("other\n")
+    says(words, 0, "one: not graded yet")
 
 
 def try_notes(_):
