@@ -305,7 +305,6 @@ async function take_aside() {
 
 // ---- runs: each is a record of its own, {id, owner, name, when, is_own, ..}
 
-const or_nothing = (promise, nothing) => promise.catch(() => nothing);
 const of_runs = (mode, action) => transaction([RUNS], mode, (it) => action(it.objectStore(RUNS)));
 
 /** Writes a run, and tells its number: another one, if a tab that isn't its owner has gone on with the run since. */
@@ -359,7 +358,10 @@ async function keep_run_aside(run) {
 
 /** All runs, the last one first; those that are laid aside too, as long as they are. */
 export async function all_runs() {
-  const all = await or_nothing(of_runs("readonly", (store) => answer_of(store.getAll())), []);
+  const all = await of_runs("readonly", (store) => answer_of(store.getAll())).catch((error) => {
+    note_not_kept("runs", error);
+    return [];
+  });
   for (const [aside, { run }] of all_aside()) {
     const is_there = all.some((it) => it.id === run?.id && it.owner === run.owner && it.when >= run.when);
     if (typeof run?.id === "string" && !is_there) all.push({ ...run, aside });

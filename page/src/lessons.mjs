@@ -3,6 +3,7 @@
 import { $, app, ask, element, on, once, tell } from "./app.mjs";
 import { KIND } from "../../anywhere/machine/machine.mjs";
 import { keep, kept, on_conflict } from "./browser_storage.mjs";
+import { copied_words, copy_field } from "./clipboard.mjs";
 import { help_of } from "./manual.mjs";
 import { is_changed, machine_of, shipped_files } from "./works.mjs";
 import * as programs from "./programs.mjs";
@@ -428,13 +429,7 @@ function hand_in() {
     id: "solved-name", autocomplete: "name", maxlength: 80, oninput: () => { line.value = solved_line(name.value); },
   });
   const told = element("span", { role: "status" });
-  const copy = async () => {
-    line.select();
-    try {
-      await navigator.clipboard.writeText(line.value);
-      told.textContent = " It is in the clipboard.";
-    } catch { told.textContent = " It is chosen: copy it by Ctrl C."; }
-  };
+  const copy = async () => { told.textContent = ` ${copied_words(await copy_field(line))}`; };
   line.value = solved_line();
   return element(
     "div", { class: "ask" }, element("p", {}, "What you have solved, as a line to hand in:"),

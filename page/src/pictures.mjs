@@ -237,8 +237,18 @@ async function copy(kind, content, words) {
     await navigator.clipboard.write([new ClipboardItem({ [kind]: content })]);
     $("picture-told").textContent = `${words} is in the clipboard.`;
   } catch (error) {
-    const why = `The browser doesn't let the page copy (${error.message})`;
+    const is_plain = !navigator.clipboard, what = is_plain ? "it does so by https alone" : error.message;
+    const why = `The browser doesn't let the page copy (${what})`;
     $("picture-told").textContent = `${why}: save the picture as a file in its place.`;
+  }
+}
+
+/** Saves a picture as a PNG; if the browser makes none, that is said. */
+async function save_png(picture) {
+  try {
+    save(`${picture.name}.png`, await as_png(picture));
+  } catch (error) {
+    $("picture-told").textContent = `It isn't saved: ${error.message}. Save SVG does without.`;
   }
 }
 
@@ -256,7 +266,7 @@ export function show_picture(name) {
     element("h2", {}, "Copy picture"), element("img", { id: "picture", alt: picture.words, src: address }),
     element(
       "p", { class: "bar" }, first, button("copy-svg", "Copy as SVG", () => copy("text/plain", text(), "The SVG text")),
-      button("save-png", "Save PNG", async () => save(`${picture.name}.png`, await as_png(picture))),
+      button("save-png", "Save PNG", () => save_png(picture)),
       button("save-svg", "Save SVG", () => save(`${picture.name}.svg`, svg))
     ),
     element("p", { id: "picture-told", role: "status" }, "It has the colours of the theme: ◐ turns light and dark.")

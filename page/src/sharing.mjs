@@ -5,6 +5,8 @@ import { ENDING_WORDS, RECORD_BEGINNING, record_in, record_text } from "../../an
 import { beginning_of, spans_of } from "../../anywhere/machine/events.mjs";
 import { bytes_of_file, packed_file, touch, unpacked_file } from "./works.mjs";
 import { problem } from "./messages.mjs";
+import { sha256 } from "./sha256.mjs";
+import { copied_words, copy_field } from "./clipboard.mjs";
 import { MOST_EVENTS, Refusal, SLIDES_BEGINNING, keys_of, shared_of, unpacked_value } from "./outside.mjs";
 import { arrive, follow_place, is_booted, is_slide, read_link, seen_now, short_place } from "./place_links.mjs";
 import { event_words } from "./time.mjs";
@@ -129,7 +131,7 @@ const of_packed = (text) => `${page_address()}#run=${text}`;
 export const link = async () => of_packed(await packed(shared()));
 
 /** A name for the work of what is shared: the same for the same. */
-const name_of = async (text) => `link ${(await sum_of(new TextEncoder().encode(text.trim()))).slice(0, 6)}`;
+const name_of = async (text) => `link ${(await sha256(new TextEncoder().encode(text.trim()))).slice(0, 6)}`;
 
 /**
  * The files of a work that are those of what was shared; it throws if the page hasn't a program of its own that is
@@ -279,13 +281,14 @@ async function share() {
   const text = element("textarea", { readonly: true, "aria-label": "Link" }), it = shared(), of_it = await packed(it);
   const links = links_of(of_it);
   const choice = element(
-    "select", { id: "share-what", onchange: () => { text.value = links[choice.value][1]; text.select(); } },
+    "select", { id: "share-what", onchange: () => { text.value = links[choice.value][1]; text.select(); told.textContent = ""; } },
     ...links.map(([words], k) => element("option", { value: k }, words))
   );
   text.value = links[0][1];
-  const copy = element(
-    "button", { class: "main", onclick: () => { text.select(); navigator.clipboard?.writeText(text.value); } }, "Copy"
-  );
+  const told = element("span", { id: "share-told", role: "status" });
+  const copy = element("button", {
+    class: "main", onclick: async () => { told.textContent = ` ${copied_words(await copy_field(text))}`; },
+  }, "Copy");
   const file = element(
     "button", { id: "save-shared", onclick: () => programs.save("nektavoly-run.txt", BEGINNING + of_it + "\n") },
     "Save the same as a file"
@@ -295,7 +298,7 @@ async function share() {
   );
   body.replaceChildren(element("h2", {}, "Share"), ...share_words(text.value.length, it.run).map(
     (words) => element("p", {}, words)
-  ), element("p", {}, element("label", {}, "a link to ", choice)), text, element("p", {}, copy, " ", file, " ", record),
+  ), element("p", {}, element("label", {}, "a link to ", choice)), text, element("p", {}, copy, " ", file, " ", record, told),
     element(
       "p", {},
       "The record has each event of the run, and the sums of its programs, and no program: the terminal plays it too. Drop it on the page, or choose it by Open file.., to have the run again."
@@ -307,15 +310,9 @@ async function share() {
 
 // ---- records: the text of a run that the terminal plays too
 
-async function sum_of(bytes) {
-  return [
-    ...new Uint8Array(await crypto.subtle.digest("SHA-256", bytes)),
-  ].map((it) => it.toString(16).padStart(2, "0")).join("");
-}
-
 /** The text of a record of what the worker has told. */
 async function recorded({ config, files, spans }) {
-  const told = async ({ name, bytes }) => ({ name, size: bytes.length, sum: await sum_of(bytes) });
+  const told = async ({ name, bytes }) => ({ name, size: bytes.length, sum: await sha256(bytes) });
   return record_text({ frames: config.frames, programs: await Promise.all(files.map(told)), spans });
 }
 
@@ -343,7 +340,7 @@ async function files_by_sum() {
   ));
   for (const file of [...built_in, ...app.files]) {
     const made = await programs.made_of(file);
-    if (!made.mistake) found.set(await sum_of(made.bytes), made);
+    if (!made.mistake) found.set(await sha256(made.bytes), made);
   }
   return found;
 }

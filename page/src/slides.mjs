@@ -29,7 +29,11 @@ export function take_slides(words, what) {
     return false;
   }
   here = -1;
-  try { sessionStorage.setItem(KEPT, words); } catch { /* a reload has the course's again */ }
+  try {
+    sessionStorage.setItem(KEPT, words);
+  } catch {
+    problem(`${what} are shown, and a reload forgets them: the browser has no room for them.`);
+  }
   return true;
 }
 

@@ -95,7 +95,8 @@ async function draw() {
   const runs = await listed_runs(), heads = HEADS.map((it) => element("th", { scope: "col" }, it));
   const [head, rows] = [element("thead", {}, element("tr", {}, ...heads)), element("tbody", {}, ...runs.map(row))];
   const state = element("p", { class: kept_state().is_kept ? "dim" : "bad", role: "status" }, state_words());
-  const list = runs.length ? element("table", { id: "runs" }, head, rows) : element("p", {}, "No run is kept.");
+  const none = kept_state().is_kept ? "No run is kept." : "No run can be read here.";
+  const list = runs.length ? element("table", { id: "runs" }, head, rows) : element("p", {}, none);
   const open_record = () => { $("dialog").close(); $("open-file").click(); };
   const other = element("button", { onclick: open_record }, "Open a record..");
   body().replaceChildren(element("h2", {}, "Your runs"), state, list, element("p", {}, other));
