@@ -395,12 +395,18 @@ export async function take_run({ id, when, aside }) {
   }
 }
 
-/** Changes something of a run, as its name. */
-export function change_run(id, changes) {
-  return of_runs("readwrite", async (store) => {
-    const there = await answer_of(store.get(id));
-    if (there) await answer_of(store.put({ ...there, ...changes }));
-  }).catch(not_changed);
+/** Changes something of a run, as its name. Tells whether the run is there, and changed. */
+export async function change_run(id, changes) {
+  try {
+    return await of_runs("readwrite", async (store) => {
+      const there = await answer_of(store.get(id));
+      if (there) await answer_of(store.put({ ...there, ...changes }));
+      return there !== undefined;
+    });
+  } catch (error) {
+    not_changed(error);
+    return false;
+  }
 }
 
 // ---- the beginning

@@ -266,7 +266,10 @@ export async function open_run(record) {
   return false;
 }
 
-/** A run that has a name is kept as one in which something was typed: no other takes its place. */
+/**
+ * A run that has a name is kept as one in which something was typed: no other takes its place. Tells whether it has the
+ * name now.
+ */
 export function name_run(record, name) {
   if (is_current(record)) current.is_own = true;
   return change_run(record.id, { name, is_own: true });

@@ -10,6 +10,7 @@ import { problem } from "./messages.mjs";
 import { save } from "./programs.mjs";
 import { is_current, listed_runs, name_run, open_run, take_run_away } from "./session.mjs";
 
+const MOST_NAME = 80; // letters
 const in_words = new Intl.DateTimeFormat("en", { dateStyle: "medium", timeStyle: "short" });
 const name_of = ({ name, title, work }) => name || title || work;
 
@@ -20,9 +21,10 @@ const button = (words, run, action) => element("button", {
   "aria-label": `${words} ${name_of(run)}`, onclick: async () => { await action(); await draw(); },
 }, words);
 
-function ask_name(run) {
+async function ask_name(run) {
   const name = prompt("Name of this run", name_of(run))?.trim();
-  return name === undefined ? null : name_run(run, name.slice(0, 80));
+  if (name === undefined || (await name_run(run, name.slice(0, MOST_NAME)))) return;
+  problem(`The run ${name_of(run)} has got no name: another tab has taken it away, or the browser hasn't kept it yet.`);
 }
 
 function ask_away(run) {

@@ -86,12 +86,27 @@ async function save(page) {
   holds(Math.abs(again[0] - end) < 5000 && again[1] === shown, `and it is played again: ${again[0]} events, ${again[1]} bytes`);
 }
 
+/** A run that is gone meanwhile, as another tab has taken it away: that it can't be named is said. */
+async function gone(page) {
+  const name = "document.querySelector('#runs tbody tr:last-child button[aria-label^=Name]').click()";
+  await page.eval("document.getElementById('dialog').close(); document.getElementById('your-runs').click()");
+  await comes(page, "document.querySelectorAll('#runs tbody tr').length > 1");
+  await page.eval("window.prompt = () => 'a name of mine'; 0");
+  await page.eval(name);
+  holds(await comes(page, "document.getElementById('runs').textContent.includes('a name of mine')"), "a run is named");
+  await stored(page, "store.clear()", "readwrite");
+  await page.eval(name);
+  holds(await comes(page, "page.problems().some((it) => it.includes('has got no name'))"), "a run that is gone can't be named, which is said");
+  await page.eval("document.getElementById('dialog').close()");
+}
+
 const page = await open(url, { width: 1300, height: 900 });
 try {
   await prompts(page);
   await releases(page);
   await list(page, "1300");
   await save(page);
+  await gone(page);
 } catch (error) {
   holds(false, error.stack);
   await page.picture(`${folder}/runs-error.png`);
