@@ -36,7 +36,7 @@ export const ENDING_WORDS = {
 const NO_RECORD = "not a record", CUT_SHORT = "cut short: it has no end";
 const OTHER_FORM = "it was written otherwise than a record is";
 const MOST_FRAMES_TOLD = 2n ** 32n - 1n, MOST_COUNT = 2n ** 64n - 1n;
-const MOST_DIGITS = String(MOST_COUNT).length;
+const MOST_DIGITS = String(MOST_COUNT).length, SMALL = /^[1-9]\d{0,14}$/; // SMALL: of a number that is exact as it is
 const FRAMES_LINE = 2; // of the head, counted from 1; the programs follow
 
 const refuse = (words) => { throw new Error(words); };
@@ -49,12 +49,15 @@ function split_once(text, part) {
 
 /** The lines of a text. A line break may have a return before it, and the last line may lack one. */
 function lines_of(text) {
-  const lines = text.split("\n"), last = lines.pop(), whole = lines.map((it) => it.replace(/\r$/, ""));
-  return last ? [...whole, last] : whole;
+  const lines = text.split("\n"), last = lines.pop();
+  const whole = text.includes("\r") ? lines.map((it) => it.replace(/\r$/, "")) : lines;
+  if (last) whole.push(last);
+  return whole;
 }
 
 /** The decimal digits of a number, as a record has them; null if the word is none, or one of more than `most`. */
 function digits_of(word, most) {
+  if (SMALL.test(word)) return Number(word) <= most ? word : null;
   if (!/^\+?\d+$/.test(word)) return null;
   const digits = word.replace(/^\+?0*(?=\d)/, "");
   return digits.length <= MOST_DIGITS && BigInt(digits) <= most ? digits : null;
