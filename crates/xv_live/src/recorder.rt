@@ -16,7 +16,7 @@ pub struct Recorder<F> {
 }
 
 impl<F: RecordFile> Recorder<F> {
-    ghost use Rattle.std.specs.Prelude.{◌≡◌, ◌++◌, List, None, Some, Err, IfErr, IsSome};
+    ghost use Rattle.std.specs.Prelude.{◌≡◌, ◌++◌, List, None, Some, Err, IfErr, IsSome, OnErr, OnOk};
     ghost use Rattle.std.specs.String.{string_bytes};
     ghost use Rattle.kernel_spec.specs.runs.Run.{Event};
     ghost use Rattle.xv_live.specs.Keeps.{GoesOn, HasHead, IsKept};
@@ -54,6 +54,8 @@ impl<F: RecordFile> Recorder<F> {
         ensures kept { IsKept F.held self.new session.now.events }
         ensures head { HasHead self.new (string_bytes head) }
         ensures still { self.new.failure ≡ None → IsSome self.new.recording }
+        ensures well { OnOk result ((self.new.failure ≡ self.old.failure) × IsSome self.new.recording) }
+        ensures off { OnErr result (self.new.recording ≡ None) }
         ensures told { IfErr result (λ why. self.new.failure ≡ Some why) }
     {
         let mut recording = Recording::new(file, head);
@@ -76,6 +78,8 @@ impl<F: RecordFile> Recorder<F> {
     pub fn keep(&mut self, session: &Session) -> Result<(), GrowError>
         ensures kept { (before more : List Event) → session.now.events ≡ before ++ more → IsKept F.held self.old before → IsKept F.held self.new session.now.events }
         ensures goes_on { GoesOn self.old self.new }
+        ensures well { OnOk result (self.new.failure ≡ self.old.failure) }
+        ensures off { OnErr result (self.new.recording ≡ None) }
         ensures told { IfErr result (λ why. self.new.failure ≡ Some why) }
     {
         let Some(mut kept) = self.recording.take() else {
@@ -99,6 +103,8 @@ impl<F: RecordFile> Recorder<F> {
     pub fn keep_anew(&mut self, session: &Session) -> Result<(), GrowError>
         ensures kept { IsKept F.held self.new session.now.events }
         ensures goes_on { GoesOn self.old self.new }
+        ensures well { OnOk result (self.new.failure ≡ self.old.failure) }
+        ensures off { OnErr result (self.new.recording ≡ None) }
         ensures told { IfErr result (λ why. self.new.failure ≡ Some why) }
     {
         let Some(mut whole) = self.recording.take() else {

@@ -17,7 +17,7 @@ pub struct FaultNote {
     pub program: Option<usize>,
 }
 
-/// Who is told what isn't the machine's own.
+/// Who is told what isn't the machine's own. No contract says what is made of it: how it is told is tested.
 pub trait Teller {
     /// The screen shows these bytes of the machine.
     fn follow(&mut self, bytes: &[u8]);
