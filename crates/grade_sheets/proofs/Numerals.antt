@@ -19,12 +19,12 @@ digits-all (c ∷ digits) all =
     let parts = and_parts (is_digit c 10) (list_all (λ d. is_digit d 10) digits) all in
     (ltb-true (digit_value c) 10 parts.0, digits-all digits parts.1)
 
-numeral-is : (digits : List ℕ) → is_numeral digits ≡ true → IsNumeral 10 digits
+pub numeral-is : (digits : List ℕ) → is_numeral digits ≡ true → IsNumeral 10 digits
 numeral-is digits is =
     let parts = and_parts (nat_lt 0 (length digits)) (list_all (λ d. is_digit d 10) digits) is in
     (ltb-true 0 (length digits) parts.0, digits-all digits parts.1)
 
-is-numeral : (digits : List ℕ) → IsNumeral 10 digits → is_numeral digits ≡ true
+pub is-numeral : (digits : List ℕ) → IsNumeral 10 digits → is_numeral digits ≡ true
 is-numeral digits numeral =
     and_from (nat_lt 0 (length digits)) (list_all (λ d. is_digit d 10) digits) (lt-ltb 0 (length digits) numeral.0) (all-digits digits numeral.1)
 

@@ -7,3 +7,4 @@ pub mod Grades
 pub mod Points
 pub mod Standings
 pub mod Records
+pub mod Notation

@@ -1,4 +1,7 @@
 //! What is asked of a run: the rules of an exercise, read.
+ghost use Rattle.std.specs.Prelude.{◌≡◌, IfOk, Some};
+ghost use Rattle.grade_sheets.specs.Notation as meant;
+
 use crate::keys::{Keys, natural};
 use crate::notation::pattern;
 use crate::refusal::{SheetError, refused, told};
@@ -190,8 +193,10 @@ pub struct Asked {
 }
 
 // The pattern of a text.
-fn pattern_of(alloc: Global, text: &str) -> Result<Pattern, SheetError> {
-    match pattern(text) {
+fn pattern_of(alloc: Global, text: &str) -> Result<Pattern, SheetError>
+    ensures { IfOk result (λ found. meant.pattern_of text.now ≡ Some found) }
+{
+    match pattern(alloc, text)? {
         Some(pattern) => Ok(pattern),
         None => Err(told(format!(in alloc; "\"{text}\" is no pattern of a note"))),
     }

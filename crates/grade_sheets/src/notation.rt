@@ -1,8 +1,17 @@
 //! Patterns as text: a line of a trace, with `*`, `!1`, `>=2`, `3..9` or `13|15` in place of a number, and what a call was
 //! given: `call 1 read 0 given read-end * >0`.
+ghost use Rattle.std.specs.Prelude.{◌≡◌, ◌<◌, ◌+◌, codes, slice_get, IfOk, IfNone, IfSome, true, false, map, drop, option_map};
+ghost use Rattle.std.specs.List.{list_any, position};
+ghost use Rattle.std.specs.Char.{is_ascii_alphabetic};
+ghost use Rattle.grade_sheets.specs.Notation as meant;
+
 use grade_rules::{Asking, Note, Numbers, Pattern, Thing, Things};
 use kernel_calls::KernelCall;
+use std::alloc::{AllocError, Global};
 use std::fmt;
+
+/// The most words behind `given`.
+const WORDS_GIVEN: usize = 4;
 
 // The name of the kernel call of a number, if it is one's.
 fn call_name(number: i32) -> Option<&'static str> {
@@ -10,38 +19,57 @@ fn call_name(number: i32) -> Option<&'static str> {
     Some(call.name())
 }
 
-// The number of a kernel call, by its name or its number.
-fn call_number(word: &str) -> Option<i64> {
+// What stands behind a mark, which is a character of ASCII, if a word begins with it.
+fn behind_mark(word: &str, mark: char) -> Option<&str>
+    requires { mark < 128 }
+    ensures found { IfSome result (λ rest. (meant.begins_with mark word.now ≡ true) × (rest.now ≡ drop 1 word.now)) }
+    ensures none { IfNone result (meant.begins_with mark word.now ≡ false) }
+{
+    word.strip_prefix(mark)
+}
+
+// What stands before the first of such marks in a word, and behind it, if there is one.
+fn around_mark(word: &str, mark: char) -> Option<(&str, &str)>
+    requires { mark < 128 }
+    ensures found { IfSome result (λ parts. (meant.has_mark mark word.now ≡ true) × (parts.0.now ≡ meant.before_mark mark word.now) × (parts.1.now ≡ meant.after_mark mark word.now)) }
+    ensures none { IfNone result (meant.has_mark mark word.now ≡ false) }
+{
+    word.split_once(mark)
+}
+
+// The number that a word is.
+fn integer(word: &str) -> Option<i64>
+    ensures { result ≡ meant.integer_of word.now }
+{
+    match word.parse::<i64>() {
+        Ok(number) => Some(number),
+        Err(_) => None,
+    }
+}
+
+// The number that a word is, or that of the kernel call whose name it is.
+fn number_named(word: &str) -> Option<i64>
+    ensures { result ≡ meant.number_named word.now }
+{
     match KernelCall::of_name(word) {
         Some(call) => Some(i64::from(call.number())),
-        None => word.parse().ok(),
+        None => integer(word),
     }
 }
 
 // From a number to another, both with them.
-fn within(least: i64, most: i64) -> Numbers {
+fn within(least: i64, most: i64) -> Numbers
+    ensures { result ≡ Numbers.Within least most }
+{
     Numbers::Within { least, most }
 }
 
-// The numbers of a word that begins with a sign of order.
-fn ordered(word: &str) -> Option<Numbers> {
-    if let Some(least) = word.strip_prefix(">=") {
-        return Some(within(least.parse().ok()?, i64::MAX));
-    }
-    if let Some(most) = word.strip_prefix("<=") {
-        return Some(within(i64::MIN, most.parse().ok()?));
-    }
-    if let Some(below) = word.strip_prefix(">") {
-        let below: i64 = below.parse().ok()?;
-        return Some(within(below.checked_add(1)?, i64::MAX));
-    }
-    let above: i64 = word.strip_prefix("<")?.parse().ok()?;
-    Some(within(i64::MIN, above.checked_sub(1)?))
-}
-
-// The numbers from one to another, both words: there is one at least.
-fn interval(least: &str, most: &str) -> Option<Numbers> {
-    let (least, most): (i64, i64) = (least.parse().ok()?, most.parse().ok()?);
+// The numbers from one to another, both words; `rest` is what stands behind the first dot.
+fn interval(least: &str, rest: &str) -> Option<Numbers>
+    ensures { result ≡ meant.interval_of least.now rest.now }
+{
+    let most = integer(behind_mark(rest, '.')?)?;
+    let least = integer(least)?;
     if least <= most {
         Some(within(least, most))
     } else {
@@ -50,33 +78,101 @@ fn interval(least: &str, most: &str) -> Option<Numbers> {
 }
 
 // The numbers of two words that each stand for one.
-fn either(one: &str, other: &str) -> Option<Numbers> {
-    Some(Numbers::Either(call_number(one)?, call_number(other)?))
+fn either(one: &str, other: &str) -> Option<Numbers>
+    ensures { result ≡ meant.either_if (meant.number_named one.now) (meant.number_named other.now) }
+{
+    Some(Numbers::Either(number_named(one)?, number_named(other)?))
 }
 
-// The numbers that a word stands for.
-fn numbers(word: &str) -> Option<Numbers> {
-    if word == "*" {
-        return Some(Numbers::Any);
+// The numbers above the one that a word is.
+fn above(word: &str) -> Option<Numbers>
+    ensures { result ≡ meant.above_if (meant.integer_of word.now) }
+{
+    let below = integer(word)?;
+    if below < i64::MAX {
+        Some(within(below + 1, i64::MAX))
+    } else {
+        None
     }
-    if let Some(other) = word.strip_prefix("!") {
-        return Some(Numbers::Not(call_number(other)?));
+}
+
+// The numbers below the one that a word is.
+fn below(word: &str) -> Option<Numbers>
+    ensures { result ≡ meant.below_if (meant.integer_of word.now) }
+{
+    let above = integer(word)?;
+    if i64::MIN < above {
+        Some(within(i64::MIN, above - 1))
+    } else {
+        None
     }
-    if let Some((least, most)) = word.split_once("..") {
-        return interval(least, most);
+}
+
+// The numbers that lie so, by what stands behind `>`.
+fn greater(bound: &str) -> Option<Numbers>
+    ensures { result ≡ meant.greater_of bound.now }
+{
+    match behind_mark(bound, '=') {
+        Some(least) => Some(within(integer(least)?, i64::MAX)),
+        None => above(bound),
     }
-    if let Some((one, other)) = word.split_once("|") {
-        return either(one, other);
+}
+
+// The numbers that lie so, by what stands behind `<`.
+fn less(bound: &str) -> Option<Numbers>
+    ensures { result ≡ meant.less_of bound.now }
+{
+    match behind_mark(bound, '=') {
+        Some(most) => Some(within(i64::MIN, integer(most)?)),
+        None => below(bound),
     }
-    if word.starts_with(">") || word.starts_with("<") {
-        return ordered(word);
-    }
-    let number = call_number(word)?;
+}
+
+// Each number but that of a word.
+fn all_but(word: &str) -> Option<Numbers>
+    ensures { result ≡ meant.not_if (meant.number_named word.now) }
+{
+    Some(Numbers::Not(number_named(word)?))
+}
+
+// The number of a word alone.
+fn only(word: &str) -> Option<Numbers>
+    ensures { result ≡ meant.only_if (meant.number_named word.now) }
+{
+    let number = number_named(word)?;
     Some(within(number, number))
 }
 
+// The numbers that a word stands for.
+#[tactic(auto, unfolding(crate::specs::Notation::numbers_of))]
+fn numbers(word: &str) -> Option<Numbers>
+    ensures { result ≡ meant.numbers_of word.now }
+{
+    if word == "*" {
+        return Some(Numbers::Any);
+    }
+    if let Some(other) = behind_mark(word, '!') {
+        return all_but(other);
+    }
+    if let Some((least, rest)) = around_mark(word, '.') {
+        return interval(least, rest);
+    }
+    if let Some((one, other)) = around_mark(word, '|') {
+        return either(one, other);
+    }
+    if let Some(bound) = behind_mark(word, '>') {
+        return greater(bound);
+    }
+    if let Some(bound) = behind_mark(word, '<') {
+        return less(bound);
+    }
+    only(word)
+}
+
 // The thing of a word.
-fn thing(word: &str) -> Option<Thing> {
+fn thing(word: &str) -> Option<Thing>
+    ensures { result ≡ meant.thing_of word.now }
+{
     match word {
         "nothing" => Some(Thing::Nothing),
         "console" => Some(Thing::Console),
@@ -88,104 +184,167 @@ fn thing(word: &str) -> Option<Thing> {
 }
 
 // The things that a word stands for.
-fn things(word: &str) -> Option<Things> {
-    match word.strip_prefix("!") {
+fn things(word: &str) -> Option<Things>
+    ensures { result ≡ meant.things_of word.now }
+{
+    match behind_mark(word, '!') {
         Some(other) => Some(Things::Not(thing(other)?)),
         None => Some(Things::Only(thing(word)?)),
     }
 }
 
 // Whether a byte is a letter.
-fn is_letter(byte: &u8) -> bool {
+fn is_letter(byte: u8) -> bool
+    ensures { result ≡ is_ascii_alphabetic byte }
+{
     byte.is_ascii_alphabetic()
 }
 
+// Whether a word has a letter.
+fn has_letter(word: &str) -> bool
+    ensures { result ≡ list_any is_ascii_alphabetic word.now }
+{
+    word.as_bytes().iter().any(|byte| is_letter(*byte))
+}
+
 // The numbers that a word without letters stands for: an argument is no kernel call.
-fn numbers_alone(word: &str) -> Option<Numbers> {
-    if word.as_bytes().iter().any(is_letter) {
+fn argument(word: &str) -> Option<Numbers>
+    ensures { result ≡ meant.argument_of word.now }
+{
+    if has_letter(word) {
         return None;
     }
     numbers(word)
 }
 
-// The numbers of a word that may be left out: then each.
-fn numbers_if_any(word: Option<&str>) -> Option<Numbers> {
-    match word {
-        Some(word) => numbers_alone(word),
+// The numbers of an argument that may be left out: then each.
+fn argument_if_any(words: &[&str], place: usize) -> Option<Numbers>
+    ensures { result ≡ meant.argument_if (slice_get (map (λ word. word.now) words.now) place) }
+{
+    match words.get(place) {
+        Some(word) => argument(word),
         None => Some(Numbers::Any),
     }
 }
 
-// What a call has to be given, by the words behind `given`: its arguments, and the first byte of a write. In place of the
-// first may stand what it names.
-fn asking(text: &str) -> Option<Asking> {
-    let mut words = text.split(' ');
-    let word = words.next()?;
-    let (first, on) = match things(word) {
-        Some(on) => (Numbers::Any, on),
-        None => (numbers_alone(word)?, Things::Any),
-    };
-    let asking = Asking {
-        first,
-        second: numbers_if_any(words.next())?,
-        third: numbers_if_any(words.next())?,
-        byte: numbers_if_any(words.next())?,
-        on,
-    };
-    match words.next() {
-        None => Some(asking),
-        Some(_) => None,
+/// What the first argument of a call has to be.
+#[derive(Clone, Copy)]
+struct First {
+    numbers: Numbers,
+    /// What the descriptor has to name that it is.
+    on: Things,
+}
+
+// What the first argument has to be, by its word: things, or numbers.
+fn first_of(word: &str) -> Option<First>
+    ensures { result ≡ meant.first_of (Some word.now) }
+{
+    if let Some(on) = things(word) {
+        return Some(First {
+            numbers: Numbers::Any,
+            on,
+        });
+    }
+    Some(First {
+        numbers: argument(word)?,
+        on: Things::Any,
+    })
+}
+
+// What the first of these words stands for as an argument.
+fn first_argument(words: &[&str]) -> Option<First>
+    ensures { result ≡ meant.first_of (slice_get (map (λ word. word.now) words.now) 0) }
+{
+    match words.get(0) {
+        Some(word) => first_of(word),
+        None => None,
     }
 }
 
-// The pattern of a line of two words or of three, behind its kind.
-fn pattern_of_two(kind: &str, first: Numbers, second: Numbers) -> Option<Pattern> {
+// What a call has to be given, by the words behind `given`: its arguments, and the first byte of a write.
+fn asking(words: &[&str]) -> Option<Asking>
+    ensures { result ≡ meant.asking_of (map (λ word. word.now) words.now) }
+{
+    if words.len() > WORDS_GIVEN {
+        return None;
+    }
+    let first = first_argument(words)?;
+    Some(Asking {
+        first: first.numbers,
+        second: argument_if_any(words, 1)?,
+        third: argument_if_any(words, 2)?,
+        byte: argument_if_any(words, 3)?,
+        on: first.on,
+    })
+}
+
+// The pattern of a line of a kind and one number.
+fn pattern_of_one(kind: &str, who: Numbers) -> Option<Pattern>
+    ensures { result ≡ meant.pattern_of_one kind.now who }
+{
+    if kind == "turn" {
+        Some(Pattern::Turn { pid: who })
+    } else {
+        None
+    }
+}
+
+// The pattern of a line of a kind and two numbers.
+fn pattern_of_two(kind: &str, who: Numbers, what: Numbers) -> Option<Pattern>
+    ensures { result ≡ meant.pattern_of_two kind.now who what }
+{
     match kind {
         "block" => Some(Pattern::Blocked {
-            pid: first,
-            number: second,
+            pid: who,
+            number: what,
             given: Asking::ANYTHING,
         }),
         "exit" => Some(Pattern::Exited {
-            pid: first,
-            status: second,
+            pid: who,
+            status: what,
         }),
         "fault" => Some(Pattern::Faulted {
-            pid: first,
-            cause: second,
+            pid: who,
+            cause: what,
         }),
         _ => None,
     }
 }
 
-// The pattern of a line, whatever a call was given.
-fn pattern_of_line(line: &str) -> Option<Pattern> {
-    let mut words = line.split(' ');
-    let kind = words.next()?;
-    let first = numbers(words.next()?)?;
-    let Some(second) = words.next() else {
-        return match kind {
-            "turn" => Some(Pattern::Turn { pid: first }),
-            _ => None,
-        };
-    };
-    let second = numbers(second)?;
-    let Some(third) = words.next() else {
-        return pattern_of_two(kind, first, second);
-    };
-    if kind != "call" || words.next().is_some() {
-        return None;
+// The pattern of a line of a kind and three numbers.
+fn pattern_of_three(kind: &str, who: Numbers, call: Numbers, answers: Numbers) -> Option<Pattern>
+    ensures { result ≡ meant.pattern_of_three kind.now who call answers }
+{
+    if kind == "call" {
+        Some(Pattern::Called {
+            pid: who,
+            number: call,
+            answer: answers,
+            given: Asking::ANYTHING,
+        })
+    } else {
+        None
     }
-    Some(Pattern::Called {
-        pid: first,
-        number: second,
-        answer: numbers(third)?,
-        given: Asking::ANYTHING,
-    })
+}
+
+// The pattern of a line, whatever a call was given.
+fn pattern_of_line(words: &[&str]) -> Option<Pattern>
+    ensures { result ≡ meant.pattern_of_line (map (λ word. word.now) words.now) }
+{
+    match words {
+        [kind, who] => pattern_of_one(kind, numbers(who)?),
+        [kind, who, what] => pattern_of_two(kind, numbers(who)?, numbers(what)?),
+        [kind, who, call, answers] => {
+            pattern_of_three(kind, numbers(who)?, numbers(call)?, numbers(answers)?)
+        }
+        _ => None,
+    }
 }
 
 // The pattern of calls that were given this, of one of any calls.
-fn with_asking(pattern: Pattern, given: Asking) -> Option<Pattern> {
+fn with_asking(pattern: Pattern, given: Asking) -> Option<Pattern>
+    ensures { result ≡ meant.with_asking pattern given }
+{
     match pattern {
         Pattern::Called {
             pid,
@@ -203,6 +362,44 @@ fn with_asking(pattern: Pattern, given: Asking) -> Option<Pattern> {
     }
 }
 
+// The pattern of a line, and of what its call has to be given.
+fn pattern_of_both(line: &[&str], given: &[&str]) -> Option<Pattern>
+    ensures { result ≡ meant.with_both (meant.pattern_of_line (map (λ word. word.now) line.now)) (meant.asking_of (map (λ word. word.now) given.now)) }
+{
+    with_asking(pattern_of_line(line)?, asking(given)?)
+}
+
+// Whether a word is `given`.
+fn is_given(word: &str) -> bool
+    ensures { result ≡ meant.is_word (codes "given") word.now }
+{
+    word == "given"
+}
+
+// The place of the first word `given`, if there is one.
+fn place_of_given(words: &[&str]) -> Option<usize>
+    ensures { result ≡ position (λ word. meant.is_word (codes "given") word.now) words.now }
+{
+    words.iter().position(|word| is_given(word))
+}
+
+// The pattern of words.
+fn pattern_of_words(words: &[&str]) -> Option<Pattern>
+    ensures { result ≡ meant.pattern_of_words (map (λ word. word.now) words.now) }
+{
+    match place_of_given(words) {
+        Some(place) => pattern_of_both(&words[..place], &words[place + 1..]),
+        None => pattern_of_line(words),
+    }
+}
+
+// The words of a text.
+fn words_of(alloc: Global, text: &str) -> Result<Vec<&str>, AllocError>
+    ensures { IfOk result (λ words. map (λ word. word.now) words.items ≡ meant.words text.now) }
+{
+    text.split(' ').collect(alloc)
+}
+
 /// The pattern that a text stands for: the words of a line of a trace, of the kinds `turn`, `call`, `block`, `exit` and
 /// `fault`, with a blank between them. In place of a number may stand `*` for each, `!N` for each but N, `>N`, `>=N`,
 /// `<N`, `<=N`, `N..M` for those from N to M, `N|M` for one of the two, and the name of a kernel call for its number.
@@ -210,11 +407,15 @@ fn with_asking(pattern: Pattern, given: Asking) -> Option<Pattern> {
 /// Behind a `call` or a `block` may stand `given`, and what the call has to be given: its three arguments, and the first
 /// byte of a write; those at the end may be left out. In place of the first may stand what that descriptor names: `nothing`,
 /// `console`, `file`, `read-end` or `write-end`, or `!` and one of them for all else. `None` for any other text.
-pub fn pattern(text: &str) -> Option<Pattern> {
-    match text.split_once(" given ") {
-        Some((line, given)) => with_asking(pattern_of_line(line)?, asking(given)?),
-        None => pattern_of_line(text),
-    }
+///
+/// # Errors
+///
+/// [`AllocError`] if the host has too little memory.
+pub fn pattern(alloc: Global, text: &str) -> Result<Option<Pattern>, AllocError>
+    ensures told { IfOk result (λ found. found ≡ meant.pattern_of text.now) }
+{
+    let words = words_of(alloc, text)?;
+    Ok(pattern_of_words(words.as_slice()))
 }
 
 // The name of the kernel call of a note, if it is one's.
