@@ -1,11 +1,12 @@
 //! The events of a record, each found by its place.
-ghost use Rattle.std.specs.Prelude.{◌≡◌, ℕ, ◌+◌, ◌++◌, ◌≤◌, ◌<◌, length, replicate, OnOk, IfOk, IfErr};
+ghost use Rattle.std.specs.Prelude.{◌≡◌, ℕ, ◌+◌, ◌++◌, ◌≤◌, ◌<◌, length, OnOk, IfOk, IfErr};
 ghost use Rattle.gdb_target.specs.Recording.{IsRefused, IsUnfit};
 ghost use Rattle.gdb_target.specs.Rounds.{event_among};
 ghost use Rattle.xv_live.specs.Plays.{events_of_line, events_of_lines};
 ghost use Rattle.xv_machine.specs.Events.{event_of};
 
 use crate::rounds::Next;
+use recorded_runs::parts_of;
 use std::alloc::Global;
 use std::marker::Model;
 use thiserror::Error;
@@ -29,18 +30,6 @@ struct Stretch {
     event: Event,
     /// The place after the last of them. They begin at the end of the stretch before.
     end: u64,
-}
-
-/// The event of a line, and how many there are of it.
-fn parts_of(line: &Line) -> (Event, u64)
-    ensures { events_of_line line.now ≡ replicate result.1 (event_of result.0) }
-{
-    match line {
-        Line::Run(count) => (Event::Run, *count),
-        Line::Tick(count) => (Event::Tick, *count),
-        Line::Send(count) => (Event::Send, *count),
-        Line::Key(byte) => (Event::Key(*byte), 1),
-    }
 }
 
 /// The events of a record: stretches, in their order, so that the one of a place is found by halving.

@@ -1,10 +1,12 @@
 //! The first events of a record.
-ghost use Rattle.std.specs.Prelude.{◌≡◌, ◌<◌, ◌-◌, ◌++◌, IfErr, IfOk, OnOk, length, take};
+ghost use Rattle.std.specs.Prelude.{◌≡◌, ◌<◌, ◌-◌, ◌++◌, IfErr, IfOk, OnOk, length, replicate, take};
 ghost use Rattle.xv_live.specs.Plays.{events_of_line, events_of_lines};
+ghost use Rattle.xv_machine.specs.Events.{event_of};
 ghost use Rattle.recorded_runs.specs.Cuts.{IsCutOf, IsCutRefused};
 
 use std::alloc::{AllocError, Global};
 use thiserror::Error;
+use xv_machine::Event;
 use xv_record::{Line, Record};
 
 /// Why a record isn't cut at a place.
@@ -25,14 +27,23 @@ struct FirstLines {
     left: u64,
 }
 
+/// The event that a line stands for, and how many of it.
+pub fn parts_of(line: &Line) -> (Event, u64)
+    ensures { events_of_line line.now ≡ replicate result.1 (event_of result.0) }
+{
+    match line {
+        Line::Run(count) => (Event::Run, *count),
+        Line::Tick(count) => (Event::Tick, *count),
+        Line::Send(count) => (Event::Send, *count),
+        Line::Key(byte) => (Event::Key(*byte), 1),
+    }
+}
+
 // How many events a line stands for.
 fn count_of(line: &Line) -> u64
     ensures { result ≡ length (events_of_line line.now) }
 {
-    match line {
-        Line::Run(count) | Line::Tick(count) | Line::Send(count) => *count,
-        Line::Key(_) => 1,
-    }
+    parts_of(line).1
 }
 
 // The line of the first events of a line, so many at most.

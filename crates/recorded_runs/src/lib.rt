@@ -17,7 +17,7 @@ mod reading;
 mod words;
 
 pub use counting::PLAYED_AGAIN;
-pub use cutting::{CutError, first_events};
+pub use cutting::{CutError, first_events, parts_of};
 pub use ending::{RecordEnd, close_record};
 pub use files::{RecordedFiles, recorded_files};
 pub use playing::{play_lines, play_record};
