@@ -1,5 +1,6 @@
 pub mod Below
 pub mod Coming
+pub mod Ends
 pub mod Halving
 pub mod LastPlaces
 pub mod Planned

@@ -7,7 +7,7 @@ use Rattle.xv_record.specs.declared.file.Record.{Record}
 use Rattle.gdb_packets.specs.declared.answers.StopReason.TheVariants.{Trap}
 use Rattle.gdb_target.specs.Choices.{IsAlive}
 use Rattle.gdb_target.specs.Plan.{Planned}
-use Rattle.gdb_target.specs.SameRun.{IsBeforeEnd, beginning}
+use Rattle.gdb_target.specs.SameRun.{IsBeforeEnd, beginning, ended_with}
 use Rattle.gdb_target.specs.Told.{state_of}
 use Rattle.gdb_target.specs.declared.played.Played.{Played}
 use Rattle.gdb_target.specs.declared.rounds.Rounds.{Rounds}
@@ -26,10 +26,11 @@ pub record IsBeginningOf (recorded : Record) (at : Option ℕ) (rounds : Rounds)
   pub plan : begin.plan ≡ record { recorded = events_of_lines recorded.events.items; keys = rounds.keys.items; quantum = rounds.quantum }
   pub place : IsPlaceIn (length (events_of_lines recorded.events.items)) at begin.place
 
--- The run of these frames and programs, and with this plan, has come to the place; or, if process 1 ends before it, to where that happens next
+-- The run of these frames and programs, and with this plan, has come to the place; or, if process 1 ends before it, to where that happens next. Process 1 hasn't ended
 pub record Begins (frames : ℕ) (programs : List ProgramFile) (plan : Planned) (place : ℕ) (run : Played) : Type 0 where
   pub is : beginning run ≡ record { frames = frames; trace = 0; programs = programs; plan = plan }
   pub there : (length run.session.events ≡ place) ⊎ IsBeforeEnd run
+  pub goes_on : ended_with run ≡ None
   pub within : length run.session.events ≤ place
 
 -- A target of this run, which is told to have stopped for no other reason than a trap, at a process that lives

@@ -1,5 +1,5 @@
 //! A run on its way.
-ghost use Rattle.std.specs.Prelude.{◌≡◌, ◌⊎◌, ℕ, ◌+◌, ◌≤◌, ◌<◌, None, IfOk, IfErr, IfSome, IsSome, length, max, min};
+ghost use Rattle.std.specs.Prelude.{◌≡◌, ◌⊎◌, ℕ, ◌+◌, ◌≤◌, ◌<◌, None, IfOk, IfErr, IfSome, IsSome, true, false, length, max, min};
 ghost use Rattle.xv_machine.specs.Events.{event_of, outcome_of};
 ghost use Rattle.gdb_target.specs.Plan.{planned_at};
 ghost use Rattle.gdb_target.specs.PlayedBy.{IsPlayedBy, is_run};
@@ -38,7 +38,7 @@ impl Played {
     ghost use Rattle.gdb_target.specs.Came.{Comes};
     ghost use Rattle.xv_session.specs.Stops.{is_before_stop};
     ghost use Rattle.gdb_target.specs.Rows.{RunsToStop};
-    ghost use Rattle.gdb_target.specs.SameRun.{IsBeforeEnd, beginning};
+    ghost use Rattle.gdb_target.specs.SameRun.{IsBeforeEnd, IsFollowedByEnd, beginning, ended_with};
     ghost use Rattle.gdb_target.specs.Standing.{NextIsRun};
 
     /// A run of these programs, which stands before its first event.
@@ -185,11 +185,21 @@ impl Played {
         Ok(())
     }
 
-    /// Goes back by one event, which ended process 1.
+    /// Whether process 1 has ended. At the boot it hasn't.
+    fn has_ended(&self) -> bool
+        ensures ended { result ≡ true → IsSome (ended_with self.now) }
+        ensures goes_on { result ≡ false → ended_with self.now ≡ None }
+        ensures later { result ≡ true → 0 < length self.now.session.events }
+    {
+        self.session.machine().halted().is_some()
+    }
+
+    /// Goes back by one event, after which process 1 had ended.
     fn back_one(&mut self, alloc: Global) -> Result<(), SessionError>
         requires some { 0 < length self.old.session.events }
-        requires ended { IsSome self.old.session.machine.world.turns.halted }
-        ensures before { IfOk result (λ _. IsBeforeEnd self.new) }
+        requires ended { IsSome (ended_with self.old) }
+        ensures before { IfOk result (λ _. IsFollowedByEnd self.new) }
+        ensures less { IfOk result (λ _. length self.new.session.events < length self.old.session.events) }
         ensures within { length self.new.session.events ≤ length self.old.session.events }
         ensures same { beginning self.new ≡ beginning self.old }
     {
@@ -198,25 +208,49 @@ impl Played {
         Ok(())
     }
 
+    /// If process 1 has ended, goes back to the place before the event by which it did.
+    fn back_before_end(&mut self, alloc: Global) -> Result<(), SessionError>
+        ensures there { IfOk result (λ _. (self.new.session ≡ self.old.session) ⊎ IsBeforeEnd self.new) }
+        ensures goes_on { IfOk result (λ _. ended_with self.new ≡ None) }
+        ensures within { length self.new.session.events ≤ length self.old.session.events }
+        ensures same { beginning self.new ≡ beginning self.old }
+    {
+        'ends: while self.has_ended() {
+            self.back_one(alloc)?;
+        }
+        Ok(())
+    }
+
+    /// Goes on to a place of the run, or up to the event by which process 1 ends before it.
+    fn go_on_to(&mut self, place: u64) -> Result<(), SessionError>
+        ensures there { IfOk result (λ _. (length self.new.session.events ≡ max place (length self.old.session.events)) ⊎ IsSome (ended_with self.new)) }
+        ensures within { length self.new.session.events ≤ max place (length self.old.session.events) }
+        ensures same { beginning self.new ≡ beginning self.old }
+    {
+        'events: while self.at() < place {
+            self.go_some(place)?;
+            if self.has_ended() {
+                return Ok(());
+            }
+        }
+        Ok(())
+    }
+
     /// Goes on to a place of the run; but if process 1 ends before it, then only to the place before the event by which it
-    /// ends, since behind that nobody is left to be looked at. If the machine has got as many events or more, it stays
-    /// where it is.
+    /// ends, since after that nobody is left to be looked at. If the machine has got as many events or more, it stays
+    /// where it is, unless process 1 has ended.
     ///
     /// # Errors
     ///
     /// Those of [`Session::send`], and of [`Played::back_to`]: it stands at some place of the run, from which it can go on.
     pub fn go_to(&mut self, alloc: Global, place: u64) -> Result<(), SessionError>
         ensures there { IfOk result (λ _. (length self.new.session.events ≡ max place (length self.old.session.events)) ⊎ IsBeforeEnd self.new) }
+        ensures goes_on { IfOk result (λ _. ended_with self.new ≡ None) }
         ensures within { length self.new.session.events ≤ max place (length self.old.session.events) }
         ensures same { beginning self.new ≡ beginning self.old }
     {
-        'events: while self.at() < place {
-            self.go_some(place)?;
-            if self.machine().halted().is_some() {
-                self.back_one(alloc)?;
-                return Ok(());
-            }
-        }
+        self.go_on_to(place)?;
+        self.back_before_end(alloc)?;
         Ok(())
     }
 

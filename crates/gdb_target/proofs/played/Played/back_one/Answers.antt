@@ -6,5 +6,8 @@ returns-clause-before c = record {
   after = c.args.self.now;
   same = sym c.back_to.ensures.same;
   next = omega (arith, c.in_ok-back_to.ensures.back, c.saturating_sub-place.ensures, c.at.ensures, c.requires.some);
-  ended = c.requires.ended;
+  ends = c.requires.ended;
 }
+
+pub returns-clause-less : goal.returns-clause-less
+returns-clause-less c = omega (arith, c.in_ok-back_to.ensures.back, c.saturating_sub-place.ensures, c.at.ensures, c.requires.some)
