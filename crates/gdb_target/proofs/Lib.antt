@@ -1,6 +1,7 @@
 pub mod Below
 pub mod Coming
 pub mod Ends
+pub mod Fresh
 pub mod Halving
 pub mod LastPlaces
 pub mod Planned
@@ -15,6 +16,7 @@ pub mod Shows
 pub mod Stood
 pub mod Watching
 mod WorkedBefore
+mod WorkedBeginning
 mod WorkedLetRun
 mod WorkedRecord
 mod WorkedRows

@@ -3,6 +3,7 @@ ghost use Rattle.std.specs.Prelude.{◌≡◌, ◌⊎◌, ◌+◌, ◌≤◌, �
 ghost use Rattle.kernel_spec.specs.views.State.{live};
 ghost use Rattle.xv_machine.specs.Events.{outcome_of};
 ghost use Rattle.gdb_target.specs.Before as meant;
+ghost use Rattle.gdb_target.specs.Beginning.{IsFresh};
 ghost use Rattle.gdb_target.specs.Choices.{IsAlive, StopsAt, choices};
 ghost use Rattle.gdb_target.specs.Forth.{Goes, GoesBy, IsEndOf, IsJudged, IsStepper, IsUnseen, Stands};
 ghost use Rattle.gdb_target.specs.Forth.{current_of, end_of, goes_on, halted_of, is_reached, looks_at_each, or_shows, shows, standing};
@@ -185,6 +186,10 @@ impl Target {
         ensures program { result.program ≡ program }
         ensures path { result.path ≡ path }
         ensures most { result.most ≡ most }
+        ensures reason { result.stopped.reason ≡ StopReason.Trap }
+        ensures pid { result.stopped.pid ≡ 1 }
+        ensures looked_at { result.looked_at ≡ 1 }
+        ensures fresh { IsFresh result }
     {
         let first = Pid::new(1);
         let noted = run.at();

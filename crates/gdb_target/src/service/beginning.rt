@@ -1,10 +1,11 @@
 //! What GDB begins with: a machine that has gone on to a place of its run.
-ghost use Rattle.std.specs.Prelude.{◌≡◌, [], IfOk, length, map};
+ghost use Rattle.std.specs.Prelude.{◌≡◌, ◌++◌, [], None, IfErr, IfOk, OnOk, map, option_map, slice_get, string_bytes, unwrap_or};
+ghost use Rattle.std.specs.Io.KnownBytes.{Appends};
 ghost use Rattle.kernel_spec.specs.views.State.{named_file};
+ghost use Rattle.recorded_runs.specs.Places.{paths_at, places_of};
 ghost use Rattle.xv_live.specs.Plays.{events_of_lines};
-ghost use Rattle.xv_record.specs.Told.{program_told, told_program};
-ghost use Rattle.gdb_target.specs.Beginning.{Begins, IsBeginningOf, IsPlaceIn, IsTakenUp};
-ghost use Rattle.gdb_target.specs.SameRun.{beginning};
+ghost use Rattle.gdb_target.specs.Beginning.{AreKeys, Begins, IsAtBoot, IsBeginningOf, IsBegun, IsBeyond, IsPlaceIn, IsReplayed};
+ghost use Rattle.gdb_target.specs.Beginning.{IsKnownBy, IsTakenUp, IsTargetOf, end_note, first_other, known, line_typed, note_of};
 
 use crate::plan::Plan;
 use crate::played::Played;
@@ -16,9 +17,9 @@ use crate::target::Target;
 use gdb_packets::StopReason;
 use program_files::{Failure, FileRefusal, SourcedPrograms, programs};
 use recorded_runs::{CutError, RecordedFiles, Replay, recorded_files, whole_record};
-use std::alloc::Global;
+use std::alloc::{AllocError, Global};
 use std::fs;
-use std::io::{ErrorKind, Write};
+use std::io::{self, ErrorKind, Write};
 use std::rt::Files;
 use xk_base::Program;
 use xv_record::Record;
@@ -44,42 +45,88 @@ struct Beginning {
     place: u64,
 }
 
-/// The place of the program that GDB has the symbols of: the one that was named, or else the first one behind
-/// `init`, or `init` where there is no other.
-fn chosen(programs: &[Program], name: Option<&str>) -> Option<usize> {
+/// The place of the first program that isn't `init`; 0 if there is none.
+fn first_other(programs: &[Program]) -> usize
+    ensures { result ≡ first_other programs.now }
+{
+    programs
+        .iter()
+        .position(|program| program.name.as_slice() != b"init".as_slice())
+        .unwrap_or(0)
+}
+
+/// The place of the program that GDB has the symbols of: the one that was named, or else the first one that isn't
+/// `init`, or `init` if there is no other.
+fn chosen(programs: &[Program], name: Option<&str>) -> Option<usize>
+    ensures { result ≡ known programs.now (option_map (λ n. n.now) name.entry) }
+{
     match name {
         Some(name) => programs
             .iter()
             .position(|program| program.name.as_slice() == name.as_bytes()),
-        None => match programs
-            .iter()
-            .position(|program| program.name.as_slice() != b"init".as_slice())
-        {
-            Some(place) => Some(place),
-            None => Some(0),
-        },
+        None => Some(first_other(programs)),
     }
 }
 
-/// The keys that are typed: those of a file, and then a line.
-fn keys<'a, R: Files + AllocGlobal>(
+/// The name of the program that GDB has the symbols of, if one is given.
+fn name_in(settings: &Settings) -> Option<&str>
+    ensures { option_map (λ n. n.now) result ≡ option_map string_bytes settings.now.file }
+{
+    match &settings.file {
+        Some(name) => Some(name.as_str()),
+        None => None,
+    }
+}
+
+/// A copy of the path at a place; an empty one if there is none.
+fn path_copied(alloc: Global, paths: &[String], place: usize) -> Result<String, AllocError>
+    ensures { IfOk result (λ path. string_bytes path ≡ unwrap_or (slice_get (map string_bytes paths.now) place) []) }
+{
+    match paths.get(place) {
+        Some(path) => String::from_str(alloc, path.as_str()),
+        None => Ok(String::new(alloc)),
+    }
+}
+
+/// The keys of a file.
+fn keys_in<'a, R: Files + AllocGlobal>(rt: &R, path: &'a str) -> Result<Vec<u8>, Failure<'a>> {
+    match fs::read(rt, path) {
+        Ok(keys) => Ok(keys),
+        Err(error) if error.kind() == ErrorKind::OutOfMemory => Err(Failure::OutOfMemory),
+        Err(_) => Err(Failure::File(FileRefusal::CannotBeRead(path))),
+    }
+}
+
+/// The keys that are typed first: those of a file, if one is named.
+fn first_keys<'a, R: Files + AllocGlobal>(
     rt: &R,
     settings: &'a Settings,
-) -> Result<Vec<u8>, Failure<'a>> {
-    let mut keys = match &settings.keys {
-        Some(path) => match fs::read(rt, path.as_str()) {
-            Ok(keys) => keys,
-            Err(error) if error.kind() == ErrorKind::OutOfMemory => {
-                return Err(Failure::OutOfMemory);
-            }
-            Err(_) => return Err(Failure::File(FileRefusal::CannotBeRead(path.as_str()))),
-        },
-        None => Vec::new(rt.alloc()),
-    };
-    if let Some(line) = &settings.line {
+) -> Result<Vec<u8>, Failure<'a>>
+    ensures { IfOk result (λ keys. settings.now.keys ≡ None → keys.items ≡ []) }
+{
+    match &settings.keys {
+        Some(path) => keys_in(rt, path.as_str()),
+        None => Ok(Vec::new(rt.alloc())),
+    }
+}
+
+/// Adds a line and its end, if there is one.
+fn push_line(keys: &mut Vec<u8>, line: &Option<String>) -> Result<(), AllocError>
+    ensures { OnOk result (keys.new.items ≡ keys.old.items ++ line_typed line.now) }
+{
+    if let Some(line) = line {
         keys.extend_from_slice(line.as_bytes())?;
         keys.push(b'\n')?;
     }
+    Ok(())
+}
+
+/// The keys that are typed: those of a file, and then a line.
+fn keys<'a, R: Files + AllocGlobal>(rt: &R, settings: &'a Settings) -> Result<Vec<u8>, Failure<'a>>
+    ensures { IfOk result (λ keys. AreKeys settings.now keys.items) }
+{
+    let mut keys = first_keys(rt, settings)?;
+    push_line(&mut keys, &settings.line)?;
     Ok(keys)
 }
 
@@ -89,15 +136,14 @@ fn file_of<'a>(
     settings: &'a Settings,
     programs: &[Program],
     paths: &[String],
-) -> Result<NamedFile, Failure<'a>> {
-    let name = settings.file.as_ref().map(|name| name.as_str());
+) -> Result<NamedFile, Failure<'a>>
+    ensures { IfOk result (λ file. IsKnownBy settings.now.file programs.now (map string_bytes paths.now) file) }
+{
+    let name = name_in(settings);
     let Some(program) = chosen(programs, name) else {
         return Err(Failure::File(FileRefusal::NoSuchName(name.unwrap_or(""))));
     };
-    let path = match paths.get(program) {
-        Some(path) => String::from_str(alloc, path.as_str())?,
-        None => String::new(alloc),
-    };
+    let path = path_copied(alloc, paths, program)?;
     Ok(NamedFile { program, path })
 }
 
@@ -106,7 +152,9 @@ fn in_rounds<'a, R: Files + AllocGlobal>(
     rt: &R,
     settings: &'a Settings,
     rounds: Rounds,
-) -> Result<Beginning, Failure<'a>> {
+) -> Result<Beginning, Failure<'a>>
+    ensures { IfOk result (λ b. IsAtBoot settings.now rounds b) }
+{
     let files = settings.files.as_slice();
     let programs = programs(rt, files)?.programs;
     let file = file_of(rt.alloc(), settings, programs.as_slice(), files)?;
@@ -121,7 +169,8 @@ fn in_rounds<'a, R: Files + AllocGlobal>(
 
 /// The place of a record of so many events at which GDB begins: its end, or the one that `--at` names.
 fn place_in(alloc: Global, path: &str, count: u64, at: Option<u64>) -> Result<u64, Failure<'static>>
-    ensures { IfOk result (λ place. IsPlaceIn count at place) }
+    ensures place { IfOk result (λ place. IsPlaceIn count at place) }
+    ensures refused { IfErr result (λ _. IsBeyond count at) }
 {
     let Some(place) = at else {
         return Ok(count);
@@ -158,7 +207,9 @@ fn of_record<'a>(
     kept: &Record,
     rounds: Rounds,
 ) -> Result<Beginning, Failure<'a>>
-    ensures { IfOk result (λ b. IsBeginningOf kept.now replay.now.at rounds b) }
+    ensures beginning { IfOk result (λ b. IsBeginningOf kept.now replay.now.at rounds b) }
+    ensures file { IfOk result
+        (λ b. IsKnownBy settings.now.file b.programs.items (paths_at settings.now.files.items (places_of made.programs.items kept.now.programs.items)) b.file) }
 {
     let RecordedFiles {
         programs,
@@ -195,7 +246,7 @@ fn begun(
 
 /// The target of a run, at the place at which it stands. GDB looks first at the process that runs, or at one that lives.
 fn taken_up(alloc: Global, run: Played, program: usize, path: String, most: u32) -> Target
-    ensures { IsTakenUp run program most result }
+    ensures { IsTakenUp run program (string_bytes path) most result }
 {
     let mut target = Target::new(alloc, run, program, path, most);
     let stopped = target.stop_here(StopReason::Trap);
@@ -205,22 +256,36 @@ fn taken_up(alloc: Global, run: Played, program: usize, path: String, most: u32)
 
 /// The target of a run with this beginning, in which a command that goes on sends `most` events at most.
 fn target_of(alloc: Global, begin: Beginning, most: u32) -> Result<Target, Failure<'static>>
-    ensures { IfOk result (λ t. Begins begin.frames (map named_file begin.programs.items) begin.plan begin.place t.run) }
+    ensures { IfOk result (λ t. IsTargetOf begin most t) }
 {
     let NamedFile { program, path } = begin.file;
     let run = begun(alloc, begin.frames, begin.programs, begin.plan, begin.place)?;
     Ok(taken_up(alloc, run, program, path, most))
 }
 
-/// Says at which place of a record GDB begins.
-fn tell_place<E: Write>(path: &str, target: &Target, place: u64, errors: &mut E) {
-    let at = target.run.at();
-    let count = target.run.plan.recorded();
-    let ends = if at < place { ", before init ends" } else { "" };
-    let _ = writeln!(
+/// What is said if GDB begins before the place that was asked for.
+fn end_note(at: u64, place: u64) -> &'static str
+    ensures { result.now ≡ end_note at place }
+{
+    if at < place { ", before init ends" } else { "" }
+}
+
+/// Says after how many of a record's events GDB begins, and whether that is before the place that was asked for.
+fn tell_place<E: Write>(
+    path: &str,
+    at: u64,
+    count: u64,
+    place: u64,
+    errors: &mut E,
+) -> io::Result<()>
+    ensures { OnOk result
+        (Appends (E.contents errors.old) (E.contents errors.new) (note_of path.now at count (end_note at place))) }
+{
+    let ends = end_note(at, place);
+    writeln!(
         errors,
         "{NAME}: {path}: GDB begins after {at} of its {count} events{ends}"
-    );
+    )
 }
 
 /// The target of a record's run, which then goes on in rounds.
@@ -229,13 +294,17 @@ fn replayed<'a>(
     settings: &'a Settings,
     replay: &Replay<'a>,
     rounds: Rounds,
-) -> Result<Target, Failure<'a>> {
+) -> Result<Target, Failure<'a>>
+    ensures { IfOk result (λ t. IsReplayed settings.now replay.now.at rounds t) }
+{
     let made = programs(rt, settings.files.as_slice())?;
     let record = whole_record(rt, NAME, replay.path)?;
     let begin = of_record(rt.alloc(), settings, made, replay, &record, rounds)?;
     let place = begin.place;
     let target = target_of(rt.alloc(), begin, settings.most)?;
-    tell_place(replay.path, &target, place, &mut rt.stderr());
+    let at = target.run.at();
+    let count = target.run.plan.recorded();
+    let _ = tell_place(replay.path, at, count, place, &mut rt.stderr());
     Ok(target)
 }
 
@@ -248,7 +317,9 @@ pub(crate) fn begin<'a>(
     rt: &HostRuntime,
     settings: &'a Settings,
     replay: Option<Replay<'a>>,
-) -> Result<Target, Failure<'a>> {
+) -> Result<Target, Failure<'a>>
+    ensures { IfOk result (λ t. IsBegun settings.now replay.entry t) }
+{
     let rounds = Rounds::new(keys(rt, settings)?, settings.quantum);
     match replay {
         Some(replay) => replayed(rt, settings, &replay, rounds),
