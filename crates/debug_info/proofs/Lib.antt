@@ -1,2 +1,3 @@
 mod Prelude
 pub mod WorkedNumbers
+pub mod WorkedPlaces

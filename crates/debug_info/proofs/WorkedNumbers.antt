@@ -1,12 +1,14 @@
 -- Worked numbers: signs, addresses that wrap, distances in LEB128, and texts.
 use Rattle.debug_info.proofs.Prelude.{[], ◌∷◌, ◌≡◌, codes, negsuc, None, pos, refl, Some}
-use Rattle.std.proofs.Common.{if◌then◌else◌, nat_lt}
+use Rattle.std.proofs.Common.{ℕ, ◌++◌, if◌then◌else◌, nat_lt}
 use Rattle.std.specs.Fmt.{digits}
 use Rattle.dwarf.specs.Numbers.{leb_bytes, signed}
 use Rattle.debug_info.specs.Expressions.{moved}
-use Rattle.debug_info.specs.Numbers.{address_from, highest_of, signed_of, unsigned_of}
+use Rattle.debug_info.specs.Numbers.{address_from, highest_of, number_in, signed_of, unsigned_of}
 use Rattle.debug_info.specs.Spots.{after, byte_at, number_at}
-use Rattle.debug_info.specs.Texts.{number_text}
+use Rattle.debug_info.specs.Texts.{character_text, code_text, field_text, number_text, quoted_text, truth_text, value_text}
+use Rattle.debug_info.specs.declared.scalars.Field.{Field}
+use Rattle.debug_info.specs.declared.scalars.Scalar.TheVariants.{Base}
 use Rattle.debug_info.specs.declared.spots.Spot.TheVariants.{Memory, Number}
 
 -- the least and the largest number of one byte, and -1; bits above are of no account
@@ -69,13 +71,66 @@ of_memory : byte_at (λ address. Some address) (after 2 (Memory 0xFFFFFFFFFFFFFF
 of_memory = refl
 
 -- the text of an int and of an unsigned int
-int_text : number_text 5 (highest_of 4) 0xFFFFFFF9 ≡ Some (codes "-7")
+int_text : number_text 5 (highest_of 4) 0xFFFFFFF9 ≡ codes "-7"
 unfolding digits
 int_text = refl
 
-unsigned_text : number_text 7 (highest_of 4) 0xFFFFFFF9 ≡ Some (codes "4294967289")
+unsigned_text : number_text 7 (highest_of 4) 0xFFFFFFF9 ≡ codes "4294967289"
 unfolding digits
 unsigned_text = refl
+
+-- characters, whole and in three or four bits: a field has no bits but its own
+character : number_text 8 (highest_of 1) 0x41 ≡ codes "65 'A'"
+unfolding digits character_text code_text quoted_text
+character = refl
+
+field_of_three : number_text 8 4 0xFD ≡ codes "5 '\\005'"
+unfolding digits character_text code_text quoted_text
+field_of_three = refl
+
+signed_field : number_text 6 8 0xFC ≡ codes "-4 '\\374'"
+unfolding digits character_text code_text quoted_text
+signed_field = refl
+
+long_character : number_text 6 (highest_of 2) 0x41 ≡ codes "<unknown type>"
+long_character = refl
+
+quote_and_newline : character_text 39 39 ++ character_text 39 10 ++ character_text 39 34 ≡ codes "\\'\\n\""
+unfolding character_text
+quote_and_newline = refl
+
+truths : truth_text 0 ++ truth_text 1 ++ truth_text 2 ≡ codes "falsetrue2"
+unfolding digits
+truths = refl
+
+-- a number of three bytes is none of C's, and one that isn't there is told so
+of_three_bytes : value_text (Base 5) 3 (λ address. Some address) (Memory 1) ≡ Some (codes "<not known here>")
+of_three_bytes = refl
+
+not_there : value_text (Base 5) 4 (λ address. None) (Memory 1) ≡ Some (codes "<not there>")
+not_there = refl
+
+-- five bits after three of the byte 0xEA, 11101 010; 8 bits of two bytes; and more than 64
+abbrev of_bits : (place bits : ℕ) → Field
+of_bits place bits = record { place = place; bits = bits }
+
+five_bits : field_text (Base 7) (of_bits 3 5) (λ address. Some 0xEA) (Memory 1) ≡ Some (codes "29")
+unfolding digits
+five_bits = refl
+
+over_two_bytes : field_text (Base 7) (of_bits 12 8) (λ address. Some address) (Memory 1) ≡ Some (codes "48")
+unfolding digits
+over_two_bytes = refl
+
+too_many_bits : field_text (Base 7) (of_bits 3 62) (λ address. Some address) (Memory 1) ≡ Some (codes "<not known here>")
+too_many_bits = refl
+
+-- bytes and zeros up to 8; none of more
+two_of_eight : number_in (0x34 ∷ 0x12 ∷ []) ≡ Some 0x1234
+two_of_eight = refl
+
+nine_of_eight : number_in (0 ∷ 0 ∷ 0 ∷ 0 ∷ 0 ∷ 0 ∷ 0 ∷ 0 ∷ 1 ∷ []) ≡ None
+nine_of_eight = refl
 
 -- numbers in memory, the lowest byte first: of four bytes, three and eight, and none of nine
 four_bytes : number_at (λ address. Some address) (Memory 1) 4 ≡ Some 0x04030201

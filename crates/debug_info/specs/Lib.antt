@@ -1,5 +1,7 @@
 pub mod Expressions
+pub mod Members
 pub mod Numbers
+pub mod Places
 pub mod Sections
 pub mod Spots
 pub mod Texts

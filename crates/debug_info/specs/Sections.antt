@@ -1,11 +1,17 @@
--- The sections of a file that tables stand in (ELF-64 Object File Format, "Sections").
-use Rattle.std.specs.Prelude.{ℕ, List, [], Option, Some, None}
-use Rattle.elf_symbols.specs.Sections.{section_named}
+-- The sections of a file that tables stand in (DWARF 5, section 7.4, and of version 4 the same).
+use Rattle.std.specs.Prelude.{ℕ, List, ◌≡◌, codes}
+use Rattle.elf_symbols.specs.Sections.{section_bytes}
+use Rattle.debug_info.specs.declared.sections.Sections.{Sections}
 
-abbrev pub or_none : Option (List ℕ) → List ℕ
-or_none (Some bytes) = bytes
-or_none None = []
-
--- the bytes of the first section of a name; none if the file has none, or not the whole of it
-abbrev pub bytes_of : List ℕ → List ℕ → List ℕ
-bytes_of file name = or_none (section_named file name)
+-- each is the first section of its name; one that the file doesn't have has no bytes
+pub record AreSectionsOf (file : List ℕ) (s : Sections) : Type 0 where
+  pub info : s.info.now ≡ section_bytes file (codes ".debug_info")
+  pub abbreviations : s.abbreviations.now ≡ section_bytes file (codes ".debug_abbrev")
+  pub strings : s.strings.now ≡ section_bytes file (codes ".debug_str")
+  pub line_strings : s.line_strings.now ≡ section_bytes file (codes ".debug_line_str")
+  pub string_offsets : s.string_offsets.now ≡ section_bytes file (codes ".debug_str_offsets")
+  pub addresses : s.addresses.now ≡ section_bytes file (codes ".debug_addr")
+  pub locations : s.locations.now ≡ section_bytes file (codes ".debug_loclists")
+  pub old_locations : s.old_locations.now ≡ section_bytes file (codes ".debug_loc")
+  pub ranges : s.ranges.now ≡ section_bytes file (codes ".debug_rnglists")
+  pub old_ranges : s.old_ranges.now ≡ section_bytes file (codes ".debug_ranges")

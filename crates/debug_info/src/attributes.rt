@@ -1,10 +1,12 @@
 //! What the attributes of an entry tell (DWARF 5, sections 2.2 and 7.5.4).
-ghost use Rattle.std.specs.Prelude.{◌≡◌, codes};
-ghost use Rattle.debug_info.specs.Sections.{bytes_of};
+ghost use Rattle.std.specs.Prelude.{◌≡◌};
+ghost use Rattle.debug_info.specs.Expressions as meant;
+ghost use Rattle.debug_info.specs.Sections.{AreSectionsOf};
 
 use crate::entry::{Entry, InfoUnit, Specification, Tables};
 use crate::names::{ADDRESSES, NAME, ORIGIN, SPECIFICATION, STRING_OFFSETS, TYPE};
 use crate::sections::{Sections, sections_of};
+use crate::units::ADDRESS_BYTES;
 use crate::value::{NamePlace, Value, value_at};
 use dwarf::{double_at, name_at, word_at};
 use std::str;
@@ -47,20 +49,27 @@ fn value_among(
 }
 
 /// The place of a number in a list of numbers of so many bytes.
-pub(crate) fn place_in(base: u64, number: u64, size: u64) -> Option<usize> {
+pub(crate) fn place_in(base: u64, number: u64, size: u64) -> Option<usize>
+    ensures { result ≡ meant.place_in base number size }
+{
     let distance = number.checked_mul(size)?;
     let place = base.checked_add(distance)?;
     Some(place as usize)
+}
+
+/// The address of this number among those of a unit, which begin at a place of `.debug_addr` (section 7.27).
+pub(crate) fn numbered_address(addresses: &[u8], from: u64, number: u64) -> Option<u64>
+    ensures { result ≡ meant.numbered_address addresses.now from number }
+{
+    let place = place_in(from, number, u64::from(ADDRESS_BYTES))?;
+    double_at(addresses, place).ok()
 }
 
 impl<'a> Program<'a> {
     /// The tables with the file that they were read from. Of another file they tell something else, or nothing.
     pub fn of(tables: &'a Tables, file: &'a [u8]) -> Program<'a>
         ensures tables { result.tables.now ≡ tables.now }
-        ensures info { result.sections.info.now ≡ bytes_of file.now (codes ".debug_info") }
-        ensures strings { result.sections.strings.now ≡ bytes_of file.now (codes ".debug_str") }
-        ensures locations { result.sections.locations.now ≡ bytes_of file.now (codes ".debug_loclists") }
-        ensures old_locations { result.sections.old_locations.now ≡ bytes_of file.now (codes ".debug_loc") }
+        ensures sections { AreSectionsOf file.now result.sections }
     {
         Program {
             tables,
@@ -180,10 +189,14 @@ impl<'a> Program<'a> {
         }
     }
 
+    /// Where the addresses of a unit begin in `.debug_addr`.
+    pub(crate) fn addresses_from(&self, unit: &InfoUnit) -> u64 {
+        self.base(unit, ADDRESSES, NUMBERS_HEADER)
+    }
+
     /// The address of this number in `.debug_addr`.
     pub(crate) fn address_of_number(&self, unit: &InfoUnit, number: u64) -> Option<u64> {
-        let place = place_in(self.base(unit, ADDRESSES, NUMBERS_HEADER), number, 8)?;
-        double_at(self.sections.addresses, place).ok()
+        numbered_address(self.sections.addresses, self.addresses_from(unit), number)
     }
 
     /// The address that a value is.

@@ -1,4 +1,5 @@
 //! What is kept of the tables: units, entries, and which attributes they have (DWARF 5, sections 2.1 and 7.5).
+ghost use Rattle.std.specs.Prelude.{◌≡◌, nat_lt};
 
 /// An attribute of entries, as an abbreviation tells it (section 7.5.3).
 #[derive(Clone, Copy)]
@@ -47,6 +48,15 @@ pub(crate) struct Entry {
     pub from: usize,
     /// The number after its last attribute.
     pub to: usize,
+}
+
+impl Entry {
+    /// Whether its attributes are read. Each entry of a variable has some.
+    pub(crate) fn is_told(&self) -> bool
+        ensures { result ≡ nat_lt self.now.from self.now.to }
+    {
+        self.from < self.to
+    }
 }
 
 /// The entries of a program's tables, in their order. An entry's own entries stand after it, one deeper.

@@ -1,12 +1,12 @@
 //! Expressions: how a variable's place is found out in a call (DWARF 5, sections 2.5, 2.6 and 7.7).
-ghost use Rattle.std.specs.Prelude.{◌≡◌};
+ghost use Rattle.std.specs.Prelude.{◌≡◌, if◌then◌else◌, nat_eq, length, None, IfSome, IfOk};
 ghost use Rattle.debug_info.specs.Expressions as meant;
 
-use crate::attributes::Program;
+use crate::attributes::{Program, numbered_address};
 use crate::entry::InfoUnit;
 use crate::functions::Function;
 use crate::names::FRAME_BASE;
-use crate::numbers::{address_from, highest_of, signed_of};
+use crate::numbers::{address_from, highest_of, number_in, signed_of};
 use crate::operations::{binary, unary};
 use crate::places::Place;
 use crate::sight::{Frame, Sight};
@@ -17,6 +17,10 @@ use std::alloc::{AllocError, Global};
 /// No more numbers are kept at once.
 const MOST_NUMBERS: usize = 64;
 
+/// `DW_OP_addr`
+const ADDRESS: u8 = 0x03;
+/// The place after `DW_OP_addr` and its address.
+const ADDRESS_END: usize = 9;
 /// `DW_OP_reg0`
 const FIRST_REGISTER: u8 = 0x50;
 /// `DW_OP_breg0`
@@ -27,6 +31,10 @@ const CALL_FRAME: u8 = 0x9C;
 const IMPLICIT: u8 = 0x9E;
 /// `DW_OP_stack_value`
 const STACK_VALUE: u8 = 0x9F;
+/// `DW_OP_addrx`
+const ADDRESS_NUMBER: u8 = 0xA1;
+/// `DW_OP_constx`
+const CONSTANT_NUMBER: u8 = 0xA2;
 
 /// What an expression is about.
 #[derive(Clone, Copy)]
@@ -41,14 +49,18 @@ pub(crate) struct Context<'a> {
 type Pushed = Option<(u64, usize)>;
 
 /// A signed number of so many bytes, kept in two's complement.
-fn signed(number: u64, bytes: u64) -> u64 {
+fn signed(number: u64, bytes: u64) -> u64
+    ensures { result ≡ meant.turned bytes number }
+{
     signed_of(number, highest_of(bytes)).cast_unsigned()
 }
 
 /// The constant of an operation, whose bytes begin at a place (section 2.5.1.1).
-fn constant(bytes: &[u8], operation: u8, at: usize) -> Pushed {
+fn constant(bytes: &[u8], operation: u8, at: usize) -> Pushed
+    ensures { result ≡ meant.constant bytes.now operation at }
+{
     match operation {
-        0x03 => Some((double_at(bytes, at).ok()?, at + 8)),
+        ADDRESS => Some((double_at(bytes, at).ok()?, at + 8)),
         0x08 => Some((u64::from(byte_at(bytes, at).ok()?), at + 1)),
         0x09 => Some((signed(u64::from(byte_at(bytes, at).ok()?), 1), at + 1)),
         0x0A => Some((u64::from(half_at(bytes, at).ok()?), at + 2)),
@@ -75,45 +87,59 @@ fn moved(bytes: &[u8], base: u64, at: usize) -> Pushed
     Some((address_from(base, distance), next))
 }
 
-impl<'a> Context<'a> {
-    /// The frame base of the function (section 3.3.5): where its caller's part of the stack begins, or a register.
-    fn frame_base<S: Sight>(&self, sight: &S) -> Option<u64> {
-        let entry = self.program.entry(self.function?.number)?;
-        let Value::Block(span) = self.program.own(&entry, FRAME_BASE) else {
-            return None;
-        };
-        let bytes = self.program.sections.info.get(span.from..span.to)?;
-        let operation = byte_at(bytes, 0).ok()?;
-        match operation {
-            CALL_FRAME => self.frame.base,
-            0x50..=0x6F => sight.register(u64::from(operation - FIRST_REGISTER)),
-            0x70..=0x8F => {
-                let base = sight.register(u64::from(operation - FIRST_BASE))?;
-                Some(moved(bytes, base, 1)?.0)
-            }
-            _ => None,
+/// The frame base of a function by its expression: of one operation, that is where its caller's part of the stack
+/// begins, or a register, or so far from one (section 3.3.5).
+fn frame_base_by<S: Sight>(sight: &S, caller: Option<u64>, bytes: &[u8]) -> Option<u64>
+    ensures { result ≡ meant.frame_base (S.registers sight.now) caller bytes.now }
+{
+    let operation = bytes.first().copied()?;
+    match operation {
+        CALL_FRAME if bytes.len() == 1 => caller,
+        0x50..=0x6F if bytes.len() == 1 => sight.register(u64::from(operation - FIRST_REGISTER)),
+        0x70..=0x8F => {
+            let base = sight.register(u64::from(operation - FIRST_BASE))?;
+            let (address, next) = moved(bytes, base, 1)?;
+            at_end(bytes, next, Some(address))
         }
+        _ => None,
     }
+}
 
+/// What numbers of an expression are counted from.
+#[derive(Clone, Copy)]
+struct Bases<'a> {
+    /// The frame base of the function.
+    frame: Option<u64>,
+    /// Where its caller's part of the stack begins.
+    caller: Option<u64>,
+    /// `.debug_addr`.
+    addresses: &'a [u8],
+    /// Where the addresses of the unit begin there.
+    from: u64,
+}
+
+impl<'a> Bases<'a> {
     /// The number that an operation gives by a register, the frame or a number of the tables (section 2.5.1.2).
-    fn based<S: Sight>(&self, sight: &S, bytes: &[u8], operation: u8, at: usize) -> Pushed {
+    fn based<S: Sight>(&self, sight: &S, bytes: &[u8], operation: u8, at: usize) -> Pushed
+        ensures { result ≡ meant.based (S.registers sight.now) self.now.frame self.now.caller
+            (meant.numbered_address self.now.addresses.now self.now.from) bytes.now operation at }
+    {
         match operation {
             0x70..=0x8F => {
                 let base = sight.register(u64::from(operation - FIRST_BASE))?;
                 moved(bytes, base, at)
             }
             // fbreg
-            0x91 => moved(bytes, self.frame_base(sight)?, at),
+            0x91 => moved(bytes, self.frame?, at),
             // bregx
             0x92 => {
                 let (number, next) = unsigned_at(bytes, at).ok()?;
                 moved(bytes, sight.register(number)?, next)
             }
-            CALL_FRAME => Some((self.frame.base?, at)),
-            // addrx, constx
-            0xA1 | 0xA2 => {
+            CALL_FRAME => Some((self.caller?, at)),
+            ADDRESS_NUMBER | CONSTANT_NUMBER => {
                 let (number, next) = unsigned_at(bytes, at).ok()?;
-                let found = self.program.address_of_number(&self.unit, number)?;
+                let found = numbered_address(self.addresses, self.from, number)?;
                 Some((found, next))
             }
             _ => constant(bytes, operation, at),
@@ -154,34 +180,76 @@ impl<'a> Context<'a> {
     }
 }
 
+impl<'a> Context<'a> {
+    /// The frame base of the function (section 3.3.5).
+    fn frame_base<S: Sight>(&self, sight: &S) -> Option<u64> {
+        let entry = self.program.entry(self.function?.number)?;
+        let Value::Block(span) = self.program.own(&entry, FRAME_BASE) else {
+            return None;
+        };
+        let bytes = self.program.sections.info.get(span.from..span.to)?;
+        frame_base_by(sight, self.frame.base, bytes)
+    }
+
+    /// What numbers of an expression are counted from.
+    fn bases<S: Sight>(&self, sight: &S) -> Bases<'a> {
+        Bases {
+            frame: self.frame_base(sight),
+            caller: self.frame.base,
+            addresses: self.program.sections.addresses,
+            from: self.program.addresses_from(&self.unit),
+        }
+    }
+}
+
+impl<'a> Program<'a> {
+    /// The address that an expression of one operation names (sections 2.5.1.1 and 2.5.1.2).
+    fn named_address(&self, unit: &InfoUnit, bytes: &[u8]) -> Option<u64> {
+        let (address, next) = match bytes.first().copied()? {
+            ADDRESS => (double_at(bytes, 1).ok()?, ADDRESS_END),
+            ADDRESS_NUMBER => {
+                let (number, next) = unsigned_at(bytes, 1).ok()?;
+                (self.address_of_number(unit, number)?, next)
+            }
+            _ => return None,
+        };
+        at_end(bytes, next, Some(address))
+    }
+
+    /// Whether an expression is the place of what the linker has left out. Its entry stands, with an address at which
+    /// no variable is: 0, where a program's instructions begin, or the largest one.
+    pub(crate) fn is_left_out(&self, unit: &InfoUnit, bytes: &[u8]) -> bool {
+        matches!(self.named_address(unit, bytes), Some(0 | u64::MAX))
+    }
+}
+
 /// The number in the bytes of an implicit value, if they are 8 at most.
-fn implicit(bytes: &[u8]) -> Place {
+fn implicit(bytes: &[u8]) -> Place
+    ensures { result ≡ meant.implicit bytes.now }
+{
     let Ok((count, from)) = unsigned_at(bytes, 1) else {
         return Place::Unknown;
     };
-    let Some(rest) = bytes.get(from..) else {
-        return Place::Unknown;
-    };
-    if count > 8 || rest.len() as u64 != count {
+    let rest = &bytes[from..];
+    if rest.len() as u64 != count {
         return Place::Unknown;
     }
-    let mut found = [0; 8];
-    for (place, byte) in rest.iter().enumerate() {
-        if place < 8 {
-            found[place] = *byte;
-        }
+    match number_in(rest) {
+        Some(number) => Place::Value(number),
+        None => Place::Unknown,
     }
-    Place::Value(u64::from_le_bytes(found))
 }
 
 /// The place that an expression of one operation names without any number (sections 2.6.1.1.1 to 2.6.1.1.4).
-fn single(bytes: &[u8]) -> Option<Place> {
-    let Some(operation) = bytes.first() else {
+fn single(bytes: &[u8]) -> Option<Place>
+    ensures { result ≡ meant.single bytes.now }
+{
+    let Some(operation) = bytes.first().copied() else {
         return Some(Place::OptimizedOut);
     };
-    match *operation {
+    match operation {
         0x50..=0x6F if bytes.len() == 1 => {
-            Some(Place::Register(u64::from(*operation - FIRST_REGISTER)))
+            Some(Place::Register(u64::from(operation - FIRST_REGISTER)))
         }
         IMPLICIT => Some(implicit(bytes)),
         _ => None,
@@ -198,10 +266,13 @@ pub(crate) fn evaluated<S: Sight>(
     context: &Context,
     sight: &S,
     bytes: &[u8],
-) -> Result<Place, AllocError> {
+) -> Result<Place, AllocError>
+    ensures { IfSome (meant.single bytes.now) (λ place. IfOk result (λ found. found ≡ place)) }
+{
     if let Some(place) = single(bytes) {
         return Ok(place);
     }
+    let bases = context.bases(sight);
     let mut numbers = Vec::new(alloc);
     let mut at = 0;
     for _ in 0..bytes.len() {
@@ -211,7 +282,7 @@ pub(crate) fn evaluated<S: Sight>(
         if operation == STACK_VALUE {
             return Ok(at_end(bytes, at + 1, numbers.pop()).map_or(Place::Unknown, Place::Value));
         }
-        match context.step(sight, bytes, operation, at + 1, &mut numbers)? {
+        match bases.step(sight, bytes, operation, at + 1, &mut numbers)? {
             Some(next) => at = next,
             None => return Ok(Place::Unknown),
         }
@@ -220,6 +291,8 @@ pub(crate) fn evaluated<S: Sight>(
 }
 
 /// The number that is left, if an expression ends at this place.
-fn at_end(bytes: &[u8], at: usize, number: Option<u64>) -> Option<u64> {
+fn at_end(bytes: &[u8], at: usize, number: Option<u64>) -> Option<u64>
+    ensures { result ≡ (if nat_eq at (length bytes.now) then number else None) }
+{
     if at == bytes.len() { number } else { None }
 }

@@ -19,6 +19,7 @@ mod form;
 mod functions;
 mod list_items;
 mod lists;
+mod members;
 mod names;
 mod numbers;
 mod operations;

@@ -14,6 +14,17 @@ const MOST_ITEMS: u32 = 1024;
 /// Bytes of the header of a table of lists, before the places of its lists (section 7.28).
 const LISTS_HEADER: u64 = 12;
 
+/// What a list of locations tells of an address.
+#[derive(Clone, Copy)]
+pub(crate) enum Listed {
+    /// This expression.
+    By(Span),
+    /// Nothing: the list ends, and none of its items has the address.
+    Nowhere,
+    /// Something that isn't read: an item isn't understood, or there are too many.
+    NotRead,
+}
+
 impl<'a> Program<'a> {
     /// The address from which those of a unit's lists are counted first.
     fn first_base(&self, unit: &InfoUnit) -> u64 {
@@ -72,30 +83,38 @@ impl<'a> Program<'a> {
         None
     }
 
-    /// The expression of a list that holds at an address; `None` if none does.
-    pub(crate) fn location_at(&self, unit: &InfoUnit, at: usize, address: u64) -> Option<Span> {
+    /// What a list tells of an address. The item for all other addresses holds if no other one does.
+    pub(crate) fn location_at(&self, unit: &InfoUnit, at: usize, address: u64) -> Listed {
         let bytes = self.list_bytes(unit, ListKind::Locations);
         let mut next = at;
         let mut base = self.first_base(unit);
+        let mut otherwise = Listed::Nowhere;
         for _ in 0..MOST_ITEMS {
-            let read = self.item_at(unit, ListKind::Locations, base, next)?;
+            let Some(read) = self.item_at(unit, ListKind::Locations, base, next) else {
+                return Listed::NotRead;
+            };
             next = read.next;
-            let holds = match read.item {
-                Item::Addresses(from, to) => from <= address && address < to,
-                Item::Others => true,
+            match read.item {
+                Item::End => return otherwise,
                 Item::Base(from) => {
                     base = from;
                     continue;
                 }
-                Item::End => return None,
-            };
-            let expression = expression_at(bytes, unit, next)?;
-            if holds {
-                return Some(expression);
+                _ => (),
             }
+            let Some(expression) = expression_at(bytes, unit, next) else {
+                return Listed::NotRead;
+            };
             next = expression.to;
+            match read.item {
+                Item::Addresses(from, to) if from <= address && address < to => {
+                    return Listed::By(expression);
+                }
+                Item::Others => otherwise = Listed::By(expression),
+                _ => (),
+            }
         }
-        None
+        Listed::NotRead
     }
 }
 

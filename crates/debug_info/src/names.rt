@@ -36,6 +36,8 @@ pub(crate) const SPECIFICATION: u64 = 0x47;
 pub(crate) const TYPE: u64 = 0x49;
 /// `DW_AT_ranges`
 pub(crate) const RANGES: u64 = 0x55;
+/// `DW_AT_endianity`
+pub(crate) const BYTE_ORDER: u64 = 0x65;
 /// `DW_AT_data_bit_offset`
 pub(crate) const BIT_PLACE: u64 = 0x6B;
 /// `DW_AT_str_offsets_base`

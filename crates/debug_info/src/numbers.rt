@@ -2,6 +2,9 @@
 ghost use Rattle.std.specs.Prelude.{◌≡◌, ◌<◌, ◌≤◌, ◌^◌};
 ghost use Rattle.debug_info.specs.Numbers as meant;
 
+/// Bytes of the largest number.
+const NUMBER_BYTES: usize = 8;
+
 /// The value of the highest bit of a number of so many bytes: 1, 2, 4 or 8. Of other sizes that of 8.
 pub(crate) fn highest_of(bytes: u64) -> u64
     ensures positive { 0 < result }
@@ -47,4 +50,16 @@ pub(crate) fn address_from(base: u64, distance: i64) -> u64
     ensures { result ≡ meant.address_from base distance }
 {
     base.wrapping_add(distance.cast_unsigned())
+}
+
+/// The number in these bytes, the lowest first; `None` if they are more than 8.
+pub(crate) fn number_in(bytes: &[u8]) -> Option<u64>
+    ensures { result ≡ meant.number_in bytes.now }
+{
+    if bytes.len() > NUMBER_BYTES {
+        return None;
+    }
+    let mut found = [0; NUMBER_BYTES];
+    found[..bytes.len()].copy_from_slice(bytes);
+    Some(u64::from_le_bytes(found))
 }

@@ -1,17 +1,16 @@
 //! Values as text, in the style of GDB (Debugging with GDB, "Examining Data").
-ghost use Rattle.std.specs.Prelude.{IfOk, string_bytes};
+ghost use Rattle.std.specs.Prelude.{◌≡◌, IfOk, option_map, string_bytes};
 ghost use Rattle.debug_info.specs.Texts as meant;
 
 use crate::attributes::Program;
 use crate::entry::Entry;
-use crate::names::{BIT_SIZE, MEMBER_PLACE};
-use crate::numbers::highest_of;
+use crate::members::MemberPlace;
 use crate::places::Place;
-use crate::scalars::UNKNOWN;
+use crate::scalars::{Field, NOT_KNOWN, UNKNOWN};
 use crate::sight::Sight;
 use crate::spots::Spot;
 use crate::tags::{ARRAY, BASE, ENUMERATION, FUNCTION_TYPE, MEMBER, POINTER, STRUCTURE, UNION};
-use crate::texts::{MOST_SHOWN, NOT_THERE, add_text};
+use crate::texts::{MOST_SHOWN, add_text};
 use crate::types::Kind;
 use crate::variables::Variable;
 use std::alloc::{AllocError, Global};
@@ -27,9 +26,6 @@ const MOST_BYTES: usize = 4096;
 
 /// What is told of a value that the compiler keeps nowhere.
 const OPTIMIZED_OUT: &str = "<optimized out>";
-
-/// What is told of a value whose place isn't understood.
-const NOT_KNOWN: &str = "<not known here>";
 
 /// What is left to show.
 #[derive(Clone, Copy)]
@@ -86,17 +82,18 @@ impl<'a, 'p, S: Sight> Printer<'a, 'p, S> {
         let Some(size) = self.program.size(Kind::of(kind)) else {
             return self.text.push_str(UNKNOWN);
         };
-        let Some(number) = spot.number(self.sight, size) else {
-            return self.text.push_str(NOT_THERE);
-        };
-        let highest = highest_of(size);
         self.program
-            .add_number(&mut self.text, kind, number, highest)?;
-        if number != 0 && self.program.leads_to_text(kind) {
-            self.text.push_str(" ")?;
-            return add_text(&mut self.text, self.sight, Spot::Memory(number), u64::MAX);
+            .add_value(&mut self.text, self.sight, kind, spot, size)?;
+        if !self.program.leads_to_text(kind) {
+            return Ok(());
         }
-        Ok(())
+        match spot.number(self.sight, size) {
+            None | Some(0) => Ok(()),
+            Some(address) => {
+                self.text.push_str(" ")?;
+                add_text(&mut self.text, self.sight, Spot::Memory(address), u64::MAX)
+            }
+        }
     }
 
     /// Begins an array: a text, or its elements.
@@ -223,37 +220,25 @@ impl<'a, 'p, S: Sight> Printer<'a, 'p, S> {
         let Some(number) = self.program.kind(it.number) else {
             return self.text.push_str(UNKNOWN);
         };
-        if let Some(bits) = self.program.number(it.number, BIT_SIZE) {
-            return self.bits(it, number, bits);
+        match self.program.member_place(it.number) {
+            MemberPlace::Bytes(place) => self.tasks.push(Task::Value(Value {
+                kind: Kind::of(number),
+                spot: it.spot.after(place),
+                depth: it.depth,
+            }))?,
+            MemberPlace::Bits(field) => self.bits(it.spot, number, field)?,
+            MemberPlace::NotRead => self.text.push_str(NOT_KNOWN)?,
         }
-        let place = self.program.number(it.number, MEMBER_PLACE).unwrap_or(0);
-        self.tasks.push(Task::Value(Value {
-            kind: Kind::of(number),
-            spot: it.spot.after(place),
-            depth: it.depth,
-        }))?;
         Ok(())
     }
 
-    /// Shows a member of so many bits (section 5.7.6 of DWARF 5).
-    fn bits(&mut self, it: Members, kind: usize, bits: u64) -> Result<(), AllocError> {
-        let Some(place) = self.program.bit_place(it.number, bits) else {
-            return self.text.push_str(NOT_KNOWN);
-        };
+    /// Shows a member of so many bits, in a structure that begins at a place.
+    fn bits(&mut self, spot: Spot, kind: usize, field: Field) -> Result<(), AllocError> {
         let Some(kind) = self.program.meant(kind) else {
             return self.text.push_str(UNKNOWN);
         };
-        let shift = place % 8;
-        if bits == 0 || bits > 56 {
-            return self.text.push_str(NOT_KNOWN);
-        }
-        let spot = it.spot.after(place / 8);
-        let Some(number) = spot.number(self.sight, (shift + bits + 7) / 8) else {
-            return self.text.push_str(NOT_THERE);
-        };
-        let highest = 1 << (bits - 1);
         self.program
-            .add_number(&mut self.text, kind, number >> shift, highest)
+            .add_bits(&mut self.text, self.sight, kind, spot, field)
     }
 
     /// Makes a step.
@@ -280,6 +265,21 @@ impl<'a, 'p, S: Sight> Printer<'a, 'p, S> {
     }
 }
 
+/// What is told in place of a value that has no bytes: it is nowhere, or its place or its register isn't known.
+fn placeless<S: Sight>(place: Place, sight: &S) -> Option<&'static str>
+    ensures { option_map (λ said. said.now) result ≡ meant.placeless_text (S.registers sight.now) place }
+{
+    match place {
+        Place::OptimizedOut => Some(OPTIMIZED_OUT),
+        Place::Unknown => Some(NOT_KNOWN),
+        Place::Register(number) => match sight.register(number) {
+            Some(_) => None,
+            None => Some(NOT_KNOWN),
+        },
+        Place::Memory(_) | Place::Value(_) => None,
+    }
+}
+
 /// The value of a variable that is at a place, as text in the style of GDB.
 ///
 /// # Errors
@@ -292,15 +292,14 @@ pub(crate) fn value_text<S: Sight>(
     place: Place,
     sight: &S,
 ) -> Result<String, AllocError>
-    ensures { IfOk result (λ text. meant.IsText (meant.placeless_text place) (string_bytes text)) }
+    ensures { IfOk result (λ text.
+        meant.IsText (meant.placeless_text (S.registers sight.now) place) (string_bytes text)) }
 {
-    match place {
-        Place::OptimizedOut => return String::from_str(alloc, OPTIMIZED_OUT),
-        Place::Unknown => return String::from_str(alloc, NOT_KNOWN),
-        _ => (),
+    if let Some(said) = placeless(place, sight) {
+        return String::from_str(alloc, said);
     }
     let Some(spot) = place.spot(sight) else {
-        return String::from_str(alloc, NOT_THERE);
+        return String::from_str(alloc, NOT_KNOWN);
     };
     let Some(number) = program.kind(variable.number) else {
         return String::from_str(alloc, UNKNOWN);

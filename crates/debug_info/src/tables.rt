@@ -1,6 +1,6 @@
 //! Reads all units of `.debug_info` (DWARF 5, section 7.5.1).
 ghost use Rattle.std.specs.Prelude.{◌≡◌, [], IfOk, codes};
-ghost use Rattle.debug_info.specs.Sections.{bytes_of};
+ghost use Rattle.elf_symbols.specs.Sections.{section_bytes};
 
 use crate::abbreviations::{Abbreviations, abbreviations_at};
 use crate::entries::add_entries;
@@ -80,7 +80,7 @@ fn add_unit(
 /// [`InfoError`] with the first fault, from left to right.
 #[tactic(auto, unfolding(dwarf::specs::Units::units_from))]
 pub fn read_tables(alloc: Global, file: &[u8]) -> Result<Tables, InfoError>
-    ensures { bytes_of file.now (codes ".debug_info") ≡ [] → IfOk result (λ tables. tables.entries.items ≡ []) }
+    ensures { section_bytes file.now (codes ".debug_info") ≡ [] → IfOk result (λ tables. tables.entries.items ≡ []) }
 {
     let sections = sections_of(file);
     let found = units(alloc, sections.info)?;

@@ -109,6 +109,28 @@ impl<'a> Program<'a> {
         Ok(())
     }
 
+    /// Whether this type qualifies a pointer. A qualifier of an array is one of its elements; `None` if the same one
+    /// stands at them, too, as gcc writes it.
+    fn is_of_pointer(&self, number: usize, tag: u64) -> Option<bool> {
+        let mut at = number;
+        for _ in 0..MOST_PARTS {
+            let Some(next) = self.kind(at) else {
+                return Some(false);
+            };
+            let Some(entry) = self.entry(next) else {
+                return Some(false);
+            };
+            if entry.tag == tag {
+                return None;
+            }
+            if entry.tag != ARRAY && qualifier(entry.tag).is_none() {
+                return Some(entry.tag == POINTER);
+            }
+            at = next;
+        }
+        Some(false)
+    }
+
     /// Adds a part of a type that has no name of its own; `false` if it has one.
     fn add_part(
         &self,
@@ -118,8 +140,9 @@ impl<'a> Program<'a> {
         around: &mut Around,
     ) -> Result<bool, AllocError> {
         if let Some(word) = qualifier(tag) {
-            let to = self.kind(number).and_then(|it| self.entry(it));
-            around.qualify(alloc, word, to.is_some_and(|it| it.tag == POINTER))?;
+            if let Some(is_pointer) = self.is_of_pointer(number, tag) {
+                around.qualify(alloc, word, is_pointer)?;
+            }
             return Ok(true);
         }
         match tag {

@@ -1,8 +1,6 @@
 //! Types (DWARF 5, section 5).
 use crate::attributes::Program;
-use crate::names::{
-    BIT_PLACE, BYTE_SIZE, COUNT, ENCODING, MEMBER_PLACE, OLD_BIT_PLACE, UPPER_BOUND,
-};
+use crate::names::{BYTE_SIZE, COUNT, ENCODING, UPPER_BOUND};
 use crate::tags::{ARRAY, ATOMIC, BASE, CONSTANT, POINTER, RANGE, RESTRICT, TYPE_NAME, VOLATILE};
 
 /// Names of types and qualifiers are followed no further than this.
@@ -115,21 +113,6 @@ impl<'a> Program<'a> {
             at = self.element(array)?;
         }
         None
-    }
-
-    /// How many bits stand in a structure before a member of so many bits (section 5.7.6; of version 3, section 5.6.6:
-    /// counted from the highest bit of a number on).
-    pub(crate) fn bit_place(&self, member: usize, bits: u64) -> Option<u64> {
-        if let Some(place) = self.number(member, BIT_PLACE) {
-            return Some(place);
-        }
-        let after = self.number(member, OLD_BIT_PLACE)?.checked_add(bits)?;
-        let all = self.number(member, BYTE_SIZE)?.checked_mul(8)?;
-        let start = self
-            .number(member, MEMBER_PLACE)
-            .unwrap_or(0)
-            .checked_mul(8)?;
-        start.checked_add(all.checked_sub(after)?)
     }
 
     /// Whether a type is one of characters of 1 byte.

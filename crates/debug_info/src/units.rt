@@ -3,7 +3,7 @@ use crate::entry::InfoUnit;
 use dwarf::{Fault, Unit, byte_at, offset_at};
 
 /// Bytes of an address.
-const ADDRESS_BYTES: u8 = 8;
+pub(crate) const ADDRESS_BYTES: u8 = 8;
 
 /// `DW_UT_compile` and `DW_UT_partial`: the kinds of units that are read.
 const READ_KINDS: [u8; 2] = [1, 3];

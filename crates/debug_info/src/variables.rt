@@ -13,10 +13,6 @@ use std::alloc::{AllocError, Global};
 /// No more variables are told at once.
 const MOST_VARIABLES: usize = 512;
 
-/// `DW_OP_addr` of address 0. A linker that leaves a variable out lets its entry stand, with this place; it is that of
-/// no variable, since a program's instructions begin there.
-const LEFT_OUT: [u8; 9] = [3, 0, 0, 0, 0, 0, 0, 0, 0];
-
 /// What a variable is.
 #[derive(Clone, Copy, Debug, PartialEq, Eq)]
 pub enum Role {
@@ -86,13 +82,17 @@ impl<'a> Program<'a> {
         }
     }
 
-    /// Whether an entry has a place of its own.
+    /// Whether an entry has a place of its own, which the linker hasn't left out.
     fn has_place(&self, entry: &Entry) -> bool {
-        let Value::Block(span) = self.own(entry, LOCATION) else {
-            return !self.own(entry, LOCATION).is_absent();
+        let value = self.own(entry, LOCATION);
+        let Value::Block(span) = value else {
+            return !value.is_absent();
+        };
+        let Some(unit) = self.unit(entry.unit) else {
+            return false;
         };
         match self.sections.info.get(span.from..span.to) {
-            Some(bytes) => bytes != LEFT_OUT.as_slice(),
+            Some(expression) => !self.is_left_out(&unit, expression),
             None => false,
         }
     }
