@@ -5,6 +5,7 @@ pub mod Names
 pub mod Reach
 pub mod Reading
 pub mod Rows
+pub mod Steps
 pub mod Told
 pub mod Viewed
 mod Worked

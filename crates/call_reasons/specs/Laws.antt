@@ -1,14 +1,17 @@
 -- What holds of the reasons.
-use Rattle.std.specs.Prelude.{◌≡◌, ◌≢◌, ◌≤◌, ℕ, ℤ, false, None, IsSome}
+use Rattle.std.specs.Prelude.{◌≡◌, ◌≢◌, ◌≤◌, ℕ, ℤ, true, false, Option, None, Some, IsSome}
 use Rattle.xk_base.specs.declared.access.Access.{Access}
 use Rattle.xk_base.specs.declared.limits.TheConstants.{ADDRESS_END}
 use Rattle.proc_table.specs.declared.process.Call.{Call}
 use Rattle.kernel_spec.specs.rows.Buffers.{may_touching}
 use Rattle.kernel_spec.specs.rows.Calls.{answered, perform, refused}
+use Rattle.kernel_spec.specs.runs.Run.{World, Event, Outcome, Happens}
 use Rattle.kernel_spec.specs.steps.Own.{Called}
-use Rattle.kernel_spec.specs.views.View.{View}
+use Rattle.kernel_spec.specs.steps.Step.{begun, call_in}
+use Rattle.kernel_spec.specs.views.View.{View, view}
 use Rattle.kernel_spec.specs.views.Words.{minus_one}
 use Rattle.call_reasons.specs.Facts.{Facts, facts_of}
+use Rattle.call_reasons.specs.Last.{is_refusal, reason_asked}
 use Rattle.call_reasons.specs.Reasons.{reason_of, reason_told}
 
 -- the call is done in this view, and has this answer
@@ -38,3 +41,24 @@ OthersHaveNone = (c : Call) (f : Facts) (value : ℤ) → value ≢ minus_one �
 -- After a call that was refused the same is told as before it
 abbrev pub ToldAfterwards : Type 0
 ToldAfterwards = (c : Call) (v : View) (value : ℤ) → reason_told c (facts_of (answered minus_one v)) value ≡ reason_told c (facts_of v) value
+
+-- ---- of a run
+
+-- the view in which a step's call is done: as it is, if that call goes on, else past the ECALL that begins it
+abbrev pub past_ecall : View → Option Call → View
+past_ecall v None = begun v
+past_ecall v (Some c) = v
+
+abbrev pub met : View → View
+met v = past_ecall v v.call
+
+-- the state shows why the call is refused that process p's step is on, and it is the reason of that call in the view in which the call is done
+pub record ShowsReason (w : World) (p : ℕ) : Type 0 where
+  pub before : View
+  pub was : view w.state p ≡ Some before
+  pub is : reason_asked w p ≡ reason_of (call_in before) (met before)
+  pub some : IsSome (reason_asked w p)
+
+-- If a call of a process is refused by an event, the state before it shows why
+abbrev pub RefusedStepsHaveReasons : Type 0
+RefusedStepsHaveReasons = (w t : World) (e : Event) (o : Outcome) (p : ℕ) → Happens w e o t → is_refusal p o ≡ true → ShowsReason w p

@@ -1,5 +1,5 @@
 //! What holds of reasons.
-ghost use Rattle.call_reasons.specs.Laws.{OthersHaveNone, ReasonsRefuse, RefusalsHaveReasons, ToldAfterwards, ToldIsReason};
+ghost use Rattle.call_reasons.specs.Laws.{OthersHaveNone, ReasonsRefuse, RefusalsHaveReasons, RefusedStepsHaveReasons, ToldAfterwards, ToldIsReason};
 
 /// Calls have reasons exactly if they are refused.
 pub fn refusals_have_reasons()
@@ -20,4 +20,10 @@ pub fn answers_tell_reasons()
 
     // The view after a refused call tells the same as the one before it.
     ensures told_afterwards { ToldAfterwards }
+{}
+
+/// A machine shows why the next step's call is refused.
+pub fn refused_steps_have_reasons()
+    // If a call of a process is refused by an event, the state before it shows why.
+    ensures { RefusedStepsHaveReasons }
 {}

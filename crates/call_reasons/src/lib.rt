@@ -17,4 +17,4 @@ mod texts;
 pub use asked::{Asked, asked_of, c_int};
 pub use last::{REFUSED, reason_of_last};
 pub use reason::Reason;
-pub use telling::{reason_of, reason_told};
+pub use telling::reason_of;

@@ -106,8 +106,8 @@ fn is_bad_size(size: u64, change: i32) -> bool
     }
 }
 
-// Whether a call is refused that answers this.
-fn is_refusal(value: i64) -> bool
+/// Whether a call is refused that answers this.
+pub(crate) fn is_refused(value: i64) -> bool
     ensures { result ≡ int_eq value minus_one }
 {
     value == REFUSED
@@ -390,12 +390,12 @@ fn reason_of_refused(machine: &Machine, pid: Pid, call: &Call) -> Option<Reason>
     }
 }
 
-/// Why a call of a live process has answered so, by the machine before it or right after it; `None` if it wasn't
-/// refused, and for any other pid.
-pub fn reason_told(machine: &Machine, pid: Pid, call: &Call, value: i64) -> Option<Reason>
+// Why a call of a live process has answered so, by the machine before it or right after it; `None` if it wasn't
+// refused, and for any other pid.
+fn reason_told(machine: &Machine, pid: Pid, call: &Call, value: i64) -> Option<Reason>
     ensures { result ≡ reason_in machine.now.world.state pid call.now value }
 {
-    if is_refusal(value) {
+    if is_refused(value) {
         reason_of_refused(machine, pid, call)
     } else {
         None

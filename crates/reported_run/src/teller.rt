@@ -1,6 +1,6 @@
 //! What is told of a run while it goes on, and at its end.
 ghost use Rattle.std.specs.Prelude.{◌≡◌, [], true, false, option_map, IfSome, Some};
-ghost use Rattle.call_reasons.specs.Last.{WasRefused};
+ghost use Rattle.call_reasons.specs.Last.{IsReasonOfLast};
 ghost use Rattle.kcall_core.specs.Observers.{registers_of};
 ghost use Rattle.program_files.specs.Failures.{failure_status};
 ghost use Rattle.program_files.specs.Statuses.{status_of};
@@ -375,7 +375,7 @@ impl<E: Write> Teller<E> {
     /// reasons, or if the host has too little memory.
     fn reason(&mut self, session: &Session, pid: Pid) -> Option<Reason>
         ensures ends { self.new.ends ≡ self.old.ends }
-        ensures reason { IfSome result (λ reason. WasRefused session.now pid (Some reason)) }
+        ensures reason { IfSome result (λ reason. IsReasonOfLast session.now pid (Some reason)) }
     {
         if session.at() > self.plays_left {
             return None;

@@ -5,7 +5,7 @@ use Rattle.kernel_spec.specs.steps.Own.{Answer, Stepped, Called, Blocked, Exited
 use Rattle.kernel_spec.specs.views.Words.{minus_one}
 use Rattle.xv_session.specs.Recorded.{Recorded}
 use Rattle.debug_words.specs.declared.vocabulary.TheConstants.{EVENTS_MOST}
-use Rattle.call_reasons.specs.Last.{WasRefused}
+use Rattle.call_reasons.specs.Last.{IsReasonOfLast}
 use Rattle.call_reasons.specs.Words.{reason_words}
 use Rattle.call_reasons.specs.declared.reason.Reason.{Reason}
 
@@ -22,7 +22,7 @@ no_memory = codes "refused; the host has too little memory to tell why\n"
 
 -- The reason why the call of process p was refused by the last event; or that the host has too little memory, of which nothing is said here
 abbrev pub IsPlayedText : Recorded → (p : ℕ) → List ℕ → Type 0
-IsPlayedText s p text = ((reason : Option Reason) × WasRefused s p reason × (text ≡ reason_line reason)) ⊎ (text ≡ no_memory)
+IsPlayedText s p text = ((reason : Option Reason) × IsReasonOfLast s p reason × (text ≡ reason_line reason)) ⊎ (text ≡ no_memory)
 
 -- of a run of no more events than a word sends; of a longer one, that it is too long
 abbrev pub IsRefusalText : Recorded → (p : ℕ) → List ℕ → Type 0
