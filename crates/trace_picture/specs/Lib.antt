@@ -1,3 +1,6 @@
+pub mod Drawing
+pub mod Names
 pub mod Remarks
 pub mod Row
 pub mod Shapes
+pub mod Svg

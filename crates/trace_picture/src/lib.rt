@@ -5,6 +5,11 @@
 //! give the rows the names of programs, and the bars of sleepers what they wait for.
 #![tactic(auto)]
 
+ghost use Rattle.std.specs.Prelude.{IfOk, OnOk};
+ghost use Rattle.std.specs.Io.KnownBytes.{Appends};
+ghost use Rattle.std.specs.String.{string_bytes};
+ghost use Rattle.trace_picture.specs.Drawing.{Draws, IsPictureOf};
+
 mod chart;
 mod label;
 mod line;
@@ -16,21 +21,25 @@ mod shape;
 
 use crate::chart::Chart;
 use crate::line::{Told, lines_of};
-use crate::picture::draw;
-use crate::remark::Remarks;
+use crate::picture::picture_text;
 use std::alloc::Global;
-use std::io::{self, BufWriter, Read, Write};
+use std::io::{self, Read, Write};
 
-// Writes the picture of a chart.
-fn write_picture<W: Write + Drop>(
-    alloc: Global,
-    chart: &Chart,
-    remarks: &Remarks,
-    output: W,
-) -> io::Result<()> {
-    let mut output = BufWriter::new(alloc, output)?;
-    draw(chart, remarks, &mut output)?;
+// Writes a text, all of it.
+fn write_text<W: Write>(output: &mut W, text: &str) -> io::Result<()>
+    ensures { OnOk result (Appends (W.contents output.old) (W.contents output.new) text.now) }
+{
+    output.write_all(text.as_bytes())?;
     output.flush()
+}
+
+// The picture of a text.
+fn picture_of(alloc: Global, text: &str) -> io::Result<String>
+    ensures { IfOk result (λ picture. IsPictureOf text.now (string_bytes picture)) }
+{
+    let Told { notes, remarks } = lines_of(alloc, text)?;
+    let chart = Chart::of(alloc, notes)?;
+    picture_text(alloc, &chart, &remarks)
 }
 
 /// Reads a trace, and writes a picture of it, in SVG.
@@ -38,13 +47,14 @@ fn write_picture<W: Write + Drop>(
 /// # Errors
 ///
 /// Those of the two streams, and that the host has too little memory.
-pub fn draw_trace<R: Read + Drop, W: Write + Drop>(
+pub fn draw_trace<R: Read + Drop, W: Write>(
     alloc: Global,
     trace: R,
-    output: W,
-) -> io::Result<()> {
+    output: &mut W,
+) -> io::Result<()>
+    ensures { OnOk result (Draws (R.remaining trace) (W.contents output.old) (W.contents output.new)) }
+{
     let text = io::read_to_string(alloc, trace)?;
-    let Told { notes, remarks } = lines_of(alloc, text.as_str())?;
-    let chart = Chart::of(alloc, notes)?;
-    write_picture(alloc, &chart, &remarks, output)
+    let picture = picture_of(alloc, text.as_str())?;
+    write_text(output, picture.as_str())
 }

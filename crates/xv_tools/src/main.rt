@@ -29,7 +29,7 @@ const NOT_DRAWN: u8 = 1;
 
 // Draws the trace on standard input, and gives the exit status.
 fn draw(rt: &HostRuntime) -> u8 {
-    match draw_trace(rt.alloc(), rt.stdin(), rt.stdout()) {
+    match draw_trace(rt.alloc(), rt.stdin(), &mut rt.stdout()) {
         Ok(()) => DONE,
         Err(error) => {
             let _ = writeln!(rt.stderr(), "xv_picture: {error}");
