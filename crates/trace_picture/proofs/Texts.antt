@@ -1,9 +1,8 @@
 -- Texts that are written part by part.
-use Rattle.std.proofs.Common.{◌≡◌, ◌∙◌, ℕ, ◌+◌, ◌*◌, ◌<◌, ◌≤◌, Bool, List, [], ◌∷◌, ◌++◌, length, drop, flat_map, get_or, ap, sym, refl, append_assoc, append-nil}
+use Rattle.std.proofs.Common.{◌≡◌, ◌∙◌, ℕ, ◌+◌, ◌*◌, ◌<◌, ◌≤◌, Bool, List, [], ◌∷◌, ◌++◌, length, flat_map, ap, sym, refl, append-nil}
 use Rattle.std.specs.Prelude.{if◌then◌else◌}
-use Rattle.std.proofs.lemmas.Bool.{lt-ltb, le-ltb}
+use Rattle.std.proofs.lemmas.Bool.{lt-ltb}
 use Rattle.std.proofs.lemmas.Grind.{flat_map-append}
-use Rattle.std.proofs.lemmas.List.{drop_more}
 use Rattle.trace_picture.specs.Names.{letter_text, names_room}
 use Rattle.trace_picture.specs.Shapes.{shapes_of}
 use Rattle.trace_picture.specs.Svg.{byte_in, byte_shown, bytes_from, capped, free_after, picture_by, picture_of, row_top}
@@ -13,18 +12,9 @@ use Rattle.trace_picture.specs.declared.picture.Console.{Console}
 use Rattle.trace_picture.specs.declared.remark.Remarks.{Remarks}
 use Rattle.trace_picture.specs.declared.shape.Shape.{Shape}
 
--- of a whole text a part is written, and this is left: now more is written, and less is left
-pub left-more : (text more rest left now all : List ℕ) → text ++ left ≡ all → left ≡ more ++ rest → now ≡ text ++ more → now ++ rest ≡ all
-left-more text more rest left now all before is written =
-    ap (λ (z : List ℕ). z ++ rest) written ∙ append_assoc text more rest ∙ ap (λ (z : List ℕ). text ++ z) (sym is) ∙ before
-
 -- nothing is left
 pub left-none : (text left all : List ℕ) → text ++ left ≡ all → left ≡ [] → text ≡ all
 left-none text left all before is = sym (append-nil text) ∙ ap (λ (z : List ℕ). text ++ z) (sym is) ∙ before
-
--- one part is written, and then another
-pub adds : (text mid now a b : List ℕ) → mid ≡ text ++ a → now ≡ mid ++ b → now ≡ text ++ (a ++ b)
-adds text mid now a b first next = next ∙ ap (λ (z : List ℕ). z ++ b) first ∙ append_assoc text a b
 
 -- letters of a text, and then one more
 pub letters-next : (xs : List ℕ) (c : ℕ) → flat_map letter_text xs ++ letter_text c ≡ flat_map letter_text (xs ++ c ∷ [])
@@ -36,19 +26,9 @@ letters-next xs c = sym (flat_map-append letter_text xs (c ∷ []) ∙ ap (λ (z
 pub bytes-over : (line : Console) (left events base event free : ℕ) (notes : List Note) → capped (capped (left + 1200) * 100) < free → bytes_from line left events base event free notes ≡ []
 bytes-over line left events base event free [] over = refl
 bytes-over line left events base event free (note ∷ rest) over =
-    ap (λ (b : Bool). if b then [] else byte_shown left events base event free (byte_in line note) ++ bytes_from line left events base (event + 1) (free_after left events event free (byte_in line note)) rest)
+    ap (λ (b : Bool). if b then [] else byte_shown left events base event free (byte_in line note)
+    ++ bytes_from line left events base (event + 1) (free_after left events event free (byte_in line note)) rest)
     (lt-ltb (capped (capped (left + 1200) * 100)) free over)
-
--- there is room
-pub bytes-next : (line : Console) (left events base event free : ℕ) (notes : List Note) (d : Note) → event < length notes → free ≤ capped (capped (left + 1200) * 100)
-    → bytes_from line left events base event free (drop event notes)
-    ≡ byte_shown left events base event free (byte_in line (get_or notes event d)) ++ bytes_from line left events base (event + 1) (free_after left events event free (byte_in line (get_or notes event d))) (drop (event + 1) notes)
-bytes-next line left events base event free notes d within room =
-    let note = get_or notes event d in
-    let rest = drop (event + 1) notes in
-    ap (bytes_from line left events base event free) (drop_more notes event d within)
-    ∙ ap (λ (b : Bool). if b then [] else byte_shown left events base event free (byte_in line note) ++ bytes_from line left events base (event + 1) (free_after left events event free (byte_in line note)) rest)
-    (le-ltb (capped (capped (left + 1200) * 100)) free room)
 
 -- ---- the whole picture
 

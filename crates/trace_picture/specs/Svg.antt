@@ -68,7 +68,8 @@ bar_opened class x top width = concat (codes "<rect class=\"" ∷ class ∷ code
 
 -- a line of a colour, from top to bottom
 abbrev pub line_text : (class : List ℕ) → (x top bottom : ℕ) → List ℕ
-line_text class x top bottom = concat (codes "<line class=\"" ∷ class ∷ codes "\" x1=\"" ∷ pixels x ∷ codes "\" y1=\"" ∷ decimal top ∷ codes "\" x2=\"" ∷ pixels x ∷ codes "\" y2=\"" ∷ decimal bottom ∷ codes "\"/>\n" ∷ [])
+line_text class x top bottom = concat (codes "<line class=\"" ∷ class ∷ codes "\" x1=\"" ∷ pixels x ∷ codes "\" y1=\"" ∷ decimal top ∷ codes "\" x2=\"" ∷ pixels x ∷ codes "\" y2=\""
+    ∷ decimal bottom ∷ codes "\"/>\n" ∷ [])
 
 -- ---- the parts of a bar
 
@@ -90,7 +91,8 @@ waits_text remarks _ pid first behind = []
 
 -- what shows under the pointer: the process, what it did, and in which events
 abbrev pub bar_title : Remarks → (pid first behind : ℕ) → State → List ℕ
-bar_title remarks pid first behind state = concat (codes "><title>" ∷ who_text pid (program_at remarks pid behind) ∷ codes ": " ∷ word state ∷ waits_text remarks state pid first behind ∷ codes ", events "
+bar_title remarks pid first behind state = concat (codes "><title>" ∷ who_text pid (program_at remarks pid behind) ∷ codes ": " ∷ word state ∷ waits_text remarks state pid first behind
+    ∷ codes ", events "
     ∷ decimal first ∷ codes " to " ∷ decimal (behind - 1) ∷ codes "</title></rect>\n" ∷ [])
 
 -- ---- marks
@@ -126,7 +128,8 @@ mark_width (marks.Fault cause) = 4
 
 -- the word of a fault, six pixels right of its mark
 abbrev pub fault_text : (x row cause : ℕ) → List ℕ
-fault_text x row cause = concat (codes "<text class=\"fault\" x=\"" ∷ pixels (capped (x + 600)) ∷ codes "\" y=\"" ∷ decimal (capped (row_top row + 10)) ∷ codes "\">fault " ∷ decimal cause ∷ codes "</text>\n" ∷ [])
+fault_text x row cause = concat (codes "<text class=\"fault\" x=\"" ∷ pixels (capped (x + 600)) ∷ codes "\" y=\"" ∷ decimal (capped (row_top row + 10)) ∷ codes "\">fault " ∷ decimal cause
+    ∷ codes "</text>\n" ∷ [])
 
 abbrev pub fault_word : (x row : ℕ) → Mark → List ℕ
 fault_word x row (marks.Fault cause) = fault_text x row cause
