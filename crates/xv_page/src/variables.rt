@@ -145,7 +145,8 @@ fn asked_of(pid: u32, scope: u32) -> Option<(Pid, Scope)>
 
 /// Tells the variables of a call of a process, a row for each, as [`rows_text`] has them, by the tables in the file of
 /// its program: of scope 0 those of the call's function, of 1 those of the program. If the tables are refused, the text
-/// is an exclamation mark and why. `Unknown`: there is no process of this pid, or no such scope.
+/// is an exclamation mark and why. `Unknown`: the pid is none that a process can have, or there is no such scope. A pid
+/// that no process has now has no memory: values that are in memory are told as not there.
 #[inline(never)]
 pub fn xv_page_variables(
     alloc: Global,
