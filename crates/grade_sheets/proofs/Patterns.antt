@@ -1,7 +1,7 @@
 -- What a word or a line of an exercise stands for.
 use Rattle.std.proofs.Math.Bool.{and-false}
 use Rattle.grade_sheets.proofs.Prelude.{[], ℕ, ◌&&◌, ◌+◌, ◌<◌, ◌==◌, ◌^◌, ◌∙◌, ◌∷◌, ◌≡◌, ◌≢◌, ◌≤◌, and_from, and_parts, ap, arith, Bool, cond, cond-false, cond-true, drop, false, false_from_ne_true}
-use Rattle.grade_sheets.proofs.Prelude.{IsNumeral, is_numeral, length, List, list_any, lt-ltb, ltb-true, map, nat_lt, ne_eqb, None, position_or_len, refl, Some, suc, sym, take, true, zero}
+use Rattle.grade_sheets.proofs.Prelude.{IsNumeral, is_numeral, length, List, lt-ltb, ltb-true, map, nat_lt, ne_eqb, None, position_or_len, refl, Some, suc, sym, take, true}
 use Rattle.std.specs.Int.{w64}
 use Rattle.std.specs.List.{position, prefix_len}
 use Rattle.std.specs.Prelude.{◌||◌, ◌-◌, ℤ, pos, negsuc, not, FitsSigned, Option, IfNone, MatchOption}
@@ -9,7 +9,6 @@ use Rattle.std.specs.Str.Parse.{signed_digits_value, without_leading_sign}
 use Rattle.std.proofs.Common.{Bor}
 use Rattle.std.proofs.Common.{length-drop}
 use Rattle.std.proofs.lemmas.List.{length-map, take_all, take-map, drop-map}
-use Rattle.grade_rules.specs.declared.pattern.Pattern.{Pattern}
 use Rattle.grade_sheets.specs.Notation.{after_mark, asking_of, before_mark, begins_with, has_mark, integer_of, is_in_64_bits, pattern_at, pattern_of_line, with_both}
 use Rattle.grade_sheets.proofs.Numerals.{is-numeral, numeral-is}
 

@@ -1,7 +1,5 @@
-use Rattle.std.proofs.Common.{◌≡◌, length}
-use Rattle.std.specs.Prelude.{IfNone}
 use Rattle.std.proofs.lemmas.Str.Pattern.{split_once_first}
-use Rattle.grade_sheets.proofs.Patterns.{none-stands, none-parts}
+use Rattle.grade_sheets.proofs.Patterns.{none-parts}
 use Rattle.grade_sheets.proofs.notation.around_mark.Goals as goal
 
 pub returns-clause-none : goal.returns-clause-none

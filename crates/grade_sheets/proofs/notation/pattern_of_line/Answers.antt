@@ -1,4 +1,4 @@
-use Rattle.std.proofs.Common.{Bor, List, ℕ, arith, map}
+use Rattle.std.proofs.Common.{Bor, List, ℕ, arith}
 use Rattle.std.proofs.lemmas.List.{length-map}
 use Rattle.grade_sheets.proofs.Patterns.{few-words, many-words}
 use Rattle.grade_sheets.proofs.notation.pattern_of_line.Goals as goal

@@ -1,4 +1,4 @@
-use Rattle.std.proofs.Common.{Bor, List, ℕ, Some, ◌∙◌, ap, codes, sym, map}
+use Rattle.std.proofs.Common.{Bor, List, ℕ, ◌∙◌, ap, codes, sym, map}
 use Rattle.std.specs.Prelude.{Option}
 use Rattle.grade_sheets.specs.Notation.{is_word, pattern_at}
 use Rattle.grade_sheets.proofs.Patterns.{cut-words, position-map}
