@@ -1,5 +1,6 @@
 -- A machine that goes on, with what is kept of its run.
-use Rattle.std.proofs.Common.{◌≡◌, ℕ, ◌+◌, ◌<◌, ◌≤◌, true, false, List, [], ◌∷◌, ◌++◌, replicate, Option, None, Ok, inl, inr, refl, sym, ap, ◌∙◌, subst, append-nil, append_assoc}
+use Rattle.std.proofs.Common.{◌≡◌, ℕ, ◌+◌, ◌-◌, length, length-append, arith, ◌<◌, ◌≤◌, true, false, List, [], ◌∷◌, ◌++◌, replicate, Option, None, Ok, inl}
+use Rattle.std.proofs.Common.{inr, refl, sym, ap, ◌∙◌, subst, append-nil, append_assoc}
 use Rattle.std.proofs.lemmas.Bool.{true≢false}
 use Rattle.std.proofs.lemmas.List.{replicate_more}
 use Rattle.kernel_spec.specs.runs.Run.{Event, Run, Outcome, Step_of}
@@ -49,6 +50,11 @@ plays-join xs ys a b c one two = record {
 
 pub plays-those : (xs ys : List Event) (a b : Played) → xs ≡ ys → PlaysOn xs a b → PlaysOn ys a b
 plays-those xs ys a b same plays = subst (λ (es : List Event). PlaysOn es a b) same plays
+
+-- the place of the event that was sent last
+pub place-of : (old new : Recorded) (e : Event) (o : Outcome) (place : ℕ) → Sent old e o new → place ≡ length new.events - 1 → place ≡ length old.events
+place-of old new e o place sent is =
+    let long : length new.events ≡ length old.events + 1 = ap (λ (s : Recorded). length s.events) sent.1 ∙ length-append old.events (e ∷ []) in omega (arith, is, long)
 
 -- one event, of which this note comes
 module _ (e : Event) (o : Outcome) (old new : Played) (one : IsEvent old.session.machine e o new.session.machine) where

@@ -7,4 +7,5 @@ pub mod Handed
 pub mod Making
 pub mod Collecting
 mod Worked
+mod WorkedFaults
 mod WorkedGivens

@@ -1,18 +1,16 @@
 -- Worked cases of what calls were given.
-use Rattle.std.specs.Prelude.{◌≡◌, ℕ, pos, negsuc, true, false, None, Some, refl}
+use Rattle.std.specs.Prelude.{◌≡◌, ℕ, pos, negsuc, None, Some, refl}
 use Rattle.file_table.specs.declared.open_file.End.TheVariants.{Reading, Writing}
 use Rattle.file_table.specs.declared.open_file.Target.TheVariants as target
-use Rattle.proc_table.specs.declared.process.Call.{Call}
 use Rattle.kernel_spec.specs.runs.Run.{World, Step_of}
 use Rattle.kernel_spec.specs.steps.Own.{Called, Blocked, Stepped}
 use Rattle.kernel_spec.specs.views.State.{State}
 use Rattle.kernel_calls.specs.Table.{call_at}
 use Rattle.kernel_calls.specs.declared.argument.Argument.TheVariants as argument
-use Rattle.kcall_core.specs.declared.kernel.observers.ProcessState.TheVariants as state
 use Rattle.grade_rules.specs.declared.given.Given.{Given}
 use Rattle.grade_rules.specs.declared.given.Thing.TheVariants.{Nothing, File, ReadEnd, WriteEnd}
 use Rattle.grade_rules.specs.declared.note.Note.TheVariants as note
-use Rattle.grade_submissions.specs.Givens.{in_progress, argument_of, taken, thing_of, thing_named, thing_given, byte_or_none, nothing_given, given_by}
+use Rattle.grade_submissions.specs.Givens.{argument_of, taken, thing_of, thing_named, thing_given, byte_or_none, nothing_given, given_by}
 use Rattle.grade_submissions.specs.Plays.{note_with}
 
 -- close takes a descriptor, and nothing else; no call has number 99
@@ -68,13 +66,6 @@ a_letter = refl
 
 no_letter : byte_or_none None ≡ negsuc 0
 no_letter = refl
-
--- a process in a call is told by that call, and not by its registers
-goes_on : (call begun : Call) → in_progress (Some (state.Live None false (Some call) true)) (Some begun) ≡ Some call
-goes_on call begun = refl
-
-begins : (begun : Call) → in_progress (Some (state.Live None false None false)) (Some begun) ≡ Some begun
-begins begun = refl
 
 -- nobody gives nothing
 nobody : (w : World) → given_by w None ≡ nothing_given

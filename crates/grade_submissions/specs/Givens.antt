@@ -7,11 +7,9 @@ use Rattle.file_table.specs.declared.open_file.End.{End}
 use Rattle.file_table.specs.declared.open_file.End.TheVariants.{Reading, Writing}
 use Rattle.file_table.specs.declared.open_file.Target.{Target}
 use Rattle.file_table.specs.declared.open_file.Target.TheVariants as target
-use Rattle.rv64i_core.specs.Registers.{Registers, reg}
-use Rattle.proc_table.specs.declared.process.Call.{Call}
 use Rattle.kernel_spec.specs.runs.Run.{World}
 use Rattle.kernel_spec.specs.views.State.{State}
-use Rattle.kernel_spec.specs.views.Words.{A0, A1, A2, A7, c_int}
+use Rattle.kernel_spec.specs.views.Words.{c_int}
 use Rattle.kernel_calls.specs.Arguments.{kind_of}
 use Rattle.kernel_calls.specs.Table.{call_at, entry_of}
 use Rattle.kernel_calls.specs.declared.argument.Argument.{Argument}
@@ -20,32 +18,13 @@ use Rattle.kernel_calls.specs.declared.argument.ArgumentKind.{ArgumentKind}
 use Rattle.kernel_calls.specs.declared.argument.ArgumentKind.TheVariants as kind
 use Rattle.kernel_calls.specs.declared.call.KernelCall.{KernelCall}
 use Rattle.kernel_calls.specs.declared.numbers.TheConstants.{WRITE}
-use Rattle.kcall_core.specs.Observers.{process_at, registers_of, byte_at, descriptor_of}
+use Rattle.kcall_core.specs.Observers.{byte_at, descriptor_of}
 use Rattle.kcall_core.specs.declared.kernel.observers.Descriptor.{Descriptor}
-use Rattle.kcall_core.specs.declared.kernel.observers.ProcessState.{ProcessState}
-use Rattle.kcall_core.specs.declared.kernel.observers.ProcessState.TheVariants as state
+use Rattle.call_reasons.specs.Asked.{asked_of}
+use Rattle.call_reasons.specs.declared.asked.Asked.{Asked}
 use Rattle.grade_rules.specs.declared.given.Given.{Given}
 use Rattle.grade_rules.specs.declared.given.Thing.{Thing}
 use Rattle.grade_rules.specs.declared.given.Thing.TheVariants.{Nothing, Console, File, ReadEnd, WriteEnd}
-
--- ---- the call
-
--- the call that an ECALL begins: its number and arguments are in registers
-abbrev pub begun_with : (clock : ℕ) → Registers → Call
-begun_with clock regs = record { number = c_int (reg regs A7); a0 = reg regs A0; a1 = reg regs A1; a2 = reg regs A2; moved = 0; clock = clock }
-
--- the call that the registers of process p ask for, if it is live
-abbrev pub begun_by : World → (p : ℕ) → Option Call
-begun_by w p = option_map (begun_with w.state.clock) (registers_of w.state p)
-
--- of a process in a call that call, as it was at its first step; of any other the call that it begins
-abbrev pub in_progress : Option ProcessState → (begun : Option Call) → Option Call
-in_progress (Some (state.Live parent marked (Some call) asleep)) begun = Some call
-in_progress _ begun = begun
-
--- the call of process p
-abbrev pub call_of : World → (p : ℕ) → Option Call
-call_of w p = in_progress (process_at w p) (begun_by w p)
 
 -- ---- arguments
 
@@ -105,12 +84,12 @@ byte_or_none None = negsuc 0
 byte_or_none (Some byte) = pos byte
 
 -- the byte at the address that a write of one byte at least was given; -1 if it isn't there, and for any other call
-abbrev pub byte_given : State → (p : ℕ) → Call → ℤ
+abbrev pub byte_given : State → (p : ℕ) → Asked → ℤ
 byte_given s p call = if int_eq call.number WRITE && int_le (pos 1) (c_int call.a2) then byte_or_none (byte_at s p call.a1) else negsuc 0
 
 -- ---- all of it
 
-abbrev pub given_to : State → (p : ℕ) → Call → Given
+abbrev pub given_to : State → (p : ℕ) → Asked → Given
 given_to s p call = record {
   first = taken (argument_of call.number 0) call.a0;
   second = taken (argument_of call.number 1) call.a1;
@@ -123,13 +102,13 @@ given_to s p call = record {
 abbrev pub nothing_given : Given
 nothing_given = record { first = pos 0; second = pos 0; third = pos 0; byte = negsuc 0; on = Nothing }
 
-abbrev pub given_if : State → (p : ℕ) → Option Call → Given
+abbrev pub given_if : State → (p : ℕ) → Option Asked → Given
 given_if s p None = nothing_given
 given_if s p (Some call) = given_to s p call
 
 abbrev pub given_by : World → Option ℕ → Given
 given_by w None = nothing_given
-given_by w (Some p) = given_if w.state p (call_of w p)
+given_by w (Some p) = given_if w.state p (asked_of w p)
 
 -- what the call of the process that runs was given: the call that it is in, with the arguments that it had at its first step; or, if it is in none, the one that its next instruction, if that is an ECALL, begins
 abbrev pub given_in : World → Given

@@ -1,5 +1,5 @@
 -- What is told of a run: the notes of its events, with what each call was given, what it showed, and how it ended.
-use Rattle.std.specs.Prelude.{◌≡◌, ◌⊎◌, ℕ, zero, suc, ℤ, ◌+◌, Bool, true, false, ◌||◌, if◌then◌else◌, nat_lt, List, [], ◌∷◌, ◌++◌, length, sum_by, is_some, Option, None, Some, Result, Ok, Err}
+use Rattle.std.specs.Prelude.{◌≡◌, ◌⊎◌, ℕ, zero, suc, ℤ, ◌+◌, ◌-◌, Bool, true, false, ◌||◌, if◌then◌else◌, nat_lt, List, [], ◌∷◌, ◌++◌, length, sum_by, is_some, is_none, nat_eq, Option, None, Some, Result, Ok, Err}
 use Rattle.grade_rules.specs.declared.given.Given.{Given}
 use Rattle.grade_rules.specs.declared.note.Note.{Note}
 use Rattle.grade_rules.specs.declared.note.Note.TheVariants as note
@@ -13,8 +13,11 @@ use Rattle.kernel_spec.specs.views.State.{ProgramFile}
 use Rattle.kernel_spec.specs.waking.Wakes.{Promised}
 use Rattle.xk_base.specs.Access.{code_of}
 use Rattle.xk_base.specs.declared.errors.BootError.{BootError}
+use Rattle.kcall_core.specs.Observers.{size_of}
+use Rattle.run_work.specs.Work.{cost, size_now, with_more}
+use Rattle.run_work.specs.declared.cost.Before.{Before}
 use Rattle.xv_machine.specs.Drives.{StopsInRound}
-use Rattle.xv_machine.specs.Reached.{IsReached}
+use Rattle.xv_machine.specs.Reached.{IsEvent, IsReached}
 use Rattle.grade_submissions.specs.Givens.{given_in, nothing_given}
 use Rattle.grade_submissions.specs.declared.playing.TheConstants.{NOTES_MAX, SHOWN_MAX}
 use Rattle.grade_submissions.specs.declared.playing.Kept.{Kept}
@@ -133,6 +136,48 @@ told_runs t sent (Some o) = told_with t sent o
 
 abbrev pub told_of : Kept → Told
 told_of k = record { shown = k.shown.items; runs = k.runs; last = k.last; idle = k.idle; sending = k.sending }
+
+-- ---- the fault that is told
+
+-- the place of the event that was a fault: that of process 1, if it has one, and else the first
+abbrev pub fault_after : Option ℕ → (place : ℕ) → Outcome → Option ℕ
+fault_after before place (Step_of p (Faulted cause)) = if is_none before || nat_eq p 1 then Some place else before
+fault_after before place (Step_of p Stepped) = before
+fault_after before place (Step_of p (Called number value)) = before
+fault_after before place (Step_of p (Blocked number)) = before
+fault_after before place (Step_of p (Exited status)) = before
+fault_after before place (Turn p) = before
+fault_after before place Idle = before
+fault_after before place Ticked = before
+fault_after before place (Typed echo) = before
+fault_after before place (Sent byte) = before
+fault_after before place Halted = before
+
+-- behind Runs that were sent at once, the last of which is at this place, unless each was a done instruction
+abbrev pub fault_behind : Option ℕ → (place : ℕ) → Option Outcome → Option ℕ
+fault_behind before place None = before
+fault_behind before place (Some o) = fault_after before place o
+
+-- What came of an event is kept: if it is the fault that is told, its place is
+pub record FaultKept (e : Event) (old new : Played) : Type 0 where
+  pub outcome : Outcome
+  pub came : IsEvent old.session.machine e outcome new.session.machine
+  pub fault : new.kept.fault ≡ fault_after old.kept.fault (length old.session.events) outcome
+
+-- the same of Runs that were sent at once, of the last of which this came, unless each was a done instruction
+pub record LastFaultKept (old new : Played) : Type 0 where
+  pub last : Option Outcome
+  pub fault : new.kept.fault ≡ fault_behind old.kept.fault (length new.session.events - 1) last
+
+-- ---- the work
+
+-- So many Runs were worked off: what they cost is added, by what is seen of the machine before them and behind them
+pub record WorksOff (sent : ℕ) (old new : Played) : Type 0 where
+  pub before : Before
+  pub free : before.free ≡ old.session.machine.world.state.free
+  pub size : before.size ≡ size_now (size_of old.session.machine.world.state) old.session.machine.world.turns.current
+  pub last : Option Outcome
+  pub work : new.kept.work ≡ with_more old.kept.work (cost before sent new.session.machine.world.state.free (size_of new.session.machine.world.state) last)
 
 -- ---- what stops a run
 

@@ -2,60 +2,15 @@
 ghost use Rattle.std.specs.Prelude.{◌≡◌};
 ghost use Rattle.kernel_spec.specs.views.Words.{c_int};
 ghost use Rattle.kcall_core.specs.Observers.{descriptor_of};
-ghost use Rattle.grade_submissions.specs.Givens.{begun_by, call_of, argument_of, taken, end_thing, thing_of, thing_on, thing_named, thing_given, byte_or_none, byte_given, given_to, nothing_given, given_in};
+ghost use Rattle.grade_submissions.specs.Givens.{argument_of, taken, end_thing, thing_of, thing_on, thing_named, thing_given, byte_or_none, byte_given, given_to, nothing_given, given_in};
 
+use call_reasons::{Asked, asked_of, c_int};
 use grade_rules::{Given, Thing};
 use kernel_calls::numbers::WRITE;
 use kernel_calls::{Argument, ArgumentKind, KernelCall};
 use xk_base::limits::NOFILE;
-use xk_base::{Fd, Pid, Reg};
-use xv_machine::{Call, Descriptor, End, Machine, ProcessState, Target};
-
-/// The registers of a call's number and arguments (RISC-V Calling Conventions, "Integer Register Convention").
-const FIRST_ARGUMENT: u8 = 10;
-
-const SECOND_ARGUMENT: u8 = 11;
-
-const THIRD_ARGUMENT: u8 = 12;
-
-const CALL_NUMBER: u8 = 17;
-
-// A C int: the low 32 bits of a register, read as signed.
-fn c_int(register: u64) -> i32
-    ensures { result ≡ c_int register }
-{
-    ((register % (1 << 32)) as u32).cast_signed()
-}
-
-// The call that the registers of a live process ask for.
-fn begun_by(machine: &Machine, pid: Pid) -> Option<Call>
-    ensures { result ≡ begun_by machine.now.world pid }
-{
-    let regs = machine.registers(pid)?;
-    Some(Call {
-        number: c_int(regs.read(Reg::new(CALL_NUMBER))),
-        a0: regs.read(Reg::new(FIRST_ARGUMENT)),
-        a1: regs.read(Reg::new(SECOND_ARGUMENT)),
-        a2: regs.read(Reg::new(THIRD_ARGUMENT)),
-        moved: 0,
-        clock: machine.clock(),
-    })
-}
-
-// The call that a process is in, or else the one that it begins.
-fn call_of(machine: &Machine, pid: Pid) -> Option<Call>
-    ensures { result ≡ call_of machine.now.world pid }
-{
-    match machine.process(pid) {
-        Some(
-            ProcessState::Live {
-                call: Some(call),
-                ..
-            },
-        ) => Some(call),
-        _ => begun_by(machine, pid),
-    }
-}
+use xk_base::{Fd, Pid};
+use xv_machine::{Descriptor, End, Machine, Target};
 
 // The argument of the call of a number at a place, counted from 0, if it takes one there.
 fn argument_of(number: i32, place: usize) -> Option<Argument>
@@ -143,7 +98,7 @@ fn byte_or_none(byte: Option<u8>) -> i64
 }
 
 // The first byte that a write was given; -1 for any other call, and if there is no such byte.
-fn byte_given(machine: &Machine, pid: Pid, call: &Call) -> i64
+fn byte_given(machine: &Machine, pid: Pid, call: &Asked) -> i64
     ensures { result ≡ byte_given machine.now.world.state pid call.now }
 {
     if call.number == WRITE && c_int(call.a2) >= 1 {
@@ -153,7 +108,7 @@ fn byte_given(machine: &Machine, pid: Pid, call: &Call) -> i64
 }
 
 // What the call of a process was given.
-fn given_to(machine: &Machine, pid: Pid, call: &Call) -> Given
+fn given_to(machine: &Machine, pid: Pid, call: &Asked) -> Given
     ensures { result ≡ given_to machine.now.world.state pid call.now }
 {
     let first = argument_of(call.number, 0);
@@ -187,7 +142,7 @@ pub(crate) fn given_now(machine: &Machine) -> Given
     let Some(pid) = machine.current() else {
         return nothing_given();
     };
-    match call_of(machine, pid) {
+    match asked_of(machine, pid) {
         Some(call) => given_to(machine, pid, &call),
         None => nothing_given(),
     }

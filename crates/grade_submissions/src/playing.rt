@@ -1,5 +1,5 @@
 //! A run of what was handed in: what happened, and what was shown.
-ghost use Rattle.std.specs.Prelude.{◌≡◌, ◌+◌, ◌*◌, ◌<◌, ◌≤◌, ◌^◌, ◌++◌, ◌∷◌, [], None, ◌||◌, map, option_map, replicate, slice_get, is_some, IfOk};
+ghost use Rattle.std.specs.Prelude.{◌≡◌, ◌+◌, ◌*◌, ◌<◌, ◌≤◌, ◌^◌, ◌++◌, ◌∷◌, [], None, ◌||◌, map, option_map, Option, replicate, slice_get, is_some, IfOk};
 ghost use Rattle.std.specs.Option.{option_to_list};
 ghost use Rattle.kernel_spec.specs.runs.Run as run_events;
 ghost use Rattle.kernel_spec.specs.runs.Rounds.{round};
@@ -8,7 +8,9 @@ ghost use Rattle.xv_machine.specs.Events.{event_of, outcome_of};
 ghost use Rattle.xv_machine.specs.RoundParts.{events_of_parts};
 ghost use Rattle.xv_session.specs.Recorded.{IsRecorded};
 ghost use Rattle.grade_submissions.specs.Plays.{note_with, all_of, passed_notes, nothing, runs_in, runs_among, told_of, told_with, told_runs, last_after, idle_after, sending_after};
-ghost use Rattle.grade_submissions.specs.Plays.{is_full, is_over, PlaysOn, PlaysFirst, IsPlayed, end_of};
+ghost use Rattle.grade_submissions.specs.Plays.{is_full, is_over, PlaysOn, PlaysFirst, IsPlayed, end_of, fault_after, fault_behind, FaultKept, LastFaultKept, WorksOff};
+ghost use Rattle.kcall_core.specs.Observers.{size_of};
+ghost use Rattle.run_work.specs.Work.{cost, size_now, with_more};
 
 use crate::givens::{given_now, nothing_given};
 use grade_rules::{End, Given, Note};
@@ -151,7 +153,9 @@ fn sending_after(before: bool, outcome: &Outcome) -> bool
 }
 
 // The place of the fault that is told, behind what came of the event at a place.
-fn fault_after(before: Option<u64>, place: u64, outcome: &Outcome) -> Option<u64> {
+fn fault_after(before: Option<u64>, place: u64, outcome: &Outcome) -> Option<u64>
+    ensures { result ≡ fault_after before place (outcome_of outcome.now) }
+{
     match outcome {
         Outcome::Faulted { pid, .. } if before.is_none() || pid.number() == 1 => Some(place),
         _ => before,
@@ -164,6 +168,8 @@ impl Kept {
         ensures told { told_of result ≡ nothing }
         ensures notes { result.notes.items ≡ [] }
         ensures budget { result.budget ≡ budget }
+        ensures work { result.work ≡ 0 }
+        ensures fault { result.fault ≡ None }
     {
         Kept {
             notes: Vec::new(alloc),
@@ -197,6 +203,8 @@ impl Kept {
         ensures told { told_of self.new ≡ told_of self.old }
         ensures notes { self.new.notes.items ≡ self.old.notes.items }
         ensures budget { self.new.budget ≡ self.old.budget }
+        ensures work { self.new.work ≡ with_more self.old.work cost }
+        ensures fault { self.new.fault ≡ self.old.fault }
     {
         self.work = self.work.saturating_add(cost);
     }
@@ -207,6 +215,8 @@ impl Kept {
         ensures told { IfOk result (λ _. told_of self.new ≡ told_with (told_of self.old) sent (outcome_of outcome.now)) }
         ensures notes { self.new.notes.items ≡ self.old.notes.items }
         ensures budget { IfOk result (λ _. self.new.budget ≡ self.old.budget) }
+        ensures work { IfOk result (λ _. self.new.work ≡ self.old.work) }
+        ensures fault { IfOk result (λ _. self.new.fault ≡ fault_after self.old.fault place (outcome_of outcome.now)) }
     {
         add_bytes(&mut self.shown, outcome.shown())?;
         self.runs += u64::from(sent);
@@ -223,6 +233,8 @@ impl Kept {
         ensures told { told_of self.new ≡ told_runs (told_of self.old) sent None }
         ensures notes { self.new.notes.items ≡ self.old.notes.items }
         ensures budget { self.new.budget ≡ self.old.budget }
+        ensures work { self.new.work ≡ self.old.work }
+        ensures fault { self.new.fault ≡ self.old.fault }
     {
         self.runs += u64::from(sent);
         self.idle = false;
@@ -240,6 +252,8 @@ impl Kept {
         ensures told { IfOk result (λ _. told_of self.new ≡ told_with (told_of self.old) sent (outcome_of outcome.now)) }
         ensures notes { IfOk result (λ _. self.new.notes.items ≡ self.old.notes.items ++ all_of (note_with given (outcome_of outcome.now))) }
         ensures budget { IfOk result (λ _. self.new.budget ≡ self.old.budget) }
+        ensures work { IfOk result (λ _. self.new.work ≡ self.old.work) }
+        ensures fault { IfOk result (λ _. self.new.fault ≡ fault_after self.old.fault place (outcome_of outcome.now)) }
     {
         add_note(&mut self.notes, note_with(given, outcome))?;
         self.keep(sent, place, outcome)?;
@@ -257,6 +271,8 @@ impl Kept {
         ensures told { IfOk result (λ _. told_of self.new ≡ told_runs (told_of self.old) sent (option_map outcome_of last.now)) }
         ensures notes { IfOk result (λ _. self.new.notes.items ≡ self.old.notes.items ++ passed_notes (option_map outcome_of last.now)) }
         ensures budget { IfOk result (λ _. self.new.budget ≡ self.old.budget) }
+        ensures work { IfOk result (λ _. self.new.work ≡ self.old.work) }
+        ensures fault { IfOk result (λ _. self.new.fault ≡ fault_behind self.old.fault place (option_map outcome_of last.now)) }
     {
         match last {
             Some(outcome) => self.keep_noted(nothing_given(), sent, place, outcome),
@@ -275,6 +291,8 @@ impl Played {
         ensures plays { IfOk result (λ sent. PlaysOn (replicate sent run_events.Run) self.old self.new) }
         ensures within { IfOk result (λ sent. sent ≤ most) }
         ensures runs { IfOk result (λ sent. self.new.kept.runs ≡ self.old.kept.runs + sent) }
+        ensures work { IfOk result (λ _. self.new.kept.work ≡ self.old.kept.work) }
+        ensures fault { IfOk result (λ _. self.new.kept.fault ≡ self.old.kept.fault) }
     {
         let sent = self.session.instructions(most)?;
         if sent == 0 {
@@ -291,6 +309,9 @@ impl Played {
         requires few { sent + 1 < 2 ^ 32 }
         ensures plays { IfOk result (λ _. PlaysOn (run_events.Run ∷ []) self.old self.new) }
         ensures runs { IfOk result (λ _. self.new.kept.runs ≡ self.old.kept.runs + 1) }
+        ensures work { IfOk result (λ _. (last : Option run_events.Outcome)
+            × (self.new.kept.work ≡ with_more self.old.kept.work (cost before.now (sent + 1) self.new.session.machine.world.state.free (size_of self.new.session.machine.world.state) last))) }
+        ensures fault { IfOk result (λ _. FaultKept run_events.Run self.old self.new) }
     {
         let given = given_now(self.session.machine());
         let outcome = self.session.send(Event::Run)?;
@@ -310,6 +331,7 @@ impl Played {
         ensures some { IfOk result (λ sent. 0 < sent) }
         ensures within { IfOk result (λ sent. sent ≤ most) }
         ensures runs { IfOk result (λ sent. self.new.kept.runs ≡ self.old.kept.runs + sent) }
+        ensures work { IfOk result (λ sent. WorksOff sent self.old self.new) }
     {
         let before = Before::of(self.session.machine());
         let sent = self.go_on(most)?;
@@ -331,6 +353,8 @@ impl Played {
         ensures some { IfOk result (λ sent. 0 < sent) }
         ensures within { IfOk result (λ sent. sent ≤ most) }
         ensures runs { IfOk result (λ sent. self.new.kept.runs ≡ self.old.kept.runs + sent) }
+        ensures work { IfOk result (λ sent. WorksOff sent self.old self.new) }
+        ensures fault { IfOk result (λ _. LastFaultKept self.old self.new) }
     {
         let before = Before::of(self.session.machine());
         let runs = self.session.run(most)?;
@@ -349,6 +373,7 @@ impl Played {
         ensures some { IfOk result (λ sent. 0 < sent) }
         ensures within { IfOk result (λ sent. sent ≤ most) }
         ensures runs { IfOk result (λ sent. self.new.kept.runs ≡ self.old.kept.runs + sent) }
+        ensures work { IfOk result (λ sent. WorksOff sent self.old self.new) }
     {
         match self.session.machine().current() {
             Some(_) => self.run_process(most),
@@ -378,6 +403,8 @@ impl Played {
         requires room { self.old.kept.runs < 2 ^ 64 }
         ensures plays { IfOk result (λ _. PlaysOn (event_of event ∷ []) self.old self.new) }
         ensures runs { IfOk result (λ _. self.new.kept.runs ≡ self.old.kept.runs) }
+        ensures work { IfOk result (λ _. self.new.kept.work ≡ with_more self.old.kept.work 1) }
+        ensures fault { IfOk result (λ _. FaultKept (event_of event) self.old self.new) }
     {
         let outcome = self.session.send(event)?;
         let place = self.session.at().saturating_sub(1);
@@ -473,6 +500,7 @@ fn begin(alloc: Global, session: Session, budget: u64) -> Played
     ensures kept { told_of result.kept ≡ nothing }
     ensures notes { result.kept.notes.items ≡ [] }
     ensures budget { result.kept.budget ≡ budget }
+    ensures work { result.kept.work ≡ 0 }
     ensures recorded { IsRecorded session }
 {
     // That its events lead to where it is, is known once it is looked at.
