@@ -4,8 +4,8 @@
 //! [`attend`] does so with a session (`xv_session`), a [`Host`], which has the keyboard and the clock, and a [`Screen`].
 //! [`play`] plays the events of a record (`xv_record`). What is promised of both is `Shown` of `specs/Shown.antt`: the
 //! session keeps each event that the machine got, and what these events show, and nothing else, is on the screen, in
-//! order. A [`Recorder`] keeps the record of a session in a file while it is attended to: before each rest the file is a
-//! whole record of what the session got (`specs/Keeps.antt`).
+//! order. A [`Recorder`] keeps the record of a session in a file while it is attended to: behind each turn of the loop the
+//! file is a whole record of what the session got (`specs/Keeps.antt`). That a rest comes only after that is tested.
 //!
 //! Nothing here touches a host: what is read and written goes by the traits that the caller gives.
 #![tactic(auto)]
