@@ -13,5 +13,5 @@ page=${2-nektavoly.html} folder=${1:?a folder for the pictures}
 status=0
 tries='look lossless kept outside reach hear breaks runs lecture refused plain asked c'
 [ ! -e "$(dirname "$page")/nektavoly-c.js" ] || tries="$tries own_c"
-for try in $tries; do node try/$try.mjs "$page" "$folder" || status=1; done
+for try in $tries; do node "try/$try.mjs" "$page" "$folder" || status=1; done
 exit $status
