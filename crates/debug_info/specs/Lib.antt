@@ -1,4 +1,5 @@
 pub mod Expressions
+pub mod Frames
 pub mod Members
 pub mod Numbers
 pub mod Places

@@ -133,6 +133,11 @@ placeless_text registers (Memory address) = None
 placeless_text registers (Register number) = unless_known (registers number)
 placeless_text registers (Value number) = None
 
+-- what is told of a value whose place gives no bytes: it is nowhere, or it isn't known where
+abbrev pub told_placeless : Place → List ℕ
+told_placeless OptimizedOut = codes "<optimized out>"
+told_placeless _ = codes "<not known here>"
+
 -- a text is this one, if it is said which
 abbrev pub IsText : Option (List ℕ) → List ℕ → Type 0
 IsText None text = Unit {0}

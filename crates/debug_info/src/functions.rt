@@ -45,3 +45,8 @@ pub(crate) fn function_at(program: &Program, address: u64) -> Option<Function>
     }
     found
 }
+
+/// Whether a function of the tables has an address.
+pub fn has_function(program: &Program, address: u64) -> bool {
+    function_at(program, address).is_some()
+}

@@ -17,7 +17,7 @@ use std::alloc::{AllocError, Global};
 
 /// Where a variable is.
 #[derive(Clone, Copy, Debug, PartialEq, Eq)]
-pub(crate) enum Place {
+pub enum Place {
     /// In memory, from this address on.
     Memory(u64),
     /// In the register of this number.
@@ -139,7 +139,7 @@ impl<'a> Program<'a> {
 /// # Errors
 ///
 /// The host has too little memory.
-pub(crate) fn place_at<S: Sight>(
+pub fn place_at<S: Sight>(
     alloc: Global,
     program: &Program,
     variable: &Variable,
@@ -172,7 +172,7 @@ pub(crate) fn place_at<S: Sight>(
 
 impl Place {
     /// Where the bytes of a value there are read; `None` if it has none, or its register isn't known.
-    pub(crate) fn spot<S: Sight>(self, sight: &S) -> Option<Spot>
+    pub fn spot<S: Sight>(self, sight: &S) -> Option<Spot>
         ensures { result ≡ meant.spot_of (S.registers sight.now) self }
     {
         match self {

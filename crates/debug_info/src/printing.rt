@@ -280,6 +280,16 @@ fn placeless<S: Sight>(place: Place, sight: &S) -> Option<&'static str>
     }
 }
 
+/// What is told in place of a value whose place gives no bytes.
+pub fn placeless_text(place: Place) -> &'static str
+    ensures { result.now ≡ meant.told_placeless place }
+{
+    match place {
+        Place::OptimizedOut => OPTIMIZED_OUT,
+        _ => NOT_KNOWN,
+    }
+}
+
 /// The value of a variable that is at a place, as text in the style of GDB.
 ///
 /// # Errors
@@ -304,6 +314,21 @@ pub(crate) fn value_text<S: Sight>(
     let Some(number) = program.kind(variable.number) else {
         return String::from_str(alloc, UNKNOWN);
     };
+    spot_text(alloc, program, Kind::of(number), spot, sight)
+}
+
+/// The value of a type whose bytes begin at a place, as text in the style of GDB.
+///
+/// # Errors
+///
+/// The host has too little memory.
+pub fn spot_text<S: Sight>(
+    alloc: Global,
+    program: &Program,
+    kind: Kind,
+    spot: Spot,
+    sight: &S,
+) -> Result<String, AllocError> {
     let mut printer = Printer {
         program: *program,
         sight,
@@ -311,7 +336,7 @@ pub(crate) fn value_text<S: Sight>(
         tasks: Vec::new(alloc),
     };
     printer.tasks.push(Task::Value(Value {
-        kind: Kind::of(number),
+        kind,
         spot,
         depth: 0,
     }))?;

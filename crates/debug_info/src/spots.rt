@@ -6,7 +6,7 @@ use crate::sight::Sight;
 
 /// Where a value begins.
 #[derive(Clone, Copy)]
-pub(crate) enum Spot {
+pub enum Spot {
     /// At this address.
     Memory(u64),
     /// In a number of 8 bytes, the lowest first, after so many of them.
@@ -15,7 +15,7 @@ pub(crate) enum Spot {
 
 impl Spot {
     /// So many bytes after this.
-    pub(crate) fn after(self, bytes: u64) -> Spot
+    pub fn after(self, bytes: u64) -> Spot
         ensures { result ≡ meant.after bytes self }
     {
         match self {
@@ -25,7 +25,7 @@ impl Spot {
     }
 
     /// The byte that begins here; `None` if it isn't there.
-    pub(crate) fn byte<S: Sight>(self, sight: &S) -> Option<u8>
+    pub fn byte<S: Sight>(self, sight: &S) -> Option<u8>
         ensures { result ≡ meant.byte_at (S.bytes sight.now) self }
     {
         match self {
@@ -74,7 +74,7 @@ impl Spot {
     }
 
     /// The number in so many bytes, 8 at most, the lowest first; `None` if there are more, or one isn't there.
-    pub(crate) fn number<S: Sight>(self, sight: &S, bytes: u64) -> Option<u64>
+    pub fn number<S: Sight>(self, sight: &S, bytes: u64) -> Option<u64>
         ensures { result ≡ meant.number_at (S.bytes sight.now) self bytes }
     {
         if bytes <= 4 {

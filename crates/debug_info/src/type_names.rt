@@ -1,8 +1,9 @@
 //! Names of types, as the C language writes them (DWARF 5, section 5).
 use crate::attributes::Program;
+use crate::names::BIT_SIZE;
 use crate::tags::{
-    ARRAY, ATOMIC, CONSTANT, ENUMERATION, FUNCTION_TYPE, POINTER, RESTRICT, STRUCTURE, UNION,
-    VOLATILE,
+    ARRAY, ATOMIC, CONSTANT, ENUMERATION, ENUMERATOR, FUNCTION_TYPE, MEMBER, POINTER, RESTRICT,
+    STRUCTURE, UNION, VOLATILE,
 };
 use crate::types::Kind;
 use crate::variables::Variable;
@@ -13,6 +14,9 @@ const MOST_PARTS: u32 = 32;
 
 /// An array has no more ranges, or those after them aren't told.
 const MOST_RANGES: usize = 8;
+
+/// The members of a structure are sought among so many entries after its own.
+const MOST_INSIDE: usize = 1024;
 
 /// What stands around the name of a type.
 #[derive(Drop)]
@@ -95,9 +99,11 @@ impl<'a> Program<'a> {
         }
     }
 
-    /// Adds the lengths of an array.
-    fn add_lengths(&self, number: usize, after: &mut String) -> Result<(), AllocError> {
-        for range in 0..MOST_RANGES {
+    /// Adds the lengths of an array, from one of its ranges on.
+    fn add_lengths(&self, kind: Kind, after: &mut String) -> Result<(), AllocError> {
+        let number = kind.number;
+        let from = kind.range.min(MOST_RANGES);
+        for range in from..MOST_RANGES {
             if self.range_of(number, range).is_none() {
                 return Ok(());
             }
@@ -135,10 +141,11 @@ impl<'a> Program<'a> {
     fn add_part(
         &self,
         alloc: Global,
-        number: usize,
+        kind: Kind,
         tag: u64,
         around: &mut Around,
     ) -> Result<bool, AllocError> {
+        let number = kind.number;
         if let Some(word) = qualifier(tag) {
             if let Some(is_pointer) = self.is_of_pointer(number, tag) {
                 around.qualify(alloc, word, is_pointer)?;
@@ -149,7 +156,7 @@ impl<'a> Program<'a> {
             POINTER => around.point(alloc)?,
             ARRAY => {
                 around.bracket(alloc)?;
-                self.add_lengths(number, &mut around.after)?;
+                self.add_lengths(kind, &mut around.after)?;
             }
             FUNCTION_TYPE => {
                 around.bracket(alloc)?;
@@ -160,26 +167,42 @@ impl<'a> Program<'a> {
         Ok(true)
     }
 
-    /// The type of this number, as text.
-    fn type_of(&self, alloc: Global, number: Option<usize>) -> Result<String, AllocError> {
-        let mut around = Around {
+    /// What is declared to have a type, as text: with an empty name the type alone.
+    fn declared(
+        &self,
+        alloc: Global,
+        kind: Option<Kind>,
+        name: &str,
+    ) -> Result<String, AllocError> {
+        let around = Around {
             before: String::new(alloc),
-            after: String::new(alloc),
+            after: String::from_str(alloc, name)?,
             is_pointer: false,
         };
-        let mut at = number;
+        self.within(alloc, kind, around)
+    }
+
+    /// A type, as text, with what stands around its name.
+    fn within(
+        &self,
+        alloc: Global,
+        kind: Option<Kind>,
+        mut around: Around,
+    ) -> Result<String, AllocError> {
+        let mut at = kind;
         for _ in 0..MOST_PARTS {
-            let Some(number) = at else {
+            let Some(kind) = at else {
                 return around.named(alloc, "", "void");
             };
+            let number = kind.number;
             let Some(entry) = self.entry(number) else {
                 return around.named(alloc, "", "?");
             };
-            if !self.add_part(alloc, number, entry.tag, &mut around)? {
+            if !self.add_part(alloc, kind, entry.tag, &mut around)? {
                 let name = self.name(number).unwrap_or("{...}");
                 return around.named(alloc, word_of(entry.tag), name);
             }
-            at = self.kind(number);
+            at = self.kind(number).map(Kind::of);
         }
         around.named(alloc, "", "?")
     }
@@ -197,7 +220,111 @@ pub(crate) fn type_text(
     variable: &Variable,
 ) -> Result<String, AllocError> {
     match program.kind(variable.number) {
-        Some(number) => program.type_of(alloc, Some(number)),
+        Some(number) => kind_text(alloc, program, Kind::of(number)),
         None => String::from_str(alloc, "?"),
     }
+}
+
+/// A type, as the C language writes it.
+///
+/// # Errors
+///
+/// The host has too little memory.
+pub fn kind_text(alloc: Global, program: &Program, kind: Kind) -> Result<String, AllocError> {
+    program.declared(alloc, Some(kind), "")
+}
+
+/// The type of pointers to values of a type, as the C language writes it.
+///
+/// # Errors
+///
+/// The host has too little memory.
+pub fn pointer_text(alloc: Global, program: &Program, kind: Kind) -> Result<String, AllocError> {
+    let around = Around {
+        before: String::new(alloc),
+        after: String::from_str(alloc, "*")?,
+        is_pointer: true,
+    };
+    program.within(alloc, Some(kind), around)
+}
+
+impl<'a> Program<'a> {
+    /// Adds the line of a member.
+    fn add_member(
+        &self,
+        alloc: Global,
+        number: usize,
+        text: &mut String,
+    ) -> Result<(), AllocError> {
+        let name = self.name(number).unwrap_or("");
+        let declared = self.declared(alloc, self.kind(number).map(Kind::of), name)?;
+        let declared = declared.as_str();
+        write!(text, "    {declared}")?;
+        if let Some(bits) = self.number(number, BIT_SIZE) {
+            write!(text, " : {bits}")?;
+        }
+        text.push_str(";\n")
+    }
+
+    /// Adds what stands between the brackets of a structure, a union or an enumeration.
+    fn add_inside(
+        &self,
+        alloc: Global,
+        owner: usize,
+        depth: usize,
+        text: &mut String,
+    ) -> Result<(), AllocError> {
+        for distance in 1..=MOST_INSIDE {
+            let number = owner.saturating_add(distance);
+            let Some(entry) = self.entry(number) else {
+                return Ok(());
+            };
+            if entry.depth <= depth {
+                return Ok(());
+            }
+            if entry.depth > depth.saturating_add(1) {
+                continue;
+            }
+            match entry.tag {
+                MEMBER => self.add_member(alloc, number, text)?,
+                ENUMERATOR => {
+                    let name = self.name(number).unwrap_or("?");
+                    write!(text, "    {name},\n")?;
+                }
+                _ => (),
+            }
+        }
+        Ok(())
+    }
+}
+
+/// A type with all that it has: of a structure, a union or an enumeration what stands between its brackets, of a name of
+/// a type what it stands for.
+///
+/// # Errors
+///
+/// The host has too little memory.
+pub fn layout_text(alloc: Global, program: &Program, kind: Kind) -> Result<String, AllocError> {
+    let Some(number) = program.meant(kind.number) else {
+        return kind_text(alloc, program, kind);
+    };
+    let meant = Kind {
+        number,
+        range: kind.range,
+    };
+    let Some(entry) = program.entry(number) else {
+        return kind_text(alloc, program, meant);
+    };
+    if !matches!(entry.tag, STRUCTURE | UNION | ENUMERATION) {
+        return kind_text(alloc, program, meant);
+    }
+    let mut text = String::from_str(alloc, word_of(entry.tag))?;
+    if let Some(name) = program.name(number) {
+        text.push_str(name)?;
+        text.push_str(" ")?;
+    }
+    text.push_str("{\n")?;
+    program.add_inside(alloc, number, entry.depth, &mut text)?;
+    text.push_str("}")?;
+    Ok(text)
 }

@@ -1,4 +1,6 @@
 //! Types (DWARF 5, section 5).
+ghost use Rattle.std.specs.Prelude.{◌≡◌};
+
 use crate::attributes::Program;
 use crate::names::{BYTE_SIZE, COUNT, ENCODING, UPPER_BOUND};
 use crate::tags::{ARRAY, ATOMIC, BASE, CONSTANT, POINTER, RANGE, RESTRICT, TYPE_NAME, VOLATILE};
@@ -7,30 +9,33 @@ use crate::tags::{ARRAY, ATOMIC, BASE, CONSTANT, POINTER, RANGE, RESTRICT, TYPE_
 const MOST_NAMES: u32 = 32;
 
 /// The ranges of an array are sought among so many entries after its own.
-const MOST_RANGES: usize = 32;
+pub(crate) const MOST_RANGES: usize = 32;
 
 /// Sizes are multiplied no more often than this.
 const MOST_LEVELS: u32 = 16;
 
 /// Bytes of a pointer, if its entry doesn't tell them.
-const POINTER_SIZE: u64 = 8;
+pub const POINTER_SIZE: u64 = 8;
 
 /// A type: an entry, and of an array the number of the range that is next.
-#[derive(Clone, Copy)]
-pub(crate) struct Kind {
+#[derive(Clone, Copy, Debug, PartialEq, Eq)]
+pub struct Kind {
     pub number: usize,
     pub range: usize,
 }
 
 impl Kind {
     /// The type of an entry.
-    pub(crate) fn of(number: usize) -> Kind {
+    pub fn of(number: usize) -> Kind
+        ensures number { result.number ≡ number }
+        ensures range { result.range ≡ 0 }
+    {
         Kind { number, range: 0 }
     }
 }
 
 /// Whether a type only names or qualifies another one.
-fn is_name(tag: u64) -> bool {
+pub(crate) fn is_name(tag: u64) -> bool {
     matches!(tag, TYPE_NAME | CONSTANT | VOLATILE | RESTRICT | ATOMIC)
 }
 

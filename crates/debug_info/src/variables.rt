@@ -242,7 +242,7 @@ pub fn globals(alloc: Global, program: &Program) -> Result<Vec<Variable>, AllocE
 }
 
 /// The name of a variable; `None` if it has none, or one that is no text.
-pub(crate) fn name_of<'a>(program: &Program<'a>, variable: &Variable) -> Option<&'a str> {
+pub fn name_of<'a>(program: &Program<'a>, variable: &Variable) -> Option<&'a str> {
     program.name(variable.number)
 }
 
