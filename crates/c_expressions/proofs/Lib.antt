@@ -1,0 +1,4 @@
+pub mod Longer
+mod WorkedGrammar
+mod WorkedScopes
+mod WorkedSelection

@@ -1,0 +1,5 @@
+pub mod Behind
+pub mod Finding
+pub mod Grammar
+pub mod Scopes
+pub mod Selection

@@ -1,0 +1,292 @@
+//! What is told of variables and types, in the style of GDB (Debugging with GDB, "Examining Data" and "Examining the
+//! Symbol Table").
+use crate::asked::Asked;
+use crate::expression::Expression;
+use crate::finding::{Found, found_from, variable_named};
+use crate::parser::{ReadError, expression_of};
+use crate::refusal::Refusal;
+use crate::selection::{Subject, value_at};
+use crate::tokens::tokens_of;
+use debug_info::{
+    Frame, InfoError, Kind, Place, Program, Role, Sight, Spot, Variable, frame_at, has_function,
+    kind_text, layout_text, layouts_of, locals_at, name_of, place_at, placeless_text, pointer_text,
+    read_tables, spot_text,
+};
+use std::alloc::{AllocError, Global};
+
+/// A call of a program, with what is known of the program.
+#[derive(Clone, Copy)]
+pub struct Scene<'a, S> {
+    /// The file that has the compiler's tables.
+    pub file: &'a [u8],
+    /// Where the call stands.
+    pub address: u64,
+    /// The memory, and the registers of the call.
+    pub sight: &'a S,
+}
+
+/// A call of a program whose tables are read.
+#[derive(Clone, Copy)]
+struct Call<'a, S> {
+    program: Program<'a>,
+    frame: Frame,
+    sight: &'a S,
+}
+
+/// What is told in place of variables, if no table tells of them.
+const NO_TABLES: &str = "no function is here of which the compiler's tables tell variables\n";
+
+/// What is told in place of a type that isn't there.
+const NO_TYPE: &str = "<unknown type>";
+
+impl<'a, S: Sight> Call<'a, S> {
+    /// What an expression is about; `None` if its name is no variable's that has a type.
+    fn found(&self, alloc: Global, expression: &Expression) -> Result<Option<Found>, AllocError> {
+        let program = &self.program;
+        let address = self.frame.address;
+        let Some(variable) = variable_named(alloc, program, address, expression.name)? else {
+            return Ok(None);
+        };
+        let Some(kind) = program.type_of(&variable) else {
+            return Ok(None);
+        };
+        let place = place_at(alloc, program, &variable, &self.frame, self.sight)?;
+        let layouts = layouts_of(alloc, program)?;
+        Ok(Some(found_from(
+            &layouts,
+            self.sight,
+            kind,
+            place,
+            expression.steps.as_slice(),
+        )))
+    }
+
+    /// The text of an address: its type, and the number.
+    fn address_text(&self, alloc: Global, subject: Subject) -> Result<String, AllocError> {
+        let kind = pointer_text(alloc, &self.program, subject.kind)?;
+        let kind = kind.as_str();
+        match subject.spot {
+            Spot::Memory(address) => format!(in alloc; "({kind}) {address:#x}"),
+            Spot::Number(..) => format!(in alloc; "({kind})"),
+        }
+    }
+
+    /// The text of a value, or of an address.
+    fn value_text(&self, alloc: Global, subject: Subject) -> Result<String, AllocError> {
+        if subject.is_address {
+            return self.address_text(alloc, subject);
+        }
+        spot_text(alloc, &self.program, subject.kind, subject.spot, self.sight)
+    }
+
+    /// The text of a number in hexadecimal digits; of what is no number that of its value.
+    fn digits_text(&self, alloc: Global, subject: Subject) -> Result<String, AllocError> {
+        let number = match self.program.number_size(subject.kind) {
+            Some(size) if !subject.is_address => subject.spot.number(self.sight, size),
+            _ => None,
+        };
+        match number {
+            Some(number) => format!(in alloc; "{number:#x}"),
+            None => self.value_text(alloc, subject),
+        }
+    }
+
+    /// The text of a type of a value, or of its address.
+    fn type_text(
+        &self,
+        alloc: Global,
+        subject: Subject,
+        is_whole: bool,
+    ) -> Result<String, AllocError> {
+        if subject.is_address {
+            return pointer_text(alloc, &self.program, subject.kind);
+        }
+        self.kind_text(alloc, subject.kind, is_whole)
+    }
+
+    /// The text of a type; of a whole one with all that it has.
+    fn kind_text(&self, alloc: Global, kind: Kind, is_whole: bool) -> Result<String, AllocError> {
+        if is_whole {
+            return layout_text(alloc, &self.program, kind);
+        }
+        kind_text(alloc, &self.program, kind)
+    }
+
+    /// Adds the line of a variable.
+    fn add_line(
+        &self,
+        alloc: Global,
+        variable: &Variable,
+        text: &mut String,
+    ) -> Result<(), AllocError> {
+        let name = name_of(&self.program, variable).unwrap_or("?");
+        let place = place_at(alloc, &self.program, variable, &self.frame, self.sight)?;
+        let value = self.placed_text(alloc, self.program.type_of(variable), place)?;
+        let value = value.as_str();
+        writeln!(text, "{name} = {value}")
+    }
+
+    /// The text of the value of a type that is at a place.
+    fn placed_text(
+        &self,
+        alloc: Global,
+        kind: Option<Kind>,
+        place: Place,
+    ) -> Result<String, AllocError> {
+        let Some(spot) = place.spot(self.sight) else {
+            return String::from_str(alloc, placeless_text(place));
+        };
+        match kind {
+            Some(kind) => spot_text(alloc, &self.program, kind, spot, self.sight),
+            None => String::from_str(alloc, NO_TYPE),
+        }
+    }
+
+    /// The lines of the variables of a role; `None` if no function of the tables has the place.
+    fn lines(&self, alloc: Global, role: Role, none: &str) -> Result<Option<String>, AllocError> {
+        if !has_function(&self.program, self.frame.address) {
+            return Ok(None);
+        }
+        let mut text = String::new(alloc);
+        let variables = locals_at(alloc, &self.program, self.frame.address)?;
+        for variable in variables.as_slice() {
+            if variable.role == role {
+                self.add_line(alloc, variable, &mut text)?;
+            }
+        }
+        if text.is_empty() {
+            text.push_str(none)?;
+        }
+        Ok(Some(text))
+    }
+
+    /// The line of an expression's value; `None` if the text is no expression, or its name no variable's.
+    fn value_line(
+        &self,
+        alloc: Global,
+        text: &str,
+        is_hexadecimal: bool,
+    ) -> Result<Option<String>, AllocError> {
+        let Some(found) = self.found_of(alloc, text)? else {
+            return Ok(None);
+        };
+        let value = match found {
+            Found::Subject(subject) if is_hexadecimal => self.digits_text(alloc, subject)?,
+            Found::Subject(subject) => self.value_text(alloc, subject)?,
+            Found::Placeless(place) => String::from_str(alloc, placeless_text(place))?,
+            Found::Refused(refusal) => return refused_line(alloc, text, refusal),
+        };
+        let value = value.as_str();
+        Ok(Some(format!(in alloc; "{text} = {value}\n")?))
+    }
+
+    /// What the expression of a text is about; `None` if it is none, or its name no variable's.
+    fn found_of(&self, alloc: Global, text: &str) -> Result<Option<Found>, AllocError> {
+        match read_expression(alloc, text) {
+            Ok(expression) => self.found(alloc, &expression),
+            Err(ReadError::NoExpression) => Ok(None),
+            Err(ReadError::Memory) => Err(AllocError),
+        }
+    }
+
+    /// What the expression of a text is about, if its type is asked for: that of a variable alone is known wherever it is.
+    fn type_of(&self, alloc: Global, text: &str) -> Result<Option<Found>, AllocError> {
+        let address = self.frame.address;
+        let variable = variable_named(alloc, &self.program, address, text.as_bytes())?;
+        match variable.and_then(|it| self.program.type_of(&it)) {
+            Some(kind) => Ok(Some(Found::Subject(value_at(kind, Spot::Memory(0))))),
+            None => self.found_of(alloc, text),
+        }
+    }
+
+    /// The line of the type of an expression, or of a type by its name.
+    fn type_line(
+        &self,
+        alloc: Global,
+        text: &str,
+        is_whole: bool,
+    ) -> Result<Option<String>, AllocError> {
+        let (word, name) = text.split_once(' ').unwrap_or(("", text));
+        let kind = match self.program.type_named(word, name.trim()) {
+            Some(kind) => self.kind_text(alloc, kind, is_whole)?,
+            None => match self.type_of(alloc, text)? {
+                Some(Found::Subject(subject)) => self.type_text(alloc, subject, is_whole)?,
+                Some(Found::Placeless(place)) => String::from_str(alloc, placeless_text(place))?,
+                Some(Found::Refused(refusal)) => return refused_line(alloc, text, refusal),
+                None => return Ok(None),
+            },
+        };
+        let kind = kind.as_str();
+        Ok(Some(format!(in alloc; "type = {kind}\n")?))
+    }
+
+    /// What is told of what is asked; `None` if it is of nothing that the tables tell.
+    fn answer(&self, alloc: Global, asked: Asked) -> Result<Option<String>, AllocError> {
+        match asked {
+            Asked::Value(text) => self.value_line(alloc, text, false),
+            Asked::Hexadecimal(text) => self.value_line(alloc, text, true),
+            Asked::Locals => self.lines(alloc, Role::Local, "no local variables\n"),
+            Asked::Arguments => self.lines(alloc, Role::Argument, "no arguments\n"),
+            Asked::Type(text) => self.type_line(alloc, text, false),
+            Asked::Layout(text) => self.type_line(alloc, text, true),
+        }
+    }
+}
+
+/// The expression that a text is.
+fn read_expression(alloc: Global, text: &str) -> Result<Expression<'_>, ReadError> {
+    let tokens = tokens_of(alloc, text)?;
+    expression_of(alloc, tokens.as_slice())
+}
+
+/// The line of an expression that leads nowhere.
+fn refused_line(alloc: Global, text: &str, refusal: Refusal) -> Result<Option<String>, AllocError> {
+    Ok(Some(format!(in alloc; "{text}: {refusal}\n")?))
+}
+
+/// What is told of what is asked, if the tables tell nothing of it; `None` if something else than the tables may.
+fn told_of_nothing(alloc: Global, asked: Asked) -> Result<Option<String>, AllocError> {
+    match asked {
+        Asked::Type(text) | Asked::Layout(text) => Ok(Some(format!(in alloc;
+            "{text} is no variable and no type that is known here\n"
+        )?)),
+        Asked::Locals | Asked::Arguments => Ok(Some(String::from_str(alloc, NO_TABLES)?)),
+        _ => Ok(None),
+    }
+}
+
+/// What is told of what is asked of a program in C, by the compiler's tables in its file; `None` if that is a value of
+/// nothing that they tell.
+///
+/// # Errors
+///
+/// The host has too little memory.
+pub fn answer<S: Sight>(
+    alloc: Global,
+    scene: &Scene<S>,
+    asked: Asked,
+) -> Result<Option<String>, AllocError> {
+    match answer_by_tables(alloc, scene, asked)? {
+        Some(text) => Ok(Some(text)),
+        None => told_of_nothing(alloc, asked),
+    }
+}
+
+/// What the tables tell of what is asked; `None` if that is nothing, if there are none, or if they aren't understood.
+fn answer_by_tables<S: Sight>(
+    alloc: Global,
+    scene: &Scene<S>,
+    asked: Asked,
+) -> Result<Option<String>, AllocError> {
+    let tables = match read_tables(alloc, scene.file) {
+        Ok(tables) => tables,
+        Err(InfoError::Memory) => return Err(AllocError),
+        Err(_) => return Ok(None),
+    };
+    let call = Call {
+        program: Program::of(&tables, scene.file),
+        frame: frame_at(alloc, scene.file, scene.address, scene.sight)?,
+        sight: scene.sight,
+    };
+    call.answer(alloc, asked)
+}
