@@ -13,4 +13,5 @@ pub mod PipeText
 pub mod ProcessText
 pub mod ReasonText
 pub mod StopText
+pub mod Variables
 pub mod WhereText

@@ -18,6 +18,7 @@ use crate::processes::{show_process, show_processes, show_where};
 use crate::reasons::show_reason;
 use crate::shown_output::show_output;
 use crate::stops::{show_ahead, show_sent, show_unplayed};
+use crate::variables::told_of_c;
 use debug_views::{show_console, show_events, show_frames, show_memory, show_trace, show_value};
 use debug_words::texts::Many;
 use debug_words::{
@@ -263,6 +264,9 @@ impl Debugger {
         ensures failed { IfErr result (λ _. (session.new ≡ session.old) ⊎ DoesSome P.may_end self.old.quantum session.old session.new) }
         ensures quantum { self.new.quantum ≡ self.old.quantum }
     {
+        if self.tells_of_c(alloc, session, line, answer)? {
+            return self.answer_marked(alloc, session, Word::Nothing, patience, answer);
+        }
         match self.read(session, line) {
             Ok(word) => self.answer_marked(alloc, session, word, patience, answer),
             Err(error) => {
@@ -270,6 +274,23 @@ impl Debugger {
                 show_nameless(session, &error, answer)?;
                 Ok(Next::Stays)
             }
+        }
+    }
+
+    /// Writes what a line asks of variables or types of a program in C; `false` if it asks nothing of them that is known.
+    fn tells_of_c(
+        &self,
+        alloc: Global,
+        session: &Session,
+        line: &str,
+        answer: &mut String,
+    ) -> Result<bool, AllocError> {
+        match told_of_c(alloc, session, self.sources.as_ref(), line)? {
+            Some(told) => {
+                answer.push_str(told.as_str())?;
+                Ok(true)
+            }
+            None => Ok(false),
         }
     }
 

@@ -23,6 +23,7 @@ mod processes;
 mod reasons;
 mod shown_output;
 mod stops;
+mod variables;
 mod waits;
 
 pub use debugger::{Debugger, Next};
