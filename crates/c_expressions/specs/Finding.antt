@@ -1,6 +1,6 @@
 -- What an expression is about.
 use Rattle.std.specs.Prelude.{ℕ, List, Option, Some, None, Result, Ok, Err}
-use Rattle.debug_info.specs.Spots.{spot_of}
+use Rattle.debug_info.specs.Places.{spot_of}
 use Rattle.debug_info.specs.declared.layouts.MemberRow.{MemberRow}
 use Rattle.debug_info.specs.declared.layouts.TypeRow.{TypeRow}
 use Rattle.debug_info.specs.declared.places.Place.{Place}
