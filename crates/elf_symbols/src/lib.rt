@@ -19,5 +19,6 @@ mod table;
 
 pub use symbol::{SYMBOL_BYTES, Symbol, symbol_at};
 pub use table::{
-    address_of, function_at, function_start, section_bytes, section_named, symbol_count, symbol_name,
+    address_of, function_at, function_start, section_bytes, section_named, symbol_count,
+    symbol_name,
 };

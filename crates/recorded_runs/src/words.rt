@@ -3,9 +3,7 @@ ghost use Rattle.std.specs.Prelude.{◌≡◌, IfOk, IfSome};
 ghost use Rattle.recorded_runs.specs.Asked.{AreGiven, IsNameOf};
 
 use program_files::exit_statuses::WORDS_REFUSED;
-use program_files::{
-    CommandWord, FRAMES, Given, NumberOption, QUANTUM, ROUNDS, WordsError, words,
-};
+use program_files::{CommandWord, FRAMES, Given, NumberOption, QUANTUM, ROUNDS, WordsError, words};
 use std::io::Write;
 use std::rt::Env;
 use thiserror::Error;

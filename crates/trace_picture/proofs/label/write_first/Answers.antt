@@ -14,7 +14,7 @@ loop-letter-preserved g c = λ plain.
 
 pub returns : goal.returns
 returns g c =
-    let t = YieldsList-end (YieldsList-from_take 24 (YieldsList-from_chars c.args.program.now c.utf8.program cc) cc) 
+    let t = YieldsList-end (YieldsList-from_take 24 (YieldsList-from_chars c.args.program.now c.utf8.program cc) cc)
     c.loop-letter.yielded _ c.loop-letter.yielded_by _ _ c.in-None.is c.next.ensures.steps in
     let all : take 24 (chars c.args.program.now) ≡ c.loop-letter.yielded = sym (sym (map-id c.loop-letter.yielded) ∙ t.0) in
     rw all (search rules)
