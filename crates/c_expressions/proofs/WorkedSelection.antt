@@ -11,7 +11,7 @@ use Rattle.c_expressions.specs.Finding.{found_from}
 use Rattle.c_expressions.specs.Selection.{selected, value_at}
 use Rattle.c_expressions.specs.declared.expression.Step.TheVariants.{Member, Index, Target, Address}
 use Rattle.c_expressions.specs.declared.finding.Found.TheVariants as founds
-use Rattle.c_expressions.specs.declared.refusal.Refusal.TheVariants.{NoPointer, NoRecord, NoMember, Bits, NotThere, NoAddress, OfAddress}
+use Rattle.c_expressions.specs.declared.refusal.Refusal.TheVariants.{NoPointer, NoRecord, NoMember, NoBytes, NotThere, NoAddress, OfAddress}
 use Rattle.c_expressions.specs.declared.selection.Subject.{Subject}
 
 text : List ℕ → Bor (List ℕ)
@@ -25,7 +25,7 @@ types : List TypeRow
 types = record { kind = kind 2; shape = Record 2 } ∷ record { kind = kind 3; shape = Pointer (kind 2) 16 } ∷ record { kind = kind 4; shape = Array (kind 2) 16 } ∷ []
 
 row : (owner : ℕ) → (name : List ℕ) → Kind → (offset : ℕ) → Bool → MemberRow
-row owner name kind offset is_bits = record { owner = owner; name = text name; kind = kind; offset = offset; is_bits = is_bits }
+row owner name kind offset is_placeless = record { owner = owner; name = text name; kind = kind; offset = offset; is_placeless = is_placeless }
 
 members : List MemberRow
 members = row 2 (codes "value") (kind 1) 0 false ∷ row 2 (codes "next") (kind 3) 8 false ∷ row 2 (codes "flag") (kind 1) 0 true ∷ []
@@ -91,7 +91,7 @@ not_there : selected types members memory (Index 2 ∷ Member (text (codes "next
 unfolding list kind types members row text memory
 not_there = refl
 
-bits : selected types members memory (Index 0 ∷ Member (text (codes "flag")) ∷ []) list ≡ Err Bits
+bits : selected types members memory (Index 0 ∷ Member (text (codes "flag")) ∷ []) list ≡ Err NoBytes
 unfolding list kind types members row text
 bits = refl
 

@@ -11,7 +11,7 @@ use Rattle.debug_info.specs.declared.types.Kind.{Kind}
 use Rattle.c_expressions.specs.declared.expression.Step.{Step}
 use Rattle.c_expressions.specs.declared.expression.Step.TheVariants.{Member, Index, Target, Address}
 use Rattle.c_expressions.specs.declared.refusal.Refusal.{Refusal}
-use Rattle.c_expressions.specs.declared.refusal.Refusal.TheVariants.{NoPointer, NoRecord, NoMember, Bits, NotThere, NoAddress, OfAddress}
+use Rattle.c_expressions.specs.declared.refusal.Refusal.TheVariants.{NoPointer, NoRecord, NoMember, NoBytes, NotThere, NoAddress, OfAddress}
 use Rattle.c_expressions.specs.declared.selection.Subject.{Subject}
 
 -- ---- what the tables tell of a type
@@ -70,7 +70,7 @@ element memory Plain spot number = Err NoPointer
 
 -- the member of a row, so many bytes after the first of its structure
 abbrev pub member_by : Spot → Option MemberRow → Result Subject Refusal
-member_by spot (Some row) = if row.is_bits then Err Bits else Ok (value_at row.kind (after row.offset spot))
+member_by spot (Some row) = if row.is_placeless then Err NoBytes else Ok (value_at row.kind (after row.offset spot))
 member_by spot None = Err NoMember
 
 -- `v.name`

@@ -13,9 +13,9 @@ pub enum Refusal {
     /// The structure or the union has no member of the name.
     #[error("the structure has no such member")]
     NoMember,
-    /// The member has some bits of a number, and no address.
-    #[error("a member of some bits is told with its structure only")]
-    Bits,
+    /// The member has some bits of a number, or a place that isn't known: it has no address.
+    #[error("a member of some bits, or without a known place, is told with its structure only")]
+    NoBytes,
     /// The pointer isn't in the memory of the process.
     #[error("the pointer isn't in the memory of the process")]
     NotThere,

@@ -118,7 +118,7 @@ fn member(layouts: &Layouts, shape: Shape, spot: Spot, name: &[u8]) -> Result<Su
         return Err(Refusal::NoRecord);
     };
     match member_of(layouts, owner, name) {
-        Some(row) if row.is_bits => Err(Refusal::Bits),
+        Some(row) if row.is_placeless => Err(Refusal::NoBytes),
         Some(row) => Ok(value_at(row.kind, spot.after(row.offset))),
         None => Err(Refusal::NoMember),
     }

@@ -3,7 +3,7 @@
 //! The tables are read once. After that, which part of a value is where follows from the rows alone.
 use crate::attributes::Program;
 use crate::entry::Entry;
-use crate::names::{BIT_SIZE, MEMBER_PLACE};
+use crate::members::MemberPlace;
 use crate::tags::{ARRAY, BASE, ENUMERATION, MEMBER, POINTER, STRUCTURE, TYPE_NAME, UNION};
 use crate::types::{Kind, MOST_RANGES, is_name};
 use crate::variables::Variable;
@@ -43,10 +43,11 @@ pub struct MemberRow<'a> {
     pub name: &'a [u8],
     /// Its type.
     pub kind: Kind,
-    /// How many bytes stand before it.
+    /// How many bytes stand before it; 0 if that isn't known.
     pub offset: u64,
-    /// Whether it has some bits of a number, and no bytes of its own.
-    pub is_bits: bool,
+    /// Whether it has no bytes of its own whose place is known: it has some bits of a number, or the tables tell its place
+    /// in a way that isn't read.
+    pub is_placeless: bool,
 }
 
 /// What the tables tell of types.
@@ -99,12 +100,16 @@ impl<'a> Program<'a> {
 
     /// The member of an entry.
     fn member_row(&self, owner: usize, number: usize) -> Option<MemberRow<'a>> {
+        let (offset, is_placeless) = match self.member_place(number) {
+            MemberPlace::Bytes(offset) => (offset, false),
+            MemberPlace::Bits(_) | MemberPlace::NotRead => (0, true),
+        };
         Some(MemberRow {
             owner,
             name: self.name(number)?.as_bytes(),
             kind: Kind::of(self.kind(number)?),
-            offset: self.number(number, MEMBER_PLACE).unwrap_or(0),
-            is_bits: self.number(number, BIT_SIZE).is_some(),
+            offset,
+            is_placeless,
         })
     }
 
