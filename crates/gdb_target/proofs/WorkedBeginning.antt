@@ -1,5 +1,5 @@
 -- Worked cases: where GDB begins, and with which program.
-use Rattle.std.proofs.Common.{◌≡◌, ℕ, List, [], ◌∷◌, None, Some, true, false, refl, arith}
+use Rattle.std.proofs.Common.{◌≡◌, [], ◌∷◌, None, Some, true, false, refl, arith}
 use Rattle.std.specs.Prelude.{codes}
 use Rattle.std.specs.Fmt.{digits}
 use Rattle.xk_base.specs.declared.program.Program.{Program}

@@ -102,9 +102,8 @@ pub record IsFresh (t : Target) : Type 0 where
   pub noted : t.noted ≡ length t.run.session.events
   pub told : t.told ≡ None
 
--- A target of this run, which is told to have stopped for no other reason than a trap, at a process that lives; GDB knows the program by the file of this path
-pub record IsTakenUp (run : Played) (program : ℕ) (path : List ℕ) (most : ℕ) (t : Target) : Type 0 where
-  pub run_is : t.run ≡ run
+-- A target that is told to have stopped for no other reason than a trap, at a process that lives; GDB knows the program by the file of this path
+pub record IsTakenUp (program : ℕ) (path : List ℕ) (most : ℕ) (t : Target) : Type 0 where
   pub program_is : t.program ≡ program
   pub path_is : string_bytes t.path ≡ path
   pub most_is : t.most ≡ most
@@ -115,9 +114,8 @@ pub record IsTakenUp (run : Played) (program : ℕ) (path : List ℕ) (most : �
 
 -- The target of a run with this beginning, at the place at which GDB begins
 pub record IsTargetOf (begin : Beginning) (most : ℕ) (t : Target) : Type 0 where
-  pub run : Played
-  pub begins : Begins begin.frames (map named_file begin.programs.items) begin.plan begin.place run
-  pub taken_up : IsTakenUp run begin.file.program (string_bytes begin.file.path) most t
+  pub begins : Begins begin.frames (map named_file begin.programs.items) begin.plan begin.place t.run
+  pub taken_up : IsTakenUp begin.file.program (string_bytes begin.file.path) most t
 
 -- It is that of a record, which some text has; each of its programs is that of the first FILE with the name
 pub record IsReplayed (settings : Settings) (at : Option ℕ) (rounds : Rounds) (t : Target) : Type 0 where

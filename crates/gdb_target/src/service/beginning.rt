@@ -4,7 +4,7 @@ ghost use Rattle.std.specs.Io.KnownBytes.{Appends};
 ghost use Rattle.kernel_spec.specs.views.State.{named_file};
 ghost use Rattle.recorded_runs.specs.Places.{paths_at, places_of};
 ghost use Rattle.xv_live.specs.Plays.{events_of_lines};
-ghost use Rattle.gdb_target.specs.Beginning.{AreKeys, Begins, IsAtBoot, IsBeginningOf, IsBegun, IsBeyond, IsPlaceIn, IsReplayed};
+ghost use Rattle.gdb_target.specs.Beginning.{AreKeys, Begins, IsAtBoot, IsBeginningOf, IsBegun, IsBeyond, IsBooted, IsPlaceIn, IsReplayed};
 ghost use Rattle.gdb_target.specs.Beginning.{IsKnownBy, IsTakenUp, IsTargetOf, end_note, first_other, known, line_typed, note_of};
 
 use crate::plan::Plan;
@@ -246,7 +246,8 @@ fn begun(
 
 /// The target of a run, at the place at which it stands. GDB looks first at the process that runs, or at one that lives.
 fn taken_up(alloc: Global, run: Played, program: usize, path: String, most: u32) -> Target
-    ensures { IsTakenUp run program (string_bytes path) most result }
+    ensures run { result.run ≡ run }
+    ensures taken_up { IsTakenUp program (string_bytes path) most result }
 {
     let mut target = Target::new(alloc, run, program, path, most);
     let stopped = target.stop_here(StopReason::Trap);
@@ -308,6 +309,19 @@ fn replayed<'a>(
     Ok(target)
 }
 
+/// The target of the FILEs, at their boot.
+fn booted<'a, R: Files + AllocGlobal>(
+    rt: &R,
+    settings: &'a Settings,
+    rounds: Rounds,
+) -> Result<Target, Failure<'a>>
+    ensures { IfOk result (λ t. IsBooted settings.now rounds t) }
+{
+    let begin = in_rounds(rt, settings, rounds)?;
+    let target = target_of(rt.alloc(), begin, settings.most)?;
+    Ok(target)
+}
+
 /// The machine of the settings, at the place at which GDB begins.
 ///
 /// # Errors
@@ -320,12 +334,10 @@ pub(crate) fn begin<'a>(
 ) -> Result<Target, Failure<'a>>
     ensures { IfOk result (λ t. IsBegun settings.now replay.entry t) }
 {
-    let rounds = Rounds::new(keys(rt, settings)?, settings.quantum);
+    let keys = keys(rt, settings)?;
+    let rounds = Rounds::new(keys, settings.quantum);
     match replay {
         Some(replay) => replayed(rt, settings, &replay, rounds),
-        None => {
-            let begin = in_rounds(rt, settings, rounds)?;
-            target_of(rt.alloc(), begin, settings.most)
-        }
+        None => booted(rt, settings, rounds),
     }
 }

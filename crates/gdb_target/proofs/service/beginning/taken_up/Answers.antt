@@ -7,12 +7,14 @@ use Rattle.gdb_target.specs.declared.target.Target.{Target}
 use Rattle.gdb_target.proofs.Fresh.{fresh-still}
 use Rattle.gdb_target.proofs.service.beginning.taken_up.Goals as goal
 
-pub returns : goal.returns
-returns c =
+pub returns-clause-run : goal.returns-clause-run
+returns-clause-run c = ap (λ (t : Target). t.run) c.stop_at.ensures.rest ∙ c.new-target.ensures.run
+
+pub returns-clause-taken_up : goal.returns-clause-taken_up
+returns-clause-taken_up c =
     let at = c.stop_at.ensures in
     let new = c.stop_at.new.self in
     record {
-      run_is = ap (λ (t : Target). t.run) at.rest ∙ c.new-target.ensures.run;
       program_is = ap (λ (t : Target). t.program) at.rest ∙ c.new-target.ensures.program;
       path_is = ap (λ (t : Target). string_bytes t.path) at.rest ∙ ap string_bytes c.new-target.ensures.path;
       most_is = ap (λ (t : Target). t.most) at.rest ∙ c.new-target.ensures.most;
