@@ -12,8 +12,6 @@ use Rattle.xv_machine.specs.Reached.{IsReached}
 use Rattle.xv_machine.specs.Sound.{IsHalted}
 use Rattle.xv_session.specs.Recorded.{IsRecorded, Recorded}
 use Rattle.xv_session.proofs.AtBoot.{first-lives}
-use Rattle.gdb_target.specs.SameRun.{IsBeforeEnd, ended_with}
-use Rattle.gdb_target.specs.declared.played.Played.{Played}
 
 -- ---- at the boot
 
@@ -24,7 +22,8 @@ lives-on s turns (Some status) halted lives ended =
     let gone : is_some (live s 1) ≡ false = ap (λ (p : Option Process). is_some (live_part p)) halted.0 in
     false≢true (sym gone ∙ lives)
 
-no-event : (frames trace : ℕ) (programs : List ProgramFile) (m : Meaning) (list : List (Event × Outcome)) → IsReached frames trace programs list m → events list ≡ [] → is_some m.world.turns.halted ≡ true → ⊥
+no-event : (frames trace : ℕ) (programs : List ProgramFile) (m : Meaning) (list : List (Event × Outcome)) → IsReached frames trace programs list m
+    → events list ≡ [] → is_some m.world.turns.halted ≡ true → ⊥
 no-event frames trace programs m [] (booted, is, count, sound, empty, goes) none ended =
     lives-on booted.world.state booted.world.turns booted.world.turns.halted sound.halted (first-lives frames trace programs booted is sound)
     (ap (λ (w : World). is_some w.turns.halted) (sym goes.run) ∙ ended)
@@ -37,9 +36,3 @@ ended-later s (list, those, reached, named) ended = by s.events those
     by : (wanted : List Event) → events list ≡ wanted → 0 < length wanted
     by [] none = absurd (no-event s.frames s.trace s.programs s.machine list reached none ended)
     by (e ∷ es) some = omega arith
-
--- ---- worked cases
-
--- a run in which process 1 has ended isn't before its end
-ended-is-not-before : (run : Played) → IsSome (ended_with run) → IsBeforeEnd run → ⊥
-ended-is-not-before run ended before = false≢true (sym (ap is_some before.goes_on) ∙ ended)

@@ -17,6 +17,7 @@ pub mod Stood
 pub mod Watching
 mod WorkedBefore
 mod WorkedBeginning
+mod WorkedEnds
 mod WorkedLetRun
 mod WorkedRecord
 mod WorkedRows
