@@ -18,7 +18,7 @@ play_times-requires g c = c.parts.invariant.played.goes.sound
 pub parts-preserved : goal.parts-preserved
 parts-preserved g c =
     let e = event_of c.args.event in
-    let n = c.at_once-now.now in
+    let n = c.at_once-now.result in
     let same : n ≡ c.from-left.result = omega (arith, c.from-left.ensures) in
     record {
       within = omega (arith, c.parts.invariant.within);
@@ -32,7 +32,7 @@ parts-preserved g c =
 pub returns-in_default-clause-plays : goal.returns-in_default-clause-plays
 returns-in_default-clause-plays g c =
     let e = event_of c.args.event in
-    let n = c.at_once-now.now in
+    let n = c.at_once-now.result in
     often-broke e c.args.count c.parts.left n _ _ _ _ _ _ c.parts.invariant.within c.at_once-now.ensures.within c.parts.invariant.played
     (broke-of (replicate n e) _ _ _ _ c.in_ok-written.written _ c.in_default.is c.in_ok-written.ensures.plays)
 
@@ -45,5 +45,5 @@ returns-clause-plays g c =
 pub returns-in_err-written-clause-refused : goal.returns-in_err-written-clause-refused
 returns-in_err-written-clause-refused g c =
     if-err c.from_residual.result
-    (first-more (event_of c.args.event) c.args.count c.parts.left c.at_once-now.now _ _ _ _ _ _ c.parts.invariant.within c.at_once-now.ensures.within c.parts.invariant.played
+    (first-more (event_of c.args.event) c.args.count c.parts.left c.at_once-now.result _ _ _ _ _ _ c.parts.invariant.within c.at_once-now.ensures.within c.parts.invariant.played
     c.in_err-written.ensures.refused)
