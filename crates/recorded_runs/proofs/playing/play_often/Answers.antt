@@ -22,8 +22,8 @@ parts-preserved g c =
     let same : n ≡ c.from-left.result = omega (arith, c.from-left.ensures) in
     record {
       within = omega (arith, c.parts.invariant.within);
-      played = subst (λ (k : ℕ). Played (replicate (c.args.count - (c.parts.left - k)) e) (g.P.RoundPlayer.machine c.args.player.now) (g.P.RoundPlayer.machine c.play_times-written.new.player)
-          (g.W.ByteSink.sink c.args.sink.now) (g.W.ByteSink.sink c.play_times-written.new.sink)) same
+      played = subst (λ (k : ℕ). Played (replicate (c.args.count - (c.parts.left - k)) e) (g.P.RoundPlayer.machine c.args.player.now) (g.P.RoundPlayer.machine c.play_times.new.player)
+          (g.W.ByteSink.sink c.args.sink.now) (g.W.ByteSink.sink c.play_times.new.sink)) same
           (often-more e c.args.count c.parts.left n _ _ _ _ _ _ c.parts.invariant.within c.at_once-now.ensures.within c.parts.invariant.played
           (played-of (replicate n e) _ _ _ _ c.in_ok-written.written _ c.in-Ok.is c.in_ok-written.ensures.plays));
       failures = search rules;
