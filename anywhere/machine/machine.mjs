@@ -25,6 +25,7 @@ const ROOM = 65536, ROOM_SIZE = BigInt(ROOM);
 const ECHO = 384n;
 const FILE = 1048576 + 65536;
 const SLOTS = 64; // of processes
+const SUM = 32; // bytes of a SHA-256
 const TYPED = 128; // bytes that the console holds of what was typed
 
 /** A refusal to boot, as `xv_page_boot` tells it, in xv_run's words; null where there is a machine. */
@@ -484,6 +485,15 @@ export class Machine {
     const lines = this.rows(line, () => ({ line: this.count(0), start: this.u64(8), end: this.u64(16) }));
     const names = this.rows(label, () => ({ name: this.text(room, this.u64(8)), address: this.u64(0) }));
     return { lines, names };
+  }
+
+  /** The SHA-256 of bytes, in hexadecimal digits. */
+  sum(bytes) {
+    const from = this.put(bytes);
+    this.calls.xv_page_sum(from, BigInt(bytes.length), this.told);
+    this.view();
+    this.calls.page_give(from);
+    return Array.from(this.bytes.subarray(this.at, this.at + SUM), (it) => it.toString(16).padStart(2, "0")).join("");
   }
 
   /** { file, lines, names } or { line, kind }: what is wrong with the first line that is refused. */

@@ -33,6 +33,7 @@ import * as your_runs from "./your_runs.mjs";
 import * as frame from "./frame.mjs";
 import * as beside from "./beside.mjs";
 import * as pictures from "./pictures.mjs";
+import * as sums from "./sums.mjs";
 import { problem } from "./messages.mjs";
 import { is_booted, is_embedded, short_place } from "./place_links.mjs";
 import { calls_in_words } from "../../anywhere/machine/event_words.mjs";
@@ -107,6 +108,7 @@ function heard({ data }) {
   else if (data.refused) programs.refused(data.refused);
   else if (data.replayed) tell("replayed", data.replayed);
   else if (data.assembled) tell("assembled", data.assembled);
+  else if (data.summed) tell("summed", data.summed);
   else if (data.events_told) tell("events told", data.events_told);
   else if (data.round) tell("round told", data.round);
   else if (data.last_told) tell("last told", data.last_told);
@@ -239,7 +241,7 @@ async function first_machine() {
 const PARTS = {
   messages, terminal, editor, works, time, breaks, processes, instruction, c_source, c_variables, c_programs, pages, descriptors, why,
   programs, sharing, lessons, session, happened, missing_stretches, translate, manual, slides, first_minute,
-  your_runs, frame, pictures, beside,
+  your_runs, frame, pictures, beside, sums,
 };
 
 function begin() {

@@ -5,7 +5,7 @@ import { ENDING_WORDS, RECORD_BEGINNING, record_in, record_text } from "../../an
 import { beginning_of, spans_of } from "../../anywhere/machine/events.mjs";
 import { bytes_of_file, packed_file, touch, unpacked_file } from "./works.mjs";
 import { problem } from "./messages.mjs";
-import { sha256 } from "./sha256.mjs";
+import { sha256 } from "./sums.mjs";
 import { copied_words, copy_field } from "./clipboard.mjs";
 import { MOST_EVENTS, Refusal, SLIDES_BEGINNING, keys_of, shared_of, unpacked_value } from "./outside.mjs";
 import { arrive, follow_place, is_booted, is_slide, read_link, seen_now, short_place } from "./place_links.mjs";

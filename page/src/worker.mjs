@@ -449,6 +449,7 @@ const obey = {
     const made = machine.assemble(text);
     postMessage({ assembled: { id, ...made, ...(made.file ? {} : all_mistakes(text, first_mistake)) } });
   },
+  sum({ bytes, id }) { postMessage({ summed: { id, sum: machine.sum(bytes) } }); },
   record() {
     const files = run.files.map(({ name, bytes }) => ({ name, bytes }));
     postMessage({ record: { config: run.config, files, spans: run.events.spans() } });
@@ -492,7 +493,7 @@ function safely(action) {
 // What a search goes on beside.
 const ASIDE = new Set([
   "look", "assemble", "breaks", "tell_events", "round", "last_of", "stretches", "explain", "calls", "record",
-  "settings", "variables",
+  "settings", "sum", "variables",
 ]);
 
 onmessage = ({ data }) => {

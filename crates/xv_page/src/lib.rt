@@ -17,6 +17,7 @@ mod reading;
 mod reasons;
 mod reports;
 mod root;
+mod sums;
 mod texts;
 mod variables;
 mod views;

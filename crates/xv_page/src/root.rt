@@ -12,6 +12,7 @@ use crate::reasons::xv_page_reason;
 use crate::reports::{
     xv_page_fault, xv_page_kill, xv_page_know, xv_page_refused, xv_page_source, xv_page_wait,
 };
+use crate::sums::xv_page_sum;
 use crate::texts::{Assembled, xv_page_assemble, xv_page_instruction};
 use crate::variables::{CallAsked, RegisterKnown, xv_page_variables};
 use crate::views::{Facts, descriptor_told, pipe_told, process_told, use_told, word_told};
@@ -107,6 +108,8 @@ fn read(alloc: Global, source: &[u8], number: u32, bytes: &mut [u8]) {
         number: 0,
         length: 0,
     };
+    let mut sum = [0; 32];
+    xv_page_sum(source, &mut sum);
     xv_page_assemble(alloc, source, bytes, &mut table, &mut answer);
     xv_page_line(&table, 7, &mut line);
     xv_page_label(&table, 7, &mut label, bytes);
