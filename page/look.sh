@@ -11,7 +11,7 @@ command -v node >/dev/null || { echo "look.sh: there is no node: apt-get install
 command -v $browser >/dev/null || { echo "look.sh: there is no $browser: apt-get install $browser" >&2; exit 2; }
 page=${2-nektavoly.html} folder=${1:?a folder for the pictures}
 status=0
-tries='look lossless kept outside reach hear breaks runs lecture refused plain asked c'
+tries='look lossless kept outside reach hear breaks runs lecture refused plain asked writing c'
 [ ! -e "$(dirname "$page")/nektavoly-c.js" ] || tries="$tries own_c"
 for try in $tries; do node "try/$try.mjs" "$page" "$folder" || status=1; done
 exit $status

@@ -9,6 +9,7 @@ import { check } from "./c_programs.mjs";
 import { coloured_c, lines_in_comments } from "./c_colours.mjs";
 import { mistake_words } from "../../anywhere/machine/assembler_mistakes.mjs";
 import { changed_back, note } from "./undo.mjs";
+import { closing_brace, commented, further_in, further_out, new_line } from "./source_edits.mjs";
 import { moved } from "../../anywhere/machine/line_stops.mjs";
 
 const LINE = 18, ABOVE = 8; // pixels: the height of a line, and what is free above the first (style.css has both)
@@ -127,7 +128,11 @@ function draw() {
   ink.innerHTML = rows;
   gutter.innerHTML = numbers.join("");
   for (const it of [ink, gutter]) it.style.paddingTop = `${ABOVE + LINE * from}px`;
+  tell("source drawn");
 }
+
+/** The lines of the source, and those that are drawn: {from, to} of their places, and the element of each. */
+export const drawn_lines = () => ({ ...state.rows, lines: state.lines, rows: $("editor").querySelector(".ink").children });
 
 /** Draws what has come into sight. */
 function scrolled() {
@@ -227,13 +232,34 @@ function go_to(line) {
   reveal(line);
 }
 
-/** Writes another text in a line's place, as if it were typed: so undo takes it back. */
-function write_line(line, text) {
-  const { from, to } = letters_of(line), source = $("source");
-  go_to(line);
-  if (document.execCommand(text ? "insertText" : "delete", false, text)) return;
-  source.setRangeText(text, from, to, "end");
+/** Writes a text in the place of what is chosen, as if it were typed: so undo takes it back. */
+function write(text) {
+  const source = $("source");
+  if (document.activeElement === source && document.execCommand(text ? "insertText" : "delete", false, text)) return;
+  source.setRangeText(text, source.selectionStart, source.selectionEnd, "end");
   edited();
+}
+
+/** Writes another text in a line's place. */
+function write_line(line, text) {
+  go_to(line);
+  write(text);
+}
+
+/** Chooses letters of the source, and scrolls to them. */
+export function choose(from, to) {
+  $("source").setSelectionRange(from, to);
+  reveal(state.lines.length > 1 ? $("source").value.slice(0, from).split("\n").length : 1);
+}
+
+/** Makes a change of the source, if there is one, and chooses what it says; whether there was one. */
+export function make(change) {
+  if (!change || $("source").readOnly) return false;
+  const { from, to, text, chosen } = change, source = $("source");
+  source.setSelectionRange(from, to);
+  if (source.value.slice(from, to) !== text) write(text);
+  choose(...chosen);
+  return true;
 }
 
 /** Takes where the lines of the source lie; null while that isn't known. */
@@ -358,6 +384,22 @@ function undo_of_key({ key, ctrlKey, metaKey, shiftKey, altKey }) {
   return { is_redo: letter === "y" || shiftKey };
 }
 
+/** Whether a key means to look for words: Ctrl F. */
+const is_search = ({ key, ctrlKey, metaKey, altKey }) => (ctrlKey || metaKey) && !altKey && key.toLowerCase() === "f";
+
+/** What a key changes in the source; null if it is typed as it is. */
+function change_of_key({ key, ctrlKey, metaKey, altKey, isComposing }) {
+  const { value, selectionStart: from, selectionEnd: to } = $("source"), { file } = state, is_c_text = is_c(file);
+  if (isComposing || altKey || !(is_c_text || is_source(file))) return null;
+  if (ctrlKey || metaKey) {
+    if (key === "]") return further_in(value, from, to);
+    if (key === "[") return further_out(value, from, to);
+    return key === "/" ? commented(value, from, to, is_c_text ? "//" : "#") : null;
+  }
+  if (key === "Enter") return new_line(value, from, to, is_c_text);
+  return key === "}" && is_c_text ? closing_brace(value, from, to) : null;
+}
+
 /** The first mistake in words, and how many more there are. */
 function words_of_mistakes({ line, kind, mistakes, more }) {
   const others = mistakes.length - 1, words = mistake_words({ line, kind }, state.lines.join("\n"));
@@ -422,6 +464,8 @@ export function start() {
     const asked = undo_of_key(event);
     if (asked) { event.preventDefault(); undo(asked.is_redo); }
     if (event.key === "F9") { event.preventDefault(); break_at_caret(); }
+    if (is_search(event)) { event.preventDefault(); tell("search"); }
+    if (make(change_of_key(event))) event.preventDefault();
   });
   box.addEventListener("scroll", scrolled, { passive: true });
   box.querySelector(".gutter").addEventListener("click", ({ target }) => {

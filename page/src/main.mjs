@@ -7,6 +7,7 @@ import { LastNames } from "../../anywhere/machine/program_names.mjs";
 import { EventsText, with_room } from "../../anywhere/machine/events.mjs";
 import * as terminal from "./terminal.mjs";
 import * as editor from "./editor.mjs";
+import * as source_search from "./source_search.mjs";
 import * as works from "./works.mjs";
 import * as programs from "./programs.mjs";
 import * as sharing from "./sharing.mjs";
@@ -239,9 +240,9 @@ async function first_machine() {
 }
 
 const PARTS = {
-  messages, terminal, editor, works, time, breaks, processes, instruction, c_source, c_variables, c_programs, pages, descriptors, why,
-  programs, sharing, lessons, session, happened, missing_stretches, translate, manual, slides, first_minute,
-  your_runs, frame, pictures, beside, sums,
+  messages, terminal, editor, source_search, works, time, breaks, processes, instruction, c_source, c_variables,
+  c_programs, pages, descriptors, why, programs, sharing, lessons, session, happened, missing_stretches, translate,
+  manual, slides, first_minute, your_runs, frame, pictures, beside, sums,
 };
 
 function begin() {

@@ -79,7 +79,7 @@ export async function open(url, { width = 1400, height = 900, dark = false, mobi
     },
     async key(key, { shift = false, control = false } = {}) {
       const special = { Enter: 13, Backspace: 8, Escape: 27, Tab: 9, ArrowLeft: 37, ArrowUp: 38, ArrowRight: 39, ArrowDown: 40, Home: 36, F9: 120, " ": 32 };
-      const modifiers = (control ? 2 : 0) + (shift ? 8 : 0), code = special[key] ?? key.toUpperCase().charCodeAt(0), text = control ? undefined : key === "Enter" ? "\r" : key.length === 1 ? key : undefined;
+      const modifiers = (control ? 2 : 0) + (shift ? 8 : 0), code = special[key] ?? (/^[a-z0-9]$/i.test(key) ? key.toUpperCase().charCodeAt(0) : 0), text = control ? undefined : key === "Enter" ? "\r" : key.length === 1 ? key : undefined;
       await send("Input.dispatchKeyEvent", { type: text ? "keyDown" : "rawKeyDown", key, text, modifiers, windowsVirtualKeyCode: code });
       await send("Input.dispatchKeyEvent", { type: "keyUp", key, modifiers, windowsVirtualKeyCode: code });
     },
