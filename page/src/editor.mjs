@@ -132,7 +132,9 @@ function draw() {
 }
 
 /** The lines of the source, and those that are drawn: {from, to} of their places, and the element of each. */
-export const drawn_lines = () => ({ ...state.rows, lines: state.lines, rows: $("editor").querySelector(".ink").children });
+export function drawn_lines() {
+  return { ...state.rows, lines: state.lines, rows: $("editor").querySelector(".ink").children };
+}
 
 /** Draws what has come into sight. */
 function scrolled() {

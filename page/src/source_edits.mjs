@@ -1,6 +1,7 @@
 // What keys do to a source: a new line begins below the code before it, lines are moved in and out or made comments,
-// a bracket finds its partner, and words are found. Each function takes a text and places in it. A change is {from, to, text,
-// chosen}: `text` takes the place of what stands from `from` to `to`, and `chosen` are the two ends of what is selected then.
+// a bracket finds its partner, and words are found. Each function takes a text and places in it. A change is {from, to,
+// text, chosen}: `text` takes the place of what stands from `from` to `to`, and `chosen` are the two ends of what is
+// selected then.
 const USUAL_STEP = "    ", WIDEST_STEP = 8;
 const OPENING = "([{", CLOSING = ")]}";
 const IN_C = /\/\/.*|\/\*[\s\S]*?(?:\*\/|$)|"(?:\\.|[^"\\\n])*"?|'(?:\\.|[^'\\\n])*'?|[()[\]{}]/g;
@@ -12,7 +13,7 @@ const end_of_line = (text, at) => (text.indexOf("\n", at) < 0 ? text.length : te
 const blanks_of = (line) => /^[ \t]*/.exec(line)[0];
 const is_blank = (line) => !/[^ \t]/.test(line);
 
-/** By what a block of this text stands further in: a tab if a line begins with one, else the fewest blanks, two at least. */
+/** By what a block of this text stands further in: a tab if a line begins with one, else the fewest blanks of a line. */
 export function step_of(text) {
   const indents = [...text.matchAll(/^([ \t]+)[^\s#/*]/gm)].map(([, blanks]) => blanks);
   if (indents.some((it) => it.startsWith("\t"))) return "\t";
@@ -27,7 +28,7 @@ function brackets_of(text, is_c) {
     .map(({ 0: letter, index: at }) => ({ at, letter }));
 }
 
-/** The pairs of brackets of a text, as a map from each place to the other one's; a bracket that has none leads to null. */
+/** The pairs of brackets of a text: a map from each place to its partner's, or to null if there is none. */
 function pairs_of(text, is_c) {
   const open = [], pairs = new Map();
   for (const { at, letter } of brackets_of(text, is_c)) {
@@ -55,7 +56,8 @@ function opens_block(line, is_c) {
 
 /** A new line in the place of what is chosen: it begins below the code before it, and further in if a block begins. */
 export function new_line(text, from, to, is_c) {
-  const begin = begin_of_line(text, from), before = text.slice(begin, from), after = text.slice(to, end_of_line(text, to));
+  const begin = begin_of_line(text, from), before = text.slice(begin, from);
+  const after = text.slice(to, end_of_line(text, to));
   const blanks = blanks_of(before), opens = opens_block(before, is_c), inner = opens ? blanks + step_of(text) : blanks;
   const closes = is_c && opens && after.trimStart().startsWith("}");
   const start = is_blank(before) ? begin : from, caret = start + 1 + inner.length;
@@ -63,7 +65,7 @@ export function new_line(text, from, to, is_c) {
   return { from: start, to: to + blanks_of(after).length, text: made, chosen: [caret, caret] };
 }
 
-/** A closing brace of C that is typed first on its line stands below the line of its partner; null if it isn't first. */
+/** A closing brace of C that is typed first on its line stands below its partner's line; null if it isn't first. */
 export function closing_brace(text, from, to) {
   const begin = begin_of_line(text, from);
   if (!is_blank(text.slice(begin, from))) return null;

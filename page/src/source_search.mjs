@@ -42,7 +42,8 @@ function mark_of(row, from, to, name) {
 function marked() {
   const { value, selectionStart: from, selectionEnd: to } = source();
   if (search.is_open) {
-    return search.places.map((at, k) => ({ at, length: words().length, name: k === search.at ? "found chosen" : "found" }));
+    const { length } = words(), name_of = (k) => (k === search.at ? "found chosen" : "found");
+    return search.places.map((at, k) => ({ at, length, name: name_of(k) }));
   }
   if (document.activeElement !== source() || from !== to || value.length > MOST_LETTERS) return [];
   const pair = brackets_at(value, from, is_c(opened()));
@@ -59,7 +60,9 @@ function draw_marks() {
   for (let line = 0; wanted.length && line < Math.min(to, lines.length); line++) {
     const end = begin + lines[line].length, column = begin;
     const here = line < from ? [] : wanted.filter(({ at }) => at >= column && at < end);
-    for (const { at, length, name } of here) made.push(...mark_of(rows[line - from], at - column, at - column + length, name));
+    for (const { at, length, name } of here) {
+      made.push(...mark_of(rows[line - from], at - column, at - column + length, name));
+    }
     begin = end + 1;
   }
   $("editor").querySelector(".marks").replaceChildren(...made);
@@ -141,8 +144,11 @@ function replace_all() {
 export function start() {
   $("search").addEventListener("submit", (event) => { event.preventDefault(); go(1); });
   $("search").addEventListener("keydown", (event) => {
-    if (event.key === "Escape") { event.preventDefault(); close(); }
-    if (event.key === "Enter" && event.shiftKey && event.target === $("search-words")) { event.preventDefault(); go(-1); }
+    const goes_back = event.key === "Enter" && event.shiftKey && event.target === $("search-words");
+    if (event.key !== "Escape" && !goes_back) return;
+    event.preventDefault();
+    if (goes_back) go(-1);
+    else close();
   });
   $("search-words").addEventListener("input", () => find(source().selectionStart));
   $("search-back").addEventListener("click", () => go(-1));

@@ -1,5 +1,5 @@
-// Tries what keys do to a source: node source_edits.mjs. In a text `|` is where the caret stands, or the two ends of what is
-// chosen. The status is 1 if a text isn't as it should be.
+// Tries what keys do to a source: node source_edits.mjs. In a text `|` is where the caret stands, or the two ends of
+// what is chosen. The status is 1 if a text isn't as it should be.
 import {
   brackets_at, closing_brace, commented, further_in, further_out, new_line, places_of_words, step_of,
 } from "../src/source_edits.mjs";

@@ -1,6 +1,6 @@
-// writing.mjs PAGE.html FOLDER: writes sources as a student does, by keys: lines begin where the code before them does, lines
-// are moved in and out and made comments, brackets are marked with their partners, words are found and replaced, and undo
-// takes each back. The status is 1 if something isn't as it should be.
+// writing.mjs PAGE.html FOLDER: writes sources as a student does, by keys: lines begin where the code before them does,
+// lines are moved in and out and made comments, brackets are marked with their partners, words are found and replaced, and
+// undo takes each back. The status is 1 if something isn't as it should be.
 import { mkdirSync } from "node:fs";
 import { pathToFileURL } from "node:url";
 import { comes, files, source } from "./hand.mjs";
@@ -12,12 +12,15 @@ let bad = 0;
 const holds = (is, what) => { console.log(`${is ? "  " : "NOT"} ${what}`); if (!is) bad++; };
 const page = await open(pathToFileURL(page_file).href);
 const count = (name) => page.eval(`document.querySelectorAll('.marks .${name}').length`);
-const chosen = () => page.eval("(() => { const it = document.getElementById('source'); return it.value.slice(it.selectionStart, it.selectionEnd); })()");
-const stand = (from, to = from) => page.eval(`(() => { const it = document.getElementById('source'); it.focus(); it.setSelectionRange(${from}, ${to}); })()`);
+const SOURCE = "document.getElementById('source')";
+const chosen = () => page.eval(`${SOURCE}.value.slice(${SOURCE}.selectionStart, ${SOURCE}.selectionEnd)`);
+const stand = (from, to = from) => page.eval(`${SOURCE}.focus(); ${SOURCE}.setSelectionRange(${from}, ${to})`);
+const brackets = (number) => comes(page, `document.querySelectorAll('.marks .bracket').length === ${number}`);
 const has = async (text, what) => {
   const found = await source(page);
   holds(found === text, what + (found === text ? "" : `: ${JSON.stringify(found)}`));
 };
+const IN_C = "#include \"user.h\"\nint main(void) {\n    if (1) {\n        exit(0);\n    }\n}\n";
 const ASSEMBLER = "_start:\n    li a0, 1\n    lw a1, 4(sp)\n    ecall\n";
 
 async function assembler() {
@@ -40,10 +43,10 @@ async function assembler() {
   await page.key("[", { control: true });
   await has(ASSEMBLER, "and out");
   await stand(ASSEMBLER.indexOf("(sp)"));
-  holds(await comes(page, "document.querySelectorAll('.marks .bracket').length === 2"), "a bracket and its partner are marked");
+  holds(await brackets(2), "a bracket and its partner are marked");
   await page.picture(`${folder}/brackets.png`);
   await stand(2);
-  holds(await comes(page, "document.querySelectorAll('.marks .bracket').length === 0"), "and no more once the caret goes on");
+  holds(await brackets(0), "and no more once the caret goes on");
 }
 
 async function in_c() {
@@ -51,9 +54,9 @@ async function in_c() {
   await page.until("document.getElementById('source').value.startsWith('#include')");
   await stand(18);
   await page.type("int main(void) {\nif (1) {\nexit(0);\n}\n}\n");
-  await has("#include \"user.h\"\nint main(void) {\n    if (1) {\n        exit(0);\n    }\n}\n", "C is laid out as it is typed");
+  await has(IN_C, "C is laid out as it is typed");
   await stand((await source(page)).length - 2);
-  holds(await comes(page, "document.querySelectorAll('.marks .bracket').length === 2"), "braces far apart are partners");
+  holds(await brackets(2), "braces far apart are partners");
   await page.type("]");
   await stand((await source(page)).length - 3);
 }
