@@ -22,7 +22,7 @@ function audit() {
 
   // ---- roles
   const INSIDE = { tab: "tablist", option: "listbox", listitem: "list", radio: "radiogroup" };
-  const ROLES = ["alert", "application", "dialog", "group", "img", "list", "listbox", "listitem", "log", "option", "radio", "radiogroup", "region", "separator", "slider", "status", "tab", "tablist", "tabpanel", "textbox"];
+  const ROLES = ["alert", "application", "dialog", "group", "img", "list", "listbox", "listitem", "log", "option", "radio", "radiogroup", "region", "search", "separator", "slider", "status", "tab", "tablist", "tabpanel", "textbox"];
   for (const it of all("[role]")) {
     const role = it.getAttribute("role"), outer = INSIDE[role];
     if (!ROLES.includes(role)) wrong(`role ${role} isn't known`, it);
@@ -45,7 +45,7 @@ function audit() {
   const CONTROLS = "button, a[href], input:not([type=hidden]), select, textarea, summary, [role=tab], [role=option], [role=radio], [role=slider], [role=textbox], [role=application]";
   const controls = all(CONTROLS).filter((it) => is_seen(it) && !it.closest("[aria-hidden=true]"));
   for (const it of controls) if (!/[\p{L}\p{N}]/u.test(name_of(it))) wrong("a control whose name says nothing", it);
-  for (const it of all("nav, section, [role=group], [role=radiogroup], [role=tablist], [role=listbox], [role=list], [role=log], [role=region], dialog[open]")) {
+  for (const it of all("nav, section, [role=group], [role=radiogroup], [role=tablist], [role=listbox], [role=list], [role=log], [role=region], [role=search], dialog[open]")) {
     if (is_seen(it) && it.id !== "dialog" && !it.getAttribute("aria-label") && !by_id(it).trim()) wrong("a region or a group without a name", it);
   }
   for (const it of all("img, canvas, [role=img]")) if (is_seen(it) && !name_of(it)) wrong("a picture without words", it);
@@ -140,6 +140,9 @@ async function theme(page, name) {
   await page.eval("for (const it of document.querySelectorAll('details')) it.open = true");
   count += await look(page, `${name}, all that folds`);
   await page.eval("document.getElementById('breaks').open = false");
+  await page.eval("document.getElementById('source').dispatchEvent(new KeyboardEvent('keydown', { key: 'f', ctrlKey: true }))");
+  count += await look(page, `${name}, words that are looked for`);
+  await page.eval("document.getElementById('search-close').click()");
   for (const [what, action] of Object.entries(DIALOGS)) {
     await page.eval(action);
     await page.sleep(300);
