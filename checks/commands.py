@@ -9,13 +9,15 @@ command, and the block is what it prints.
 
 A command is run if it begins as BEGINS says, if all files that it names are there or were made by a command before it, and
 if it needs no terminal, no kit and no package; programs in C are built if the compiler is there. Those of a page are run one
-after another, in a folder of their own in which the repository's files are. A source in C without a folder is the one of
+after another, in a folder of their own in which the repository's files are; pages are run side by side. A source in C without a folder is the one of
 `checks` that has its name, or else the page's first program in C; a file in `mine` is a right answer of the exercise. What is
 shown has to be printed; a command of which nothing is shown mustn't be refused (status 1, 2, or 125 and above).
 
 It needs Python 3, and the built programs or Node (18.17 or later). `--tell` names the commands that aren't run. PATIENCE is
 how many seconds a command may take: 120 without it. The status is 0 if all is as shown, 2 if no program runs here, else 1.
 """
+import concurrent.futures
+import contextlib
 import dataclasses
 import os
 import pathlib
@@ -24,6 +26,7 @@ import shutil
 import subprocess
 import sys
 import tempfile
+import threading
 
 TOP = pathlib.Path(__file__).resolve().parents[1]
 PATIENCE = float(os.environ.get("PATIENCE", 120))
@@ -31,6 +34,7 @@ COMPILED = r"(cp \S+ \. && )?(CFLAGS=\S+ )?(\$top/)?programs/c/build\.sh"
 BEGINS = re.compile(rf"((\$top/|\./)xv|node xv\.mjs|bin/xv_\w+|python3 -B checks/|programs/course/grade\.sh|{COMPILED}"
                     r"|mkdir mine && cp|echo .*[|>]|printf .*[|>])(\s|$|\w)")
 BY_HAND = re.compile(r"\.\.(\s|$)|\[-|\b[A-Z]{5,}\b|--(build|unproved|gdb|record|replay)\b|build\.sh --debug")
+COMPILES = threading.Lock()
 HAS_COMPILER = shutil.which(os.environ.get("RISCV", "riscv64-unknown-elf-") + "gcc") is not None
 
 
@@ -162,7 +166,9 @@ def wrong_with(command, folder):
     if command.program:
         pathlib.Path(folder, "init.s").write_text(command.program, encoding="utf-8")
     try:
-        lines, status = run(command.words, folder)
+        # Builds in C share a folder of the library's.
+        with COMPILES if re.match(COMPILED, command.words) else contextlib.nullcontext():
+            lines, status = run(command.words, folder)
     except subprocess.TimeoutExpired:
         return f"it took more than {PATIENCE:g} seconds"
     if command.shown:
@@ -221,9 +227,9 @@ def main(words):
     named = [it for it in words if it != "--tell"]
     pages = named or run("git ls-files '*.md'", TOP)[0]
     found, wrong = [], []
-    for it in pages:
-        of_page, wrong_ones = looked_at(TOP / it)
-        found, wrong = found + of_page, wrong + wrong_ones
+    with concurrent.futures.ThreadPoolExecutor(os.cpu_count()) as pool:
+        for of_page, wrong_ones in pool.map(looked_at, [TOP / it for it in pages]):
+            found, wrong = found + of_page, wrong + wrong_ones
     for it, why in wrong:
         print(f"{it}\n    {why}")
     by_hand = [it for it in found if it.is_by_hand]

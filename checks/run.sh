@@ -77,16 +77,9 @@ tell_others() {
     echo 'After a failed `rt check`: checks/why.sh CRATE tells what is open, in the order in which to read it.'
 }
 
-# Does each check, a command without blanks in its words, and tells which of them failed.
+# Does all checks, each a command, side by side, and tells which of them failed. What each prints is shown in the order given.
 do_all() {
-    failed=
-    for check; do
-        $check || failed="$failed $check;"
-    done
-    [ -z "$failed" ] || {
-        echo "failed:$failed"
-        exit 1
-    }
+    python3 -B checks/side_by_side.py "$@" || exit 1
 }
 
 # Node and the modules are to be there. By XV_NODE=yes the scripts in bin/ take them.
