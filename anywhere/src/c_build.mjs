@@ -18,9 +18,19 @@ const NOT_HERE = [
 ];
 const ALWAYS = [`-I${LIBRARY}include`, "-nostdinc", "-g", ...NOT_HERE.map((name) => `-U${name}`)];
 
+/** A relative path without `.`, and without `..` but at its beginning. */
+export function plain_path(path) {
+  const parts = [];
+  for (const part of path.split("/")) {
+    if (part === ".." && parts.length && parts.at(-1) !== "..") parts.pop();
+    else if (part && part !== ".") parts.push(part);
+  }
+  return parts.join("/");
+}
+
 /** A run of the compiler over one source: {object, told}; no object if it has a mistake. */
 function object_of({ module, header }, path, words, file_of) {
-  const find = (name) => (name.startsWith(LIBRARY) ? header(name.slice(LIBRARY.length)) : file_of(name));
+  const find = (name) => (name.startsWith(LIBRARY) ? header(plain_path(name.slice(LIBRARY.length))) : file_of(name));
   const { status, told, made } = run_compiler(module, ["tcc", ...words, ...ALWAYS, "-c", path, "-o", OBJECT], find);
   return { object: status === 0 ? made.get(OBJECT) : undefined, told, has_broken: status === BROKE };
 }

@@ -1,6 +1,6 @@
 // The worker that compiles programs in C: sources go in, and programs, tables of their lines and messages come out. It
 // stands with the compiler and its library in nektavoly-c.js, and is begun when there is a source in C.
-import { compile, programs_of } from "../../anywhere/src/c_build.mjs";
+import { compile, plain_path, programs_of } from "../../anywhere/src/c_build.mjs";
 
 const WORDS = ["-Wall"];
 let compiler = null, library = [];
@@ -21,7 +21,7 @@ function compiled(name, sources) {
   const key = JSON.stringify(used), last = objects.get(name);
   if (last?.key === key) return last;
   const texts = new Map(sources.map((it) => [it.name, bytes_of(it.text)]));
-  const made = { key, ...compile(compiler, name, WORDS, (path) => texts.get(path.replace(/^\.\//, ""))) };
+  const made = { key, ...compile(compiler, name, WORDS, (path) => texts.get(plain_path(path))) };
   objects.set(name, made);
   return made;
 }
