@@ -242,8 +242,9 @@ page/build_c.sh "$RELEASE/page" >/dev/null
 echo "release.sh: of it the C compiler and its library have $(du -sb --apparent-size "$RELEASE/programs/c/tcc/out" | cut -f 1) bytes, and for" \
     "the page $(cat "$RELEASE"/page/nektavoly-c.* | wc -c)"
 
-# What is a teacher's goes apart; its page is made while all that it leads to is there.
-echo docs/COURSE-ANSWERS.md | as_html
+# What is a teacher's goes apart; its pages and links are made while all that they lead to is there.
+(cd "$RELEASE" && of_teachers | xargs -d '\n' -I PATH find PATH -name '*.md' | sort | as_html)
+python3 -B "$room/html/words.py" "$RELEASE"
 (cd "$RELEASE" && of_teachers) | while read -r its; do
     mkdir -p "$TEACHER/$(dirname "$its")"
     mv "$RELEASE/$its" "$TEACHER/$its"

@@ -3,7 +3,7 @@
 
 A link to a file must lead to one, and a link to a place in a page to an element of that name. So must the links to the
 manual that the page in the browser makes when it runs: they stand in its scripts. Links in texts (.md) must lead to files. Links
-to other hosts aren't followed. A line for each that leads nowhere; the status is 0 if there is none.
+to other hosts aren't followed, and neither are those of pages that a check compares with (checks/grading/stored). A line for each that leads nowhere; the status is 0 if there is none.
 """
 import html.parser
 import os
@@ -47,7 +47,8 @@ class Page(html.parser.HTMLParser):
 
 def is_own_place(page, place):
     """Whether the page in the browser finds the place itself: an example, or a page of the manual inside it."""
-    return page.endswith("/nektavoly.html") and re.match(r"(example|manual)=", place) is not None
+    is_page = page.endswith(("/nektavoly.html", "/nektavoly-c.html"))
+    return is_page and re.match(r"(example|manual)=", place) is not None
 
 
 def wrong_links(pages):
@@ -77,7 +78,7 @@ def main():
     if len(sys.argv) != 2:
         sys.exit(__doc__)
     found = [os.path.join(at, name) for at, _, names in os.walk(sys.argv[1]) for name in names]
-    paths = [path for path in found if path.endswith(".html")]
+    paths = [path for path in found if path.endswith(".html") and "/checks/grading/stored/" not in path]
     pages = {os.path.realpath(path): Page(path) for path in paths}
     texts = [path for path in found if path.endswith(".md")]
     wrong = [*wrong_links(pages), *(it for path in sorted(texts) for it in wrong_links_of_text(path))]
