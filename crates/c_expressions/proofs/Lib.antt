@@ -1,4 +1,11 @@
+pub mod Complete
 pub mod Longer
+pub mod Named
+pub mod Pieces
+pub mod Read
+pub mod TextsRead
 mod WorkedGrammar
+mod WorkedLines
 mod WorkedScopes
 mod WorkedSelection
+mod WorkedTokens

@@ -13,7 +13,7 @@ use Rattle.c_expressions.specs.declared.tokens.Token.{Token}
 use Rattle.c_expressions.specs.declared.tokens.Token.TheVariants.{Name, Open, Close, Star, And}
 
 -- lists that are put together one after another
-added-twice : (old mid new one two : List Step) → new ≡ mid ++ two → mid ≡ old ++ one → new ≡ old ++ (one ++ two)
+pub added-twice : (old mid new one two : List Step) → new ≡ mid ++ two → mid ≡ old ++ one → new ≡ old ++ (one ++ two)
 added-twice old mid new one two second first = second ∙ ap (λ x. x ++ two) first ∙ append_assoc old one two
 
 -- two equations of tokens and of steps move an expression

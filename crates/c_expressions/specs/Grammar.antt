@@ -28,6 +28,10 @@ pub record IsExpressionOf (tokens : List Token) (name : Bor (List ℕ)) (taken :
   pub is_closed : Bool
   pub is : IsExpression name is_closed tokens taken
 
+-- No name and no steps make these tokens one
+abbrev pub IsNoExpression : (tokens : List Token) → Type 0
+IsNoExpression tokens = (name : Bor (List ℕ)) (taken : List Step) → IsExpressionOf tokens name taken → ⊥
+
 -- The first tokens are one, the others are left, and its steps are put after older ones
 pub record IsRead (tokens : List Token) (name : Bor (List ℕ)) (rest : List Token) (old new : List Step) : Type 0 where
   pub is_closed : Bool

@@ -1,5 +1,11 @@
+pub mod Asked
 pub mod Behind
 pub mod Finding
 pub mod Grammar
+pub mod ReadErrors
+pub mod Reading
 pub mod Scopes
 pub mod Selection
+pub mod Telling
+pub mod Tokens
+pub mod Written

@@ -1,16 +1,15 @@
 //! What is told of variables and types, in the style of GDB (Debugging with GDB, "Examining Data" and "Examining the
 //! Symbol Table").
 use crate::asked::Asked;
-use crate::expression::Expression;
-use crate::finding::{Found, found_from, variable_named};
-use crate::parser::{ReadError, expression_of};
-use crate::refusal::Refusal;
+use crate::finding::{Found, found_in, variable_named};
+use crate::rows::{Rows, VariableRow};
 use crate::selection::{Subject, value_at};
-use crate::tokens::tokens_of;
+use crate::tables::CallTables;
+use crate::telling::{refused_line, value_line};
 use debug_info::{
-    Frame, InfoError, Kind, Place, Program, Role, Sight, Spot, Variable, frame_at, has_function,
-    kind_text, layout_text, layouts_of, locals_at, name_of, place_at, placeless_text, pointer_text,
-    read_tables, spot_text,
+    Frame, InfoError, Kind, Place, Program, Role, Sight, Spot, Variable, frame_at, globals,
+    has_function, kind_text, layout_text, layouts_of, locals_at, name_of, place_at, placeless_text,
+    pointer_text, read_tables, spot_text,
 };
 use std::alloc::{AllocError, Global};
 
@@ -40,55 +39,22 @@ const NO_TABLES: &str = "no function is here of which the compiler's tables tell
 const NO_TYPE: &str = "<unknown type>";
 
 impl<'a, S: Sight> Call<'a, S> {
-    /// What an expression is about; `None` if its name is no variable's that has a type.
-    fn found(&self, alloc: Global, expression: &Expression) -> Result<Option<Found>, AllocError> {
-        let program = &self.program;
-        let address = self.frame.address;
-        let Some(variable) = variable_named(alloc, program, address, expression.name)? else {
-            return Ok(None);
-        };
-        let Some(kind) = program.type_of(&variable) else {
-            return Ok(None);
-        };
-        let place = place_at(alloc, program, &variable, &self.frame, self.sight)?;
-        let layouts = layouts_of(alloc, program)?;
-        Ok(Some(found_from(
-            &layouts,
-            self.sight,
-            kind,
-            place,
-            expression.steps.as_slice(),
-        )))
-    }
-
-    /// The text of an address: its type, and the number.
-    fn address_text(&self, alloc: Global, subject: Subject) -> Result<String, AllocError> {
-        let kind = pointer_text(alloc, &self.program, subject.kind)?;
-        let kind = kind.as_str();
-        match subject.spot {
-            Spot::Memory(address) => format!(in alloc; "({kind}) {address:#x}"),
-            Spot::Number(..) => format!(in alloc; "({kind})"),
+    /// The rows of variables, in their order.
+    fn variable_rows(
+        &self,
+        alloc: Global,
+        variables: &[Variable],
+    ) -> Result<Vec<VariableRow<'a>>, AllocError> {
+        let mut rows = Vec::new(alloc);
+        for variable in variables {
+            rows.push(VariableRow {
+                name: name_of(&self.program, variable).unwrap_or("").as_bytes(),
+                kind: self.program.type_of(variable),
+                place: place_at(alloc, &self.program, variable, &self.frame, self.sight)?,
+                role: variable.role,
+            })?;
         }
-    }
-
-    /// The text of a value, or of an address.
-    fn value_text(&self, alloc: Global, subject: Subject) -> Result<String, AllocError> {
-        if subject.is_address {
-            return self.address_text(alloc, subject);
-        }
-        spot_text(alloc, &self.program, subject.kind, subject.spot, self.sight)
-    }
-
-    /// The text of a number in hexadecimal digits; of what is no number that of its value.
-    fn digits_text(&self, alloc: Global, subject: Subject) -> Result<String, AllocError> {
-        let number = match self.program.number_size(subject.kind) {
-            Some(size) if !subject.is_address => subject.spot.number(self.sight, size),
-            _ => None,
-        };
-        match number {
-            Some(number) => format!(in alloc; "{number:#x}"),
-            None => self.value_text(alloc, subject),
-        }
+        Ok(rows)
     }
 
     /// The text of a type of a value, or of its address.
@@ -160,42 +126,13 @@ impl<'a, S: Sight> Call<'a, S> {
         Ok(Some(text))
     }
 
-    /// The line of an expression's value; `None` if the text is no expression, or its name no variable's.
-    fn value_line(
-        &self,
-        alloc: Global,
-        text: &str,
-        is_hexadecimal: bool,
-    ) -> Result<Option<String>, AllocError> {
-        let Some(found) = self.found_of(alloc, text)? else {
-            return Ok(None);
-        };
-        let value = match found {
-            Found::Subject(subject) if is_hexadecimal => self.digits_text(alloc, subject)?,
-            Found::Subject(subject) => self.value_text(alloc, subject)?,
-            Found::Placeless(place) => String::from_str(alloc, placeless_text(place))?,
-            Found::Refused(refusal) => return refused_line(alloc, text, refusal),
-        };
-        let value = value.as_str();
-        Ok(Some(format!(in alloc; "{text} = {value}\n")?))
-    }
-
-    /// What the expression of a text is about; `None` if it is none, or its name no variable's.
-    fn found_of(&self, alloc: Global, text: &str) -> Result<Option<Found>, AllocError> {
-        match read_expression(alloc, text) {
-            Ok(expression) => self.found(alloc, &expression),
-            Err(ReadError::NoExpression) => Ok(None),
-            Err(ReadError::Memory) => Err(AllocError),
-        }
-    }
-
     /// What the expression of a text is about, if its type is asked for: that of a variable alone is known wherever it is.
     fn type_of(&self, alloc: Global, text: &str) -> Result<Option<Found>, AllocError> {
-        let address = self.frame.address;
-        let variable = variable_named(alloc, &self.program, address, text.as_bytes())?;
-        match variable.and_then(|it| self.program.type_of(&it)) {
+        let rows = self.rows(alloc)?;
+        let variable = variable_named(alloc, &rows, text.as_bytes())?;
+        match variable.and_then(|row| row.kind) {
             Some(kind) => Ok(Some(Found::Subject(value_at(kind, Spot::Memory(0))))),
-            None => self.found_of(alloc, text),
+            None => found_in(alloc, &rows, self.sight, text),
         }
     }
 
@@ -223,8 +160,8 @@ impl<'a, S: Sight> Call<'a, S> {
     /// What is told of what is asked; `None` if it is of nothing that the tables tell.
     fn answer(&self, alloc: Global, asked: Asked) -> Result<Option<String>, AllocError> {
         match asked {
-            Asked::Value(text) => self.value_line(alloc, text, false),
-            Asked::Hexadecimal(text) => self.value_line(alloc, text, true),
+            Asked::Value(text) => value_line(alloc, self, self.sight, text, false),
+            Asked::Hexadecimal(text) => value_line(alloc, self, self.sight, text, true),
             Asked::Locals => self.lines(alloc, Role::Local, "no local variables\n"),
             Asked::Arguments => self.lines(alloc, Role::Argument, "no arguments\n"),
             Asked::Type(text) => self.type_line(alloc, text, false),
@@ -233,15 +170,36 @@ impl<'a, S: Sight> Call<'a, S> {
     }
 }
 
-/// The expression that a text is.
-fn read_expression(alloc: Global, text: &str) -> Result<Expression<'_>, ReadError> {
-    let tokens = tokens_of(alloc, text)?;
-    expression_of(alloc, tokens.as_slice())
-}
+impl<'a, S: Sight> CallTables for Call<'a, S> {
+    ghost AreRows = { λ _ _. Unit {0} };
 
-/// The line of an expression that leads nowhere.
-fn refused_line(alloc: Global, text: &str, refusal: Refusal) -> Result<Option<String>, AllocError> {
-    Ok(Some(format!(in alloc; "{text}: {refusal}\n")?))
+    ghost IsValue = { λ _ _ _ _. Unit {0} };
+
+    ghost IsPointer = { λ _ _ _. Unit {0} };
+
+    ghost IsNumberSize = { λ _ _ _. Unit {0} };
+
+    fn rows(&self, alloc: Global) -> Result<Rows<'_>, AllocError> {
+        let locals = locals_at(alloc, &self.program, self.frame.address)?;
+        let others = globals(alloc, &self.program)?;
+        Ok(Rows {
+            locals: self.variable_rows(alloc, locals.as_slice())?,
+            globals: self.variable_rows(alloc, others.as_slice())?,
+            layouts: layouts_of(alloc, &self.program)?,
+        })
+    }
+
+    fn value_text(&self, alloc: Global, kind: Kind, spot: Spot) -> Result<String, AllocError> {
+        spot_text(alloc, &self.program, kind, spot, self.sight)
+    }
+
+    fn pointer_text(&self, alloc: Global, kind: Kind) -> Result<String, AllocError> {
+        pointer_text(alloc, &self.program, kind)
+    }
+
+    fn number_size(&self, kind: Kind) -> Option<u64> {
+        self.program.number_size(kind)
+    }
 }
 
 /// What is told of what is asked, if the tables tell nothing of it; `None` if something else than the tables may.

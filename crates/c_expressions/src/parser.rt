@@ -1,9 +1,13 @@
 //! Reads expressions of C (C17, sections 6.5.1 to 6.5.3): a name; `e.name`, `e->name` and `e[number]`; `*e` and `&e`; and
 //! brackets around each. What stands behind binds tighter than what stands before.
-ghost use Rattle.std.specs.Prelude.{◌≡◌, ◌++◌, ◌∷◌, [], IfOk, IfSome};
-ghost use Rattle.c_expressions.specs.Grammar.{IsBehind, IsExpressionOf, IsRead};
+ghost use Rattle.std.specs.Prelude.{◌≡◌, ◌≤◌, ◌<◌, ◌++◌, ◌∷◌, [], false, length, IfErr, IfNone, IfOk, IfSome, None};
+ghost use Rattle.c_expressions.specs.Grammar.{IsBehind, IsExpressionOf, IsNoExpression, IsRead};
+ghost use Rattle.c_expressions.specs.ReadErrors.{Refuses};
+ghost use Rattle.c_expressions.specs.Reading as reads;
+ghost use Rattle.c_expressions.specs.Reading.{IsReading, IsTail};
 ghost use Rattle.c_expressions.specs.Behind.{steps_behind, written};
 ghost use Rattle.c_expressions.specs.declared.tokens.Token.TheVariants.{Close, Name, Number, Right};
+ghost use Rattle.c_expressions.specs.declared.parser.ReadError.TheVariants as errors;
 
 use crate::expression::{Expression, Step};
 use crate::tokens::Token;
@@ -22,6 +26,8 @@ pub enum ReadError {
 }
 
 impl From<AllocError> for ReadError {
+    ghost from_gives = { λ _ error. error ≡ errors.Memory };
+
     fn from(_: AllocError) -> ReadError {
         ReadError::Memory
     }
@@ -29,7 +35,8 @@ impl From<AllocError> for ReadError {
 
 /// Adds a step.
 fn add<'a>(steps: &mut Vec<Step<'a>>, step: Step<'a>) -> Result<(), ReadError>
-    ensures { IfOk result (λ _. steps.new.items ≡ steps.old.items ++ step.entry ∷ []) }
+    ensures added { IfOk result (λ _. steps.new.items ≡ steps.old.items ++ step.entry ∷ []) }
+    ensures refused { IfErr result (Refuses ⊥) }
 {
     match steps.push(step) {
         Ok(()) => Ok(()),
@@ -50,7 +57,8 @@ enum Behind<'a> {
 
 /// The first token, and the others.
 fn parted<'a, 't>(tokens: &'t [Token<'a>]) -> Option<(Token<'a>, &'t [Token<'a>])>
-    ensures { IfSome result (λ p. tokens.now ≡ p.0 ∷ p.1.now) }
+    ensures some { IfSome result (λ p. tokens.now ≡ p.0 ∷ p.1.now) }
+    ensures none { IfNone result (tokens.now ≡ []) }
 {
     let (first, rest) = tokens.split_first()?;
     Some((*first, rest))
@@ -58,7 +66,8 @@ fn parted<'a, 't>(tokens: &'t [Token<'a>]) -> Option<(Token<'a>, &'t [Token<'a>]
 
 /// The name that is first, and the tokens after it.
 fn named<'a, 't>(tokens: &'t [Token<'a>]) -> Option<(&'a [u8], &'t [Token<'a>])>
-    ensures { IfSome result (λ n. tokens.now ≡ Name n.0 ∷ n.1.now) }
+    ensures some { IfSome result (λ n. tokens.now ≡ Name n.0 ∷ n.1.now) }
+    ensures none { IfNone result (reads.begins_name tokens.now ≡ false) }
 {
     let (first, rest) = parted(tokens)?;
     match first {
@@ -69,7 +78,8 @@ fn named<'a, 't>(tokens: &'t [Token<'a>]) -> Option<(&'a [u8], &'t [Token<'a>])>
 
 /// The tokens after a bracket of an element that closes.
 fn closed<'a, 't>(tokens: &'t [Token<'a>]) -> Option<&'t [Token<'a>]>
-    ensures { IfSome result (λ rest. tokens.now ≡ Right ∷ rest.now) }
+    ensures some { IfSome result (λ rest. tokens.now ≡ Right ∷ rest.now) }
+    ensures none { IfNone result (reads.begins_right tokens.now ≡ false) }
 {
     let (first, rest) = parted(tokens)?;
     match first {
@@ -80,7 +90,8 @@ fn closed<'a, 't>(tokens: &'t [Token<'a>]) -> Option<&'t [Token<'a>]>
 
 /// The number of an element, and the tokens after its bracket.
 fn numbered<'a, 't>(tokens: &'t [Token<'a>]) -> Option<(u64, &'t [Token<'a>])>
-    ensures { IfSome result (λ n. tokens.now ≡ Number n.0 ∷ Right ∷ n.1.now) }
+    ensures some { IfSome result (λ n. tokens.now ≡ Number n.0 ∷ Right ∷ n.1.now) }
+    ensures none { IfNone result (reads.begins_number tokens.now ≡ false) }
 {
     let (first, rest) = parted(tokens)?;
     match first {
@@ -94,7 +105,8 @@ fn numbered<'a, 't>(tokens: &'t [Token<'a>]) -> Option<(u64, &'t [Token<'a>])>
 
 /// What stands behind an expression, and the tokens after it; `None` if nothing does.
 fn behind_of<'a, 't>(tokens: &'t [Token<'a>]) -> Option<(Behind<'a>, &'t [Token<'a>])>
-    ensures { IfSome result (λ b. tokens.now ≡ written b.0 ++ b.1.now) }
+    ensures some { IfSome result (λ b. tokens.now ≡ written b.0 ++ b.1.now) }
+    ensures none { IfNone result (reads.behind tokens.now ≡ reads.nothing tokens.now) }
 {
     let (first, rest) = parted(tokens)?;
     match first {
@@ -116,7 +128,8 @@ fn behind_of<'a, 't>(tokens: &'t [Token<'a>]) -> Option<(Behind<'a>, &'t [Token<
 
 /// Adds the steps of what stands behind an expression.
 fn add_behind<'a>(steps: &mut Vec<Step<'a>>, behind: Behind<'a>) -> Result<(), ReadError>
-    ensures { IfOk result (λ _. steps.new.items ≡ steps.old.items ++ steps_behind behind.entry) }
+    ensures added { IfOk result (λ _. steps.new.items ≡ steps.old.items ++ steps_behind behind.entry) }
+    ensures refused { IfErr result (Refuses ⊥) }
 {
     match behind {
         Behind::Member(name) => add(steps, Step::Member(name)),
@@ -134,7 +147,10 @@ fn read_behind<'a, 't>(
     steps: &mut Vec<Step<'a>>,
     most: usize,
 ) -> Result<&'t [Token<'a>], ReadError>
-    ensures { IfOk result (λ rest. IsBehind tokens.now rest.now steps.old.items steps.new.items) }
+    ensures is { IfOk result (λ rest. IsBehind tokens.now rest.now steps.old.items steps.new.items) }
+    ensures all { IfOk result (λ rest. IsTail (reads.behind tokens.now) rest.now steps.old.items steps.new.items) }
+    ensures shorter { IfOk result (λ rest. length rest.now ≤ length tokens.now) }
+    ensures refused { IfErr result (Refuses (most ≤ length tokens.now)) }
 {
     if most == 0 {
         return Err(ReadError::NoExpression);
@@ -149,7 +165,8 @@ fn read_behind<'a, 't>(
 
 /// The tokens after a bracket that closes.
 fn after_close<'a, 't>(tokens: &'t [Token<'a>]) -> Result<&'t [Token<'a>], ReadError>
-    ensures { IfOk result (λ rest. tokens.now ≡ Close ∷ rest.now) }
+    ensures closed { IfOk result (λ rest. tokens.now ≡ Close ∷ rest.now) }
+    ensures refused { IfErr result (Refuses (reads.begins_close tokens.now ≡ false)) }
 {
     match parted(tokens) {
         Some((Token::Close, rest)) => Ok(rest),
@@ -163,7 +180,11 @@ fn read<'a, 't>(
     steps: &mut Vec<Step<'a>>,
     most: usize,
 ) -> Result<(&'a [u8], &'t [Token<'a>]), ReadError>
-    ensures { IfOk result (λ r. IsRead tokens.now r.0 r.1.now steps.old.items steps.new.items) }
+    requires { most ≤ 64 }
+    ensures is { IfOk result (λ r. IsRead tokens.now r.0 r.1.now steps.old.items steps.new.items) }
+    ensures all { IfOk result (λ r. IsReading (reads.reading tokens.now) r.0 r.1.now steps.old.items steps.new.items) }
+    ensures shorter { IfOk result (λ r. length r.1.now < length tokens.now) }
+    ensures refused { IfErr result (Refuses (length tokens.now < most → reads.reading tokens.now ≡ None)) }
 {
     if most == 0 {
         return Err(ReadError::NoExpression);
@@ -202,9 +223,10 @@ fn read<'a, 't>(
 ///
 /// [`ReadError::NoExpression`] if they are none, or more than 64 signs and brackets stand before a name, or 64 steps behind
 /// one; [`ReadError::Memory`] if the host has too little memory.
-#[tactic(auto, using(crate::proofs::Longer::all_read))]
+#[tactic(auto, using(crate::proofs::Longer::all_read, crate::proofs::Read::unread_refused))]
 pub fn expression_of<'a>(alloc: Global, tokens: &[Token<'a>]) -> Result<Expression<'a>, ReadError>
-    ensures { IfOk result (λ e. IsExpressionOf tokens.now e.name e.steps.items) }
+    ensures is { IfOk result (λ e. IsExpressionOf tokens.now e.name e.steps.items) }
+    ensures refused { IfErr result (Refuses (length tokens.now < 64 → IsNoExpression tokens.now)) }
 {
     let mut steps = Vec::new(alloc);
     let (name, rest) = read(tokens, &mut steps, MOST_DEPTH)?;
