@@ -2,7 +2,8 @@
 use Rattle.std.proofs.Common.{◌≡◌, ℕ, ◌+◌, ◌-◌, length, length-append, arith, ◌<◌, ◌≤◌, true, false, List, [], ◌∷◌, ◌++◌, replicate, Option, None, Ok, inl}
 use Rattle.std.proofs.Common.{inr, refl, sym, ap, ◌∙◌, subst, append-nil, append_assoc}
 use Rattle.std.proofs.lemmas.Bool.{true≢false}
-use Rattle.std.proofs.lemmas.List.{replicate_more}
+use Rattle.std.proofs.lemmas.List.{length-replicate, replicate_more}
+use Rattle.grade_rules.specs.declared.note.Note.{Note}
 use Rattle.kernel_spec.specs.runs.Run.{Event, Run, Outcome, Step_of}
 use Rattle.kernel_spec.specs.runs.First.{first}
 use Rattle.kernel_spec.specs.runs.Rounds.{events}
@@ -15,13 +16,14 @@ use Rattle.xv_machine.specs.Meaning.{Meaning}
 use Rattle.xv_machine.specs.Reached.{IsReached, IsEvent}
 use Rattle.xv_machine.proofs.Joins.{goes-one, events-join}
 use Rattle.xv_machine.proofs.Reached.{reaches_on}
-use Rattle.xv_session.specs.Answers.{IsNew, Sent, RunsSent}
+use Rattle.xv_session.specs.Answers.{IsNew, Sent, RunsSent, stands}
 use Rattle.xv_session.specs.Recorded.{Recorded, IsRecorded}
 use Rattle.grade_submissions.specs.Givens.{given_in}
-use Rattle.grade_submissions.specs.Plays.{Told, runs_in, note_with, note_of, all_of, passed_notes, NotesGo, told_of, told_with, told_by, told_runs, is_full, PlaysOn, PlaysFirst}
+use Rattle.grade_submissions.specs.Plays.{Told, runs_in, note_with, all_of, passed_notes, fault_after, fault_behind, nothing_noted, noted_with, noted_of, NotesGo}
+use Rattle.grade_submissions.specs.Plays.{told_of, told_with, told_by, told_runs, is_full, PlaysOn, PlaysFirst}
 use Rattle.grade_submissions.specs.declared.playing.Kept.{Kept}
 use Rattle.grade_submissions.specs.declared.playing.Played.{Played}
-use Rattle.grade_submissions.proofs.Noting.{notes-one, notes-join, notes-those, done-noteless, other-noteless, none-more, notes-again, notes-passed}
+use Rattle.grade_submissions.proofs.Noting.{noted-is, notes-one, notes-join, notes-those, IsNoteless, later, passed_with, done-noteless, other-noteless, notes-again, notes-passed}
 use Rattle.grade_submissions.proofs.Telling.{told-join, done-told, runs-told}
 
 abbrev Steps : Type 0
@@ -43,7 +45,7 @@ plays-join xs ys a b c one two = record {
   those = events-join one.list two.list ∙ ap (λ (es : List Event). es ++ events two.list) one.those ∙ ap (λ (es : List Event). xs ++ es) two.those;
   reaches = λ frames trace programs es here. subst (λ (xs : List (Event × Outcome)). IsReached frames trace programs xs c.session.machine)
       (append_assoc es one.list two.list) (two.reaches frames trace programs (es ++ one.list) (one.reaches frames trace programs es here));
-  noted = notes-join one.list two.list a.session.machine.world b.session.machine.world c.session.machine.world a.kept.notes.items b.kept.notes.items c.kept.notes.items one.noted two.noted;
+  noted = notes-join one.list two.list a.session.machine.world b.session.machine.world c.session.machine.world (noted_of a) (noted_of b) (noted_of c) one.noted two.noted;
   told = two.told ∙ ap (λ (t : Told). told_by t two.list) one.told ∙ sym (told-join (told_of a.kept) one.list two.list);
   budget = two.budget ∙ one.budget;
 }
@@ -51,13 +53,19 @@ plays-join xs ys a b c one two = record {
 pub plays-those : (xs ys : List Event) (a b : Played) → xs ≡ ys → PlaysOn xs a b → PlaysOn ys a b
 plays-those xs ys a b same plays = subst (λ (es : List Event). PlaysOn es a b) same plays
 
--- the place of the event that was sent last
-pub place-of : (old new : Recorded) (e : Event) (o : Outcome) (place : ℕ) → Sent old e o new → place ≡ length new.events - 1 → place ≡ length old.events
-place-of old new e o place sent is =
-    let long : length new.events ≡ length old.events + 1 = ap (λ (s : Recorded). length s.events) sent.1 ∙ length-append old.events (e ∷ []) in omega (arith, is, long)
+-- one event was sent
+longer : (old new : Recorded) (e : Event) (o : Outcome) → Sent old e o new → length new.events ≡ length old.events + 1
+longer old new e o sent = ap (λ (s : Recorded). length s.events) sent.1 ∙ length-append old.events (e ∷ [])
 
--- one event, of which this note comes
-module _ (e : Event) (o : Outcome) (old new : Played) (one : IsEvent old.session.machine e o new.session.machine) where
+-- its place
+place-of : (old new : Recorded) (e : Event) (o : Outcome) (place : ℕ) → Sent old e o new → place ≡ length new.events - 1 → place ≡ length old.events
+place-of old new e o place sent is = let long = longer old new e o sent in omega (arith, is, long)
+
+-- one event, of which this comes
+module _ (e : Event) (o : Outcome) (old new : Played) (sent : Sent old.session e o new.session) where
+  abbrev one : IsEvent old.session.machine e o new.session.machine
+  one = sent.0.event
+
   abbrev here : Steps
   here = (e, o) ∷ []
 
@@ -65,41 +73,58 @@ module _ (e : Event) (o : Outcome) (old new : Played) (one : IsEvent old.session
   on-reached frames trace programs es reached = reaches_on frames trace programs es here old.session.machine new.session.machine reached
       (goes-one e o old.session.machine new.session.machine one.promised one.notes one.room one.frames one.sound)
 
-  on-noted : new.kept.notes.items ≡ old.kept.notes.items ++ all_of (note_of old.session.machine.world o)
-      → NotesGo old.session.machine.world here new.session.machine.world old.kept.notes.items new.kept.notes.items
-  on-noted notes = notes-those old.session.machine.world new.session.machine.world here old.kept.notes.items (old.kept.notes.items ++ all_of (note_of old.session.machine.world o)) new.kept.notes.items
-      (sym notes) (notes-one old.session.machine.world new.session.machine.world e o old.kept.notes.items one.promised)
-
-  pub plays-one : new.kept.notes.items ≡ old.kept.notes.items ++ all_of (note_of old.session.machine.world o) → told_of new.kept ≡ told_with (told_of old.kept) (runs_in e) o
+  pub plays-one : noted_of new ≡ noted_with old.session.machine.world o (noted_of old) → told_of new.kept ≡ told_with (told_of old.kept) (runs_in e) o
       → new.kept.budget ≡ old.kept.budget → PlaysOn (e ∷ []) old new
-  plays-one notes told same = record { list = here; those = refl; reaches = on-reached; noted = on-noted notes; told = told; budget = same }
+  plays-one noted told same = record {
+    list = here;
+    those = refl;
+    reaches = on-reached;
+    noted = notes-those old.session.machine.world new.session.machine.world here (noted_of old) (noted_with old.session.machine.world o (noted_of old)) (noted_of new) (sym noted)
+        (notes-one old.session.machine.world new.session.machine.world e o (noted_of old) one.promised);
+    told = told;
+    budget = same;
+  }
 
--- an event that isn't Run
-pub plays-event : (e : Event) (o : Outcome) (old new : Played) → runs_in e ≡ 0 → Sent old.session e o new.session → new.kept.notes.items ≡ old.kept.notes.items
-    → told_of new.kept ≡ told_with (told_of old.kept) 0 o → new.kept.budget ≡ old.kept.budget → PlaysOn (e ∷ []) old new
-plays-event e o old new other sent notes told same =
-    let one : IsEvent old.session.machine e o new.session.machine = sent.0.event in
-    let quiet = none-more old.session.machine.world o old.kept.notes.items (other-noteless old.session.machine.world new.session.machine.world e o other one.promised) in
-    plays-one e o old new one (notes ∙ sym quiet) (told ∙ ap (λ (n : ℕ). told_with (told_of old.kept) n o) (sym other)) same
+  -- it isn't Run
+  pub plays-event : (place : ℕ) → runs_in e ≡ 0 → place ≡ length new.session.events - 1 → new.kept.notes.items ≡ old.kept.notes.items
+      → new.kept.fault ≡ fault_after old.kept.fault place o → told_of new.kept ≡ told_with (told_of old.kept) 0 o → new.kept.budget ≡ old.kept.budget → PlaysOn (e ∷ []) old new
+  plays-event place other last notes fault told same =
+      let w = old.session.machine.world in
+      let quiet : IsNoteless o = other-noteless w new.session.machine.world e o other one.promised in
+      plays-one
+      (noted-is (noted_of new) (noted_with w o (noted_of old)) (notes ∙ sym (ap (λ (x : Option Note). old.kept.notes.items ++ all_of x) (quiet.none (given_in w)) ∙ append-nil old.kept.notes.items))
+      (fault ∙ ap (λ (k : ℕ). fault_after old.kept.fault k o) (place-of old.session new.session e o place sent last)) (longer old.session new.session e o sent))
+      (told ∙ ap (λ (n : ℕ). told_with (told_of old.kept) n o) (sym other)) same
 
 -- a Run, of the machine before which the note tells
-pub plays-run : (o : Outcome) (old new : Played) → Sent old.session Run o new.session → new.kept.notes.items ≡ old.kept.notes.items ++ all_of (note_with (given_in old.session.machine.world) o)
+pub plays-run : (o : Outcome) (place : ℕ) (old new : Played) → Sent old.session Run o new.session → place ≡ length new.session.events - 1
+    → new.kept.notes.items ≡ old.kept.notes.items ++ all_of (note_with (given_in old.session.machine.world) o) → new.kept.fault ≡ fault_after old.kept.fault place o
     → told_of new.kept ≡ told_with (told_of old.kept) 1 o → new.kept.budget ≡ old.kept.budget → PlaysOn (Run ∷ []) old new
-plays-run o old new sent notes told same = plays-one Run o old new sent.0.event notes told same
+plays-run o place old new sent last notes fault told same =
+    plays-one Run o old new sent
+    (noted-is (noted_of new) (noted_with old.session.machine.world o (noted_of old)) notes
+    (fault ∙ ap (λ (k : ℕ). fault_after old.kept.fault k o) (place-of old.session new.session Run o place sent last)) (longer old.session new.session Run o sent)) told same
+
+-- so many Runs were sent
+more-events : (made : ℕ) (old new : Played) → new.session ≡ stands old.session (old.session.events ++ replicate made Run) new.session.machine new.session.names
+    → length new.session.events ≡ length old.session.events + made
+more-events made old new stays =
+    ap (λ (s : Recorded). length s.events) stays ∙ length-append old.session.events (replicate made Run) ∙ ap (λ (k : ℕ). length old.session.events + k) (length-replicate made Run)
 
 -- instructions that are done
-pub plays-instructions : (made : ℕ) (old new : Played) → RunsSent made made None old.session new.session → new.kept.notes.items ≡ old.kept.notes.items
+pub plays-instructions : (made : ℕ) (old new : Played) → RunsSent made made None old.session new.session → new.kept.notes.items ≡ old.kept.notes.items → new.kept.fault ≡ old.kept.fault
     → ((p : ℕ) → told_of new.kept ≡ told_by (told_of old.kept) (replicate made (done_by p))) → new.kept.budget ≡ old.kept.budget → PlaysOn (replicate made Run) old new
-plays-instructions made old new (are, stays) notes told same =
+plays-instructions made old new (are, stays) notes fault told same =
     let w = old.session.machine.world in
     let v = new.session.machine.world in
+    let noted : noted_of new ≡ later (noted_of old) made = noted-is (noted_of new) (later (noted_of old) made) notes fault (more-events made old new stays) in
     let p = or_zero w.turns.current in record {
       list = are.list;
       those = are.those;
       reaches = λ frames trace programs es here. reaches_on frames trace programs es are.list old.session.machine new.session.machine here are.goes;
-      noted = subst (λ (es : Steps). NotesGo w es v old.kept.notes.items new.kept.notes.items) (sym are.runs_are)
-          (notes-those w v (replicate made (done_by p)) old.kept.notes.items old.kept.notes.items new.kept.notes.items (sym notes)
-          (notes-again made w v Run (Step_of p Stepped) old.kept.notes.items (done-noteless p) (subst (λ (es : Steps). IsPromised w es v) are.runs_are are.goes.run)));
+      noted = subst (λ (es : Steps). NotesGo w es v (noted_of old) (noted_of new)) (sym are.runs_are)
+          (notes-those w v (replicate made (done_by p)) (noted_of old) (later (noted_of old) made) (noted_of new) (sym noted)
+          (notes-again made w v Run (Step_of p Stepped) (noted_of old) (done-noteless p) (subst (λ (es : Steps). IsPromised w es v) are.runs_are are.goes.run)));
       told = told p ∙ ap (told_by (told_of old.kept)) (sym are.runs_are);
       budget = same;
     }
@@ -108,27 +133,31 @@ plays-instructions made old new (are, stays) notes told same =
 pub plays-still : (made : ℕ) (old new : Played) → RunsSent made made None old.session new.session → made ≡ 0 → new.kept ≡ old.kept → PlaysOn [] old new
 plays-still made old new are none same =
     plays-those (replicate made Run) [] old new (ap (λ (n : ℕ). replicate n Run) none)
-    (plays-instructions made old new are (ap (λ (k : Kept). k.notes.items) same)
+    (plays-instructions made old new are (ap (λ (k : Kept). k.notes.items) same) (ap (λ (k : Kept). k.fault) same)
     (λ p. ap told_of same ∙ ap (λ (n : ℕ). told_by (told_of old.kept) (replicate n (done_by p))) (sym none)) (ap (λ (k : Kept). k.budget) same))
 
 -- some
-pub plays-done : (made : ℕ) (old new : Played) → RunsSent made made None old.session new.session → 0 < made → new.kept.notes.items ≡ old.kept.notes.items
+pub plays-done : (made : ℕ) (old new : Played) → RunsSent made made None old.session new.session → 0 < made → new.kept.notes.items ≡ old.kept.notes.items → new.kept.fault ≡ old.kept.fault
     → told_of new.kept ≡ told_runs (told_of old.kept) made None → new.kept.budget ≡ old.kept.budget → PlaysOn (replicate made Run) old new
-plays-done made old new are some notes told same = plays-instructions made old new are notes (λ p. told ∙ sym (done-told made p (told_of old.kept) some)) same
+plays-done made old new are some notes fault told same = plays-instructions made old new are notes fault (λ p. told ∙ sym (done-told made p (told_of old.kept) some)) same
 
 -- Runs as nobody runs
-pub plays-passed : (most sent : ℕ) (last : Option Outcome) (old new : Played) → 0 < most → old.session.machine.world.turns.current ≡ None → RunsSent most sent last old.session new.session
-    → new.kept.notes.items ≡ old.kept.notes.items ++ passed_notes last → told_of new.kept ≡ told_runs (told_of old.kept) sent last
-    → new.kept.budget ≡ old.kept.budget → PlaysOn (replicate sent Run) old new × (0 < sent) × (sent ≤ most)
-plays-passed most sent last old new some nobody (made, stays) notes told same =
+pub plays-passed : (most sent place : ℕ) (last : Option Outcome) (old new : Played) → 0 < most → old.session.machine.world.turns.current ≡ None → RunsSent most sent last old.session new.session
+    → place ≡ length new.session.events - 1 → new.kept.notes.items ≡ old.kept.notes.items ++ passed_notes last → new.kept.fault ≡ fault_behind old.kept.fault place last
+    → told_of new.kept ≡ told_runs (told_of old.kept) sent last → new.kept.budget ≡ old.kept.budget → PlaysOn (replicate sent Run) old new × (0 < sent) × (sent ≤ most)
+plays-passed most sent place last old new some nobody (made, stays) at notes fault told same =
     let w = old.session.machine.world in
+    let long = more-events sent old new stays in
+    let there : place ≡ length old.session.events + sent - 1 = omega (arith, at, long) in
+    let noted : noted_of new ≡ passed_with (noted_of old) sent last =
+    noted-is (noted_of new) (passed_with (noted_of old) sent last) notes (fault ∙ ap (λ (k : ℕ). fault_behind old.kept.fault k last) there) long in
     let is = runs-told most sent _ last made.list (told_of old.kept) some made.runs_are made.those in (
       record {
         list = made.list;
         those = made.those;
         reaches = λ frames trace programs es here. reaches_on frames trace programs es made.list old.session.machine new.session.machine here made.goes;
-        noted = notes-those w new.session.machine.world made.list old.kept.notes.items (old.kept.notes.items ++ passed_notes last) new.kept.notes.items (sym notes)
-            (notes-passed w new.session.machine.world nobody old.kept.notes.items most _ last made.list made.runs_are made.goes.run);
+        noted = notes-those w new.session.machine.world made.list (noted_of old) (passed_with (noted_of old) sent last) (noted_of new) (sym noted)
+            (notes-passed w new.session.machine.world nobody (noted_of old) most sent _ last made.list made.runs_are made.those made.goes.run);
         told = told ∙ sym is.0;
         budget = same;
       },
@@ -191,3 +220,9 @@ booted-reached frames trace programs s (list, those, reached, named) new =
 -- the first world, and that no note stands of it yet
 pub booted-noted : (frames trace : ℕ) (programs : List ProgramFile) (m : Meaning) → IsReached frames trace programs [] m → first frames trace programs ≡ Ok m.world
 booted-noted frames trace programs m (booted, is, count, sound, empty, goes) = is ∙ ap Ok (sym goes.run)
+
+-- nothing is noted yet
+pub booted-blank : (frames trace : ℕ) (programs : List ProgramFile) (s : Recorded) (p : Played) → IsNew frames trace programs s → p.session ≡ s → p.kept.notes.items ≡ [] → p.kept.fault ≡ None
+    → noted_of p ≡ nothing_noted
+booted-blank frames trace programs s p new is notes fault =
+    noted-is (noted_of p) nothing_noted notes fault (ap (λ (r : Recorded). length r.events) is ∙ ap length new.events)

@@ -1,6 +1,7 @@
 pub mod Noting
 pub mod Telling
 pub mod Going
+pub mod Working
 pub mod Counting
 pub mod Planning
 pub mod Handed

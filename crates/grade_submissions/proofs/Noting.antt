@@ -1,49 +1,61 @@
 -- The notes of events, one behind another.
 use Rattle.std.specs.Prelude.{ℤ}
-use Rattle.std.proofs.Common.{◌≡◌, ℕ, zero, suc, List, [], ◌∷◌, ◌++◌, replicate, Option, None, Some, inl, inr, refl, sym, ap, ◌∙◌, subst, arith, append-nil}
+use Rattle.std.proofs.Common.{◌≡◌, ℕ, zero, suc, ◌+◌, ◌-◌, List, [], ◌∷◌, ◌++◌, length, replicate, Option, None, Some, inl, inr, refl, sym, ap, ◌∙◌, subst, arith, append-nil, length-append}
+use Rattle.std.proofs.lemmas.List.{length-replicate}
 use Rattle.console_core.specs.Keys.{line}
 use Rattle.grade_rules.specs.declared.given.Given.{Given}
 use Rattle.grade_rules.specs.declared.note.Note.{Note}
+use Rattle.kernel_spec.specs.runs.Rounds.{events}
 use Rattle.kernel_spec.specs.runs.Run.{World, Event, Run, Tick, Key, Send, Outcome, Step_of, Idle, Ticked, Typed, Sent, Halted, RunHappens, TickHappens, KeyHappens, first_sent}
 use Rattle.kernel_spec.specs.steps.Own.{Answer, Stepped}
 use Rattle.kernel_spec.specs.waking.Wakes.{Promised, IsPromised}
 use Rattle.xv_machine.specs.Drives.{done_by}
 use Rattle.xv_session.specs.Steps.{AreRunsTo}
+use Rattle.xv_session.proofs.RunsCounted.{count-sent}
 use Rattle.grade_submissions.specs.Givens.{given_in, given_by, nothing_given}
-use Rattle.grade_submissions.specs.Plays.{runs_in, note_with, note_of, all_of, passed_notes, NotesGo}
+use Rattle.grade_submissions.specs.Plays.{Noted, runs_in, note_with, all_of, passed_notes, fault_after, fault_behind, noted_with, NotesGo}
 
-pub notes-one : (w t : World) (e : Event) (o : Outcome) (notes : List Note) → Promised w e o t → NotesGo w ((e, o) ∷ []) t notes (notes ++ all_of (note_of w o))
-notes-one w t e o notes promised = (t, promised, (refl, refl))
+-- what is noted, of its parts
+abbrev pub noted-of : List Note → (fault : Option ℕ) → (events : ℕ) → Noted
+noted-of notes fault events = record { notes = notes; fault = fault; events = events }
 
-pub notes-join : (xs ys : List (Event × Outcome)) (w m t : World) (a b c : List Note) → NotesGo w xs m a b → NotesGo m ys t b c → NotesGo w (xs ++ ys) t a c
-notes-join [] ys w m t a b c p q = subst (λ (v : World). NotesGo v ys t a c) p.0 (subst (λ (ns : List Note). NotesGo m ys t ns c) p.1 q)
-notes-join (x ∷ xs) ys w m t a b c (mid, one, more) q = (mid, one, notes-join xs ys mid m t (a ++ all_of (note_of w x.1)) b c more q)
+pub noted-is : (n m : Noted) → n.notes ≡ m.notes → n.fault ≡ m.fault → n.events ≡ m.events → n ≡ m
+noted-is n m notes fault count =
+    ap (λ (ns : List Note). noted-of ns n.fault n.events) notes ∙ ap (λ (f : Option ℕ). noted-of m.notes f n.events) fault ∙ ap (λ (k : ℕ). noted-of m.notes m.fault k) count
 
-pub notes-those : (w t : World) (list : List (Event × Outcome)) (a b c : List Note) → b ≡ c → NotesGo w list t a b → NotesGo w list t a c
-notes-those w t list a b c same go = subst (λ (ns : List Note). NotesGo w list t a ns) same go
+pub notes-one : (w t : World) (e : Event) (o : Outcome) (n : Noted) → Promised w e o t → NotesGo w ((e, o) ∷ []) t n (noted_with w o n)
+notes-one w t e o n promised = (t, promised, (refl, refl))
+
+pub notes-join : (xs ys : List (Event × Outcome)) (w m t : World) (a b c : Noted) → NotesGo w xs m a b → NotesGo m ys t b c → NotesGo w (xs ++ ys) t a c
+notes-join [] ys w m t a b c p q = subst (λ (v : World). NotesGo v ys t a c) p.0 (subst (λ (n : Noted). NotesGo m ys t n c) p.1 q)
+notes-join (x ∷ xs) ys w m t a b c (mid, one, more) q = (mid, one, notes-join xs ys mid m t (noted_with w x.1 a) b c more q)
+
+pub notes-those : (w t : World) (list : List (Event × Outcome)) (a b c : Noted) → b ≡ c → NotesGo w list t a b → NotesGo w list t a c
+notes-those w t list a b c same go = subst (λ (n : Noted). NotesGo w list t a n) same go
 
 -- ---- outcomes without a note
 
 pub record IsNoteless (o : Outcome) : Type 0 where
   pub none : (given : Given) → note_with given o ≡ None
+  pub faultless : (before : Option ℕ) (place : ℕ) → fault_after before place o ≡ before
 
 pub done-noteless : (p : ℕ) → IsNoteless (Step_of p Stepped)
-done-noteless p = record { none = λ given. refl }
+done-noteless p = record { none = λ given. refl; faultless = λ before place. refl }
 
 idle-noteless : IsNoteless Idle
-idle-noteless = record { none = λ given. refl }
+idle-noteless = record { none = λ given. refl; faultless = λ before place. refl }
 
 halted-noteless : IsNoteless Halted
-halted-noteless = record { none = λ given. refl }
+halted-noteless = record { none = λ given. refl; faultless = λ before place. refl }
 
 ticked-noteless : IsNoteless Ticked
-ticked-noteless = record { none = λ given. refl }
+ticked-noteless = record { none = λ given. refl; faultless = λ before place. refl }
 
 typed-noteless : (echo : List ℕ) → IsNoteless (Typed echo)
-typed-noteless echo = record { none = λ given. refl }
+typed-noteless echo = record { none = λ given. refl; faultless = λ before place. refl }
 
 sent-noteless : (byte : Option ℕ) → IsNoteless (Sent byte)
-sent-noteless byte = record { none = λ given. refl }
+sent-noteless byte = record { none = λ given. refl; faultless = λ before place. refl }
 
 tick-noteless : (w t : World) (halted : Option ℤ) (o : Outcome) → TickHappens w halted o t → IsNoteless o
 tick-noteless w t (Some status) o h = subst IsNoteless (sym h.0) halted-noteless
@@ -60,15 +72,24 @@ other-noteless w t Tick o other promised = tick-noteless w t w.turns.halted o pr
 other-noteless w t (Key byte) o other promised = key-noteless w t byte w.turns.halted o promised.0
 other-noteless w t Send o other promised = subst IsNoteless (sym promised.0.0) (sent-noteless (first_sent w.state.console.to_send))
 
--- then the notes stay
-pub none-more : (w : World) (o : Outcome) (notes : List Note) → IsNoteless o → notes ++ all_of (note_of w o) ≡ notes
-none-more w o notes quiet = ap (λ (n : Option Note). notes ++ all_of n) (quiet.none (given_in w)) ∙ append-nil notes
+-- so many events later, of which nothing is noted
+abbrev pub later : Noted → (count : ℕ) → Noted
+later n count = record { notes = n.notes; fault = n.fault; events = n.events + count }
 
--- the same outcome again and again, of which no note comes
-pub notes-again : (n : ℕ) (w t : World) (e : Event) (o : Outcome) (notes : List Note) → IsNoteless o → IsPromised w (replicate n (e, o)) t → NotesGo w (replicate n (e, o)) t notes notes
-notes-again zero w t e o notes quiet run = (run, refl)
-notes-again (suc n) w t e o notes quiet (mid, one, more) =
-    (mid, one, subst (λ (ns : List Note). NotesGo mid (replicate n (e, o)) t ns notes) (sym (none-more w o notes quiet)) (notes-again n mid t e o notes quiet more))
+pub none-more : (w : World) (o : Outcome) (n : Noted) → IsNoteless o → noted_with w o n ≡ later n 1
+none-more w o n quiet =
+    noted-is (noted_with w o n) (later n 1) (ap (λ (x : Option Note). n.notes ++ all_of x) (quiet.none (given_in w)) ∙ append-nil n.notes) (quiet.faultless n.fault n.events) refl
+
+-- the same outcome again and again, of which nothing is noted
+pub notes-again : (k : ℕ) (w t : World) (e : Event) (o : Outcome) (n : Noted) → IsNoteless o → IsPromised w (replicate k (e, o)) t → NotesGo w (replicate k (e, o)) t n (later n k)
+notes-again zero w t e o n quiet run = (run, noted-is (later n 0) n refl refl (omega arith))
+notes-again (suc k) w t e o n quiet (mid, one, more) = (
+  mid,
+  one,
+  subst (λ (m : Noted). NotesGo mid (replicate k (e, o)) t m (later n (suc k))) (sym (none-more w o n quiet))
+      (notes-those mid t (replicate k (e, o)) (later n 1) (later (later n 1) k) (later n (suc k)) (noted-is (later (later n 1) k) (later n (suc k)) refl refl (omega arith))
+      (notes-again k mid t e o (later n 1) quiet more)),
+)
 
 -- ---- Runs as nobody runs
 
@@ -77,34 +98,54 @@ no-step w t (Some status) current p answer none happens = let is : Step_of p ans
 no-step w t None None p answer none happens = happens
 no-step w t None (Some q) p answer none happens = absurd (cc)
 
--- what came of the first Run has the note that stands for nobody's
-first-note : (w : World) (o : Outcome) (notes : List Note) → w.turns.current ≡ None → notes ++ all_of (note_of w o) ≡ notes ++ passed_notes (Some o)
-first-note w o notes nobody = ap (λ (c : Option ℕ). notes ++ all_of (note_with (given_by w c) o)) nobody
+-- what is noted behind so many Runs, of the last of which this came
+abbrev pub passed_with : Noted → (sent : ℕ) → Option Outcome → Noted
+passed_with n sent last = record { notes = n.notes ++ passed_notes last; fault = fault_behind n.fault (n.events + sent - 1) last; events = n.events + sent }
 
-module _ (w t : World) (nobody : w.turns.current ≡ None) (notes : List Note) where
+-- what came of the first Run has the note that stands for nobody's
+first-noted : (w : World) (o : Outcome) (n : Noted) → w.turns.current ≡ None → noted_with w o n ≡ passed_with n 1 (Some o)
+first-noted w o n nobody =
+    let place : n.events ≡ n.events + 1 - 1 = omega arith in
+    noted-is (noted_with w o n) (passed_with n 1 (Some o)) (ap (λ (c : Option ℕ). n.notes ++ all_of (note_with (given_by w c) o)) nobody) (ap (λ (k : ℕ). fault_after n.fault k o) place) refl
+
+module _ (w t : World) (nobody : w.turns.current ≡ None) (n : Noted) where
   -- instructions can't come first
-  at-once : (made p : ℕ) (o : Outcome) → IsPromised w (replicate made (done_by p) ++ (Run, o) ∷ []) t
-      → NotesGo w (replicate made (done_by p) ++ (Run, o) ∷ []) t notes (notes ++ passed_notes (Some o))
-  at-once zero p o (mid, one, here) = notes-those w t ((Run, o) ∷ []) notes (notes ++ all_of (note_of w o)) (notes ++ passed_notes (Some o)) (first-note w o notes nobody) (mid, one, (here, refl))
-  at-once (suc made) p o (mid, one, more) = absurd (no-step w mid w.turns.halted w.turns.current p Stepped nobody one.0)
+  at-once : (made p sent : ℕ) (o : Outcome) → sent ≡ made + 1 → IsPromised w (replicate made (done_by p) ++ (Run, o) ∷ []) t
+      → NotesGo w (replicate made (done_by p) ++ (Run, o) ∷ []) t n (passed_with n sent (Some o))
+  at-once zero p sent o count (mid, one, here) =
+      notes-those w t ((Run, o) ∷ []) n (noted_with w o n) (passed_with n sent (Some o)) (first-noted w o n nobody ∙ ap (λ (k : ℕ). passed_with n k (Some o)) (sym count)) (mid, one, (here, refl))
+  at-once (suc made) p sent o count (mid, one, more) = absurd (no-step w mid w.turns.halted w.turns.current p Stepped nobody one.0)
 
   -- the same again and again
-  all-the-same : (most : ℕ) (o : Outcome) → IsNoteless o → IsPromised w (replicate most (Run, o)) t → NotesGo w (replicate most (Run, o)) t notes (notes ++ passed_notes (Some o))
-  all-the-same most o quiet run =
-      notes-those w t (replicate most (Run, o)) notes notes (notes ++ passed_notes (Some o))
-      (sym (ap (λ (n : Option Note). notes ++ all_of n) (quiet.none nothing_given) ∙ append-nil notes)) (notes-again most w t Run o notes quiet run)
+  all-the-same : (most sent : ℕ) (o : Outcome) → sent ≡ most → IsNoteless o → IsPromised w (replicate most (Run, o)) t
+      → NotesGo w (replicate most (Run, o)) t n (passed_with n sent (Some o))
+  all-the-same most sent o count quiet run =
+      notes-those w t (replicate most (Run, o)) n (later n most) (passed_with n sent (Some o))
+      (sym (noted-is (passed_with n sent (Some o)) (later n most) (ap (λ (x : Option Note). n.notes ++ all_of x) (quiet.none nothing_given) ∙ append-nil n.notes)
+      (quiet.faultless n.fault (n.events + sent - 1)) (ap (λ (k : ℕ). n.events + k) count))) (notes-again most w t Run o n quiet run)
 
-  pub notes-passed : (most p : ℕ) (last : Option Outcome) (list : List (Event × Outcome)) → AreRunsTo most p last list → IsPromised w list t → NotesGo w list t notes (notes ++ passed_notes last)
-  notes-passed most p None list are run =
-      subst (λ (es : List (Event × Outcome)). NotesGo w es t notes (notes ++ passed_notes None)) (sym are)
-      (notes-those w t (replicate most (done_by p)) notes notes (notes ++ passed_notes None) (sym (append-nil notes))
-      (notes-again most w t Run (Step_of p Stepped) notes (done-noteless p) (subst (λ (es : List (Event × Outcome)). IsPromised w es t) are run)))
-  notes-passed most p (Some o) list (inl made) run =
-      subst (λ (es : List (Event × Outcome)). NotesGo w es t notes (notes ++ passed_notes (Some o))) (sym made.1)
-      (at-once made.0 p o (subst (λ (es : List (Event × Outcome)). IsPromised w es t) made.1 run))
-  notes-passed most p (Some o) list (inr (is, inl idle)) run =
-      subst (λ (es : List (Event × Outcome)). NotesGo w es t notes (notes ++ passed_notes (Some o))) (sym is)
-      (all-the-same most o (subst IsNoteless (sym idle) idle-noteless) (subst (λ (es : List (Event × Outcome)). IsPromised w es t) is run))
-  notes-passed most p (Some o) list (inr (is, inr halted)) run =
-      subst (λ (es : List (Event × Outcome)). NotesGo w es t notes (notes ++ passed_notes (Some o))) (sym is)
-      (all-the-same most o (subst IsNoteless (sym halted) halted-noteless) (subst (λ (es : List (Event × Outcome)). IsPromised w es t) is run))
+  by-list : (most sent p : ℕ) (last : Option Outcome) (list : List (Event × Outcome)) → AreRunsTo most p last list → length list ≡ sent → IsPromised w list t
+      → NotesGo w list t n (passed_with n sent last)
+  by-list most sent p None list are long run =
+      let count : sent ≡ most = sym long ∙ ap length are ∙ length-replicate most (done_by p) in
+      subst (λ (es : List (Event × Outcome)). NotesGo w es t n (passed_with n sent None)) (sym are)
+      (notes-those w t (replicate most (done_by p)) n (later n most) (passed_with n sent None)
+      (sym (noted-is (passed_with n sent None) (later n most) (append-nil n.notes) refl (ap (λ (k : ℕ). n.events + k) count)))
+      (notes-again most w t Run (Step_of p Stepped) n (done-noteless p) (subst (λ (es : List (Event × Outcome)). IsPromised w es t) are run)))
+  by-list most sent p (Some o) list (inl made) long run =
+      let count : sent ≡ made.0 + 1 =
+      sym long ∙ ap length made.1 ∙ length-append (replicate made.0 (done_by p)) ((Run, o) ∷ []) ∙ ap (λ (k : ℕ). k + 1) (length-replicate made.0 (done_by p)) in
+      subst (λ (es : List (Event × Outcome)). NotesGo w es t n (passed_with n sent (Some o))) (sym made.1)
+      (at-once made.0 p sent o count (subst (λ (es : List (Event × Outcome)). IsPromised w es t) made.1 run))
+  by-list most sent p (Some o) list (inr (is, inl idle)) long run =
+      let count : sent ≡ most = sym long ∙ ap length is ∙ length-replicate most (Run, o) in
+      subst (λ (es : List (Event × Outcome)). NotesGo w es t n (passed_with n sent (Some o))) (sym is)
+      (all-the-same most sent o count (subst IsNoteless (sym idle) idle-noteless) (subst (λ (es : List (Event × Outcome)). IsPromised w es t) is run))
+  by-list most sent p (Some o) list (inr (is, inr halted)) long run =
+      let count : sent ≡ most = sym long ∙ ap length is ∙ length-replicate most (Run, o) in
+      subst (λ (es : List (Event × Outcome)). NotesGo w es t n (passed_with n sent (Some o))) (sym is)
+      (all-the-same most sent o count (subst IsNoteless (sym halted) halted-noteless) (subst (λ (es : List (Event × Outcome)). IsPromised w es t) is run))
+
+  pub notes-passed : (most sent p : ℕ) (last : Option Outcome) (list : List (Event × Outcome)) → AreRunsTo most p last list → events list ≡ replicate sent Run → IsPromised w list t
+      → NotesGo w list t n (passed_with n sent last)
+  notes-passed most sent p last list are those run = by-list most sent p last list are (count-sent list sent those) run

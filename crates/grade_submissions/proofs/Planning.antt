@@ -9,7 +9,6 @@ use Rattle.xk_base.specs.declared.limits.TheConstants.{SEND_BYTES, TRACE_MAX}
 use Rattle.xk_base.specs.declared.errors.BootError.{BootError}
 use Rattle.xk_base.specs.declared.errors.BootError.TheVariants.{BadConfig}
 use Rattle.xk_base.specs.declared.errors.ExecError.{ExecError}
-use Rattle.grade_rules.specs.declared.note.Note.{Note}
 use Rattle.kernel_spec.specs.views.NewKernel.{refusal}
 use Rattle.kernel_spec.specs.views.Programs.{init_name, init_of}
 use Rattle.kernel_spec.specs.runs.First.{first, first_init, first_loaded, unless_refused, within_frames}
@@ -20,7 +19,7 @@ use Rattle.kernel_spec.proofs.runs.Plans.{rounds_follow_rounds}
 use Rattle.xv_machine.specs.Drives.{StopsInRound}
 use Rattle.xv_machine.specs.Reached.{IsReached}
 use Rattle.xv_machine.proofs.Shown.{ends-in}
-use Rattle.grade_submissions.specs.Plays.{Told, nothing, told_of, told_by, NotesGo, is_full, is_over, PlaysFirst, IsByPlan, IsRunOf}
+use Rattle.grade_submissions.specs.Plays.{Told, Noted, nothing, told_of, told_by, nothing_noted, noted_of, NotesGo, is_full, is_over, PlaysFirst, IsByPlan, IsRunOf}
 use Rattle.grade_submissions.specs.declared.playing.TheConstants.{SHOWN_MAX}
 use Rattle.grade_submissions.specs.declared.playing.Plan.{Plan}
 use Rattle.grade_submissions.specs.declared.playing.Played.{Played}
@@ -90,7 +89,7 @@ pub record HasPlayed (plan : Plan) (keys : List ℕ) (count : ℕ) (booted now :
   pub list : Steps
   pub reaches : (frames trace : ℕ) (programs : List ProgramFile) (es : Steps)
       → IsReached frames trace programs es booted.session.machine → IsReached frames trace programs (es ++ list) now.session.machine
-  pub noted : NotesGo booted.session.machine.world list now.session.machine.world booted.kept.notes.items now.kept.notes.items
+  pub noted : NotesGo booted.session.machine.world list now.session.machine.world (noted_of booted) (noted_of now)
   pub told : told_of now.kept ≡ told_by (told_of booted.kept) list
   pub budget : now.kept.budget ≡ booted.kept.budget
   pub so : AreRounds count plan.quantum keys false list ⊎ (StopsInRound plan.rounds plan.quantum keys false list × (is_full now.kept ≡ true))
@@ -124,7 +123,7 @@ module _ (frames trace : ℕ) (programs : List ProgramFile) (plan : Plan) (keys 
       list = list ++ first.plays.list;
       reaches = λ frames trace programs es here. subst (λ (xs : Steps). IsReached frames trace programs xs next.session.machine)
           (append_assoc es list first.plays.list) (first.plays.reaches frames trace programs (es ++ list) (so-far.reaches frames trace programs es here));
-      noted = notes-join list first.plays.list booted.session.machine.world now.session.machine.world next.session.machine.world booted.kept.notes.items now.kept.notes.items next.kept.notes.items
+      noted = notes-join list first.plays.list booted.session.machine.world now.session.machine.world next.session.machine.world (noted_of booted) (noted_of now) (noted_of next)
           so-far.noted first.plays.noted;
       told = first.plays.told ∙ ap (λ (t : Told). told_by t first.plays.list) so-far.told ∙ sym (told-join (told_of booted.kept) list first.plays.list);
       budget = first.plays.budget ∙ so-far.budget;
@@ -182,7 +181,7 @@ module _ (frames trace : ℕ) (programs : List ProgramFile) (plan : Plan) (keys 
       by false on = plan-over within on (sym (ap (λ (b : Bool). b || is_over now.kept) on) ∙ ended)
 
   -- the whole run
-  pub run-of : told_of booted.kept ≡ nothing → booted.kept.notes.items ≡ [] → booted.kept.budget ≡ plan.budget → IsByPlan plan keys list now.kept → IsRunOf frames trace programs plan keys now
+  pub run-of : told_of booted.kept ≡ nothing → noted_of booted ≡ nothing_noted → booted.kept.budget ≡ plan.budget → IsByPlan plan keys list now.kept → IsRunOf frames trace programs plan keys now
   run-of empty blank budget by-plan =
       let told : told_of now.kept ≡ told_by nothing list = so-far.told ∙ ap (λ (t : Told). told_by t list) empty in
       record {
@@ -191,7 +190,7 @@ module _ (frames trace : ℕ) (programs : List ProgramFile) (plan : Plan) (keys 
         rounds = by-plan;
         booted = booted.session.machine.world;
         boots = booted-noted frames trace programs booted.session.machine start;
-        noted = subst (λ (ns : List Note). NotesGo booted.session.machine.world list now.session.machine.world ns now.kept.notes.items) blank so-far.noted;
+        noted = subst (λ (n : Noted). NotesGo booted.session.machine.world list now.session.machine.world n (noted_of now)) blank so-far.noted;
         shown = ap (λ (t : Told). t.shown) told ∙ told-shown nothing list;
         told = told;
         budget = so-far.budget ∙ budget;

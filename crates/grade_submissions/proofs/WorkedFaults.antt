@@ -1,9 +1,9 @@
--- Worked cases of the fault that is told.
-use Rattle.std.specs.Prelude.{◌≡◌, None, Some, pos, refl}
+-- Worked cases of the fault that is told, of what is noted of events, and of what came of the last of them.
+use Rattle.std.specs.Prelude.{◌≡◌, [], ◌∷◌, None, Some, pos, refl}
 use Rattle.xk_base.specs.declared.access.Cause.{Cause}
-use Rattle.kernel_spec.specs.runs.Run.{Step_of, Idle}
+use Rattle.kernel_spec.specs.runs.Run.{World, Run, Step_of, Turn, Idle, Ticked}
 use Rattle.kernel_spec.specs.steps.Own.{Exited, Faulted}
-use Rattle.grade_submissions.specs.Plays.{fault_after, fault_behind}
+use Rattle.grade_submissions.specs.Plays.{fault_after, fault_behind, nothing_noted, noted_with, last_came}
 
 -- the first fault is told, and another one of another process isn't
 the_first : (cause : Cause) → fault_after None 7 (Step_of 3 (Faulted cause)) ≡ Some 7
@@ -25,3 +25,23 @@ no_event = refl
 
 nobody_runs : fault_behind (Some 7) 9 (Some Idle) ≡ Some 7
 nobody_runs = refl
+
+-- ---- what is noted
+
+-- of a Run that was a fault, behind seven other events: its place is 7, and the next one's 8
+seventh : (w : World) (cause : Cause) → (noted_with w (Step_of 3 (Faulted cause)) (record { notes = []; fault = None; events = 7 })).fault ≡ Some 7
+seventh w cause = refl
+
+next : (w : World) → (noted_with w Ticked (record { notes = []; fault = Some 7; events = 8 })) ≡ record { notes = []; fault = Some 7; events = 9 }
+next w = refl
+
+first_event : (w : World) (cause : Cause) → (noted_with w (Step_of 1 (Faulted cause)) nothing_noted).fault ≡ Some 0
+first_event w cause = refl
+
+-- ---- the last event
+
+came_last : last_came ((Run, Turn 2) ∷ (Run, Idle) ∷ []) ≡ Some Idle
+came_last = refl
+
+came_of_none : last_came [] ≡ None
+came_of_none = refl

@@ -1,5 +1,5 @@
 -- What is told of a run: the notes of its events, with what each call was given, what it showed, and how it ended.
-use Rattle.std.specs.Prelude.{◌≡◌, ◌⊎◌, ℕ, zero, suc, ℤ, ◌+◌, ◌-◌, Bool, true, false, ◌||◌, if◌then◌else◌, nat_lt, List, [], ◌∷◌, ◌++◌, length, sum_by, is_some, is_none, nat_eq, Option, None, Some, Result, Ok, Err}
+use Rattle.std.specs.Prelude.{◌≡◌, ◌⊎◌, ℕ, zero, suc, ℤ, ◌+◌, Bool, true, false, ◌||◌, if◌then◌else◌, nat_lt, List, [], ◌∷◌, ◌++◌, length, replicate, sum_by, is_some, is_none, nat_eq, Option, None, Some, Result, Ok, Err}
 use Rattle.grade_rules.specs.declared.given.Given.{Given}
 use Rattle.grade_rules.specs.declared.note.Note.{Note}
 use Rattle.grade_rules.specs.declared.note.Note.TheVariants as note
@@ -10,14 +10,15 @@ use Rattle.kernel_spec.specs.runs.Run.{World, Event, Run, Tick, Key, Send, Outco
 use Rattle.kernel_spec.specs.runs.Rounds.{events, Planned}
 use Rattle.kernel_spec.specs.steps.Own.{Answer, Stepped, Called, Blocked, Exited, Faulted}
 use Rattle.kernel_spec.specs.views.State.{ProgramFile}
-use Rattle.kernel_spec.specs.waking.Wakes.{Promised}
+use Rattle.kernel_spec.specs.views.Words.{or_zero}
+use Rattle.kernel_spec.specs.waking.Wakes.{Promised, IsPromised}
 use Rattle.xk_base.specs.Access.{code_of}
 use Rattle.xk_base.specs.declared.errors.BootError.{BootError}
 use Rattle.kcall_core.specs.Observers.{size_of}
 use Rattle.run_work.specs.Work.{cost, size_now, with_more}
 use Rattle.run_work.specs.declared.cost.Before.{Before}
-use Rattle.xv_machine.specs.Drives.{StopsInRound}
-use Rattle.xv_machine.specs.Reached.{IsEvent, IsReached}
+use Rattle.xv_machine.specs.Drives.{StopsInRound, done_by}
+use Rattle.xv_machine.specs.Reached.{IsReached}
 use Rattle.grade_submissions.specs.Givens.{given_in, nothing_given}
 use Rattle.grade_submissions.specs.declared.playing.TheConstants.{NOTES_MAX, SHOWN_MAX}
 use Rattle.grade_submissions.specs.declared.playing.Kept.{Kept}
@@ -56,10 +57,52 @@ abbrev pub passed_notes : Option Outcome → List Note
 passed_notes None = []
 passed_notes (Some o) = all_of (note_with nothing_given o)
 
--- The world goes from w to t by these events, each as promised, and the notes go from `notes` to `after`: behind them stands the note of each event, of the world before it
-abbrev pub NotesGo : World → List (Event × Outcome) → World → (notes after : List Note) → Type 0
-NotesGo w [] t notes after = (t ≡ w) × (after ≡ notes)
-NotesGo w (e ∷ es) t notes after = (mid : World) × Promised w e.0 e.1 mid × NotesGo mid es t (notes ++ all_of (note_of w e.1)) after
+-- ---- the fault that is told
+
+-- the place of the event that was a fault: that of process 1, if it has one, and else the first
+abbrev pub fault_after : Option ℕ → (place : ℕ) → Outcome → Option ℕ
+fault_after before place (Step_of p (Faulted cause)) = if is_none before || nat_eq p 1 then Some place else before
+fault_after before place (Step_of p Stepped) = before
+fault_after before place (Step_of p (Called number value)) = before
+fault_after before place (Step_of p (Blocked number)) = before
+fault_after before place (Step_of p (Exited status)) = before
+fault_after before place (Turn p) = before
+fault_after before place Idle = before
+fault_after before place Ticked = before
+fault_after before place (Typed echo) = before
+fault_after before place (Sent byte) = before
+fault_after before place Halted = before
+
+-- behind Runs that were sent at once, the last of which is at this place, unless each was a done instruction
+abbrev pub fault_behind : Option ℕ → (place : ℕ) → Option Outcome → Option ℕ
+fault_behind before place None = before
+fault_behind before place (Some o) = fault_after before place o
+
+-- ---- what is noted of events
+
+pub record Noted : Type 0 where
+  -- the notes, in the order of their events
+  pub notes : List Note
+  -- the place of the fault that is told
+  pub fault : Option ℕ
+  -- how many events there were: the place of the next one
+  pub events : ℕ
+
+abbrev pub nothing_noted : Noted
+nothing_noted = record { notes = []; fault = None; events = 0 }
+
+-- behind an event of which this came: its note, of the world before it, stands behind those before, and the fault that is told has its place
+abbrev pub noted_with : World → Outcome → Noted → Noted
+noted_with w o n = record { notes = n.notes ++ all_of (note_of w o); fault = fault_after n.fault n.events o; events = n.events + 1 }
+
+-- The world goes from w to t by these events, each as promised, and what is noted of them goes from `before` to `after`
+abbrev pub NotesGo : World → List (Event × Outcome) → World → (before after : Noted) → Type 0
+NotesGo w [] t before after = (t ≡ w) × (after ≡ before)
+NotesGo w (e ∷ es) t before after = (mid : World) × Promised w e.0 e.1 mid × NotesGo mid es t (noted_with w e.1 before) after
+
+-- what is noted of a run
+abbrev pub noted_of : Played → Noted
+noted_of p = record { notes = p.kept.notes.items; fault = p.kept.fault; events = length p.session.events }
 
 -- ---- what is known behind each event
 
@@ -137,47 +180,33 @@ told_runs t sent (Some o) = told_with t sent o
 abbrev pub told_of : Kept → Told
 told_of k = record { shown = k.shown.items; runs = k.runs; last = k.last; idle = k.idle; sending = k.sending }
 
--- ---- the fault that is told
-
--- the place of the event that was a fault: that of process 1, if it has one, and else the first
-abbrev pub fault_after : Option ℕ → (place : ℕ) → Outcome → Option ℕ
-fault_after before place (Step_of p (Faulted cause)) = if is_none before || nat_eq p 1 then Some place else before
-fault_after before place (Step_of p Stepped) = before
-fault_after before place (Step_of p (Called number value)) = before
-fault_after before place (Step_of p (Blocked number)) = before
-fault_after before place (Step_of p (Exited status)) = before
-fault_after before place (Turn p) = before
-fault_after before place Idle = before
-fault_after before place Ticked = before
-fault_after before place (Typed echo) = before
-fault_after before place (Sent byte) = before
-fault_after before place Halted = before
-
--- behind Runs that were sent at once, the last of which is at this place, unless each was a done instruction
-abbrev pub fault_behind : Option ℕ → (place : ℕ) → Option Outcome → Option ℕ
-fault_behind before place None = before
-fault_behind before place (Some o) = fault_after before place o
-
--- What came of an event is kept: if it is the fault that is told, its place is
-pub record FaultKept (e : Event) (old new : Played) : Type 0 where
-  pub outcome : Outcome
-  pub came : IsEvent old.session.machine e outcome new.session.machine
-  pub fault : new.kept.fault ≡ fault_after old.kept.fault (length old.session.events) outcome
-
--- the same of Runs that were sent at once, of the last of which this came, unless each was a done instruction
-pub record LastFaultKept (old new : Played) : Type 0 where
-  pub last : Option Outcome
-  pub fault : new.kept.fault ≡ fault_behind old.kept.fault (length new.session.events - 1) last
-
 -- ---- the work
 
--- So many Runs were worked off: what they cost is added, by what is seen of the machine before them and behind them
+-- what came of the last of these events
+abbrev pub last_came : List (Event × Outcome) → Option Outcome
+last_came [] = None
+last_came (e ∷ []) = Some e.1
+last_came (e ∷ f ∷ list) = last_came (f ∷ list)
+
+-- so many instructions of the process that runs are done, and nothing else
+abbrev pub AreInstructions : (sent : ℕ) → World → World → Type 0
+AreInstructions sent w t = IsPromised w (replicate sent (done_by (or_zero w.turns.current))) t
+
+-- So many Runs were worked off: what they cost is added, by what is seen of the machine before them and behind them, and by what came of the last of them
 pub record WorksOff (sent : ℕ) (old new : Played) : Type 0 where
+  pub list : List (Event × Outcome)
+  pub came : IsPromised old.session.machine.world list new.session.machine.world
+  pub those : events list ≡ replicate sent Run
   pub before : Before
   pub free : before.free ≡ old.session.machine.world.state.free
   pub size : before.size ≡ size_now (size_of old.session.machine.world.state) old.session.machine.world.turns.current
-  pub last : Option Outcome
-  pub work : new.kept.work ≡ with_more old.kept.work (cost before sent new.session.machine.world.state.free (size_of new.session.machine.world.state) last)
+  pub work : new.kept.work ≡ with_more old.kept.work (cost before sent new.session.machine.world.state.free (size_of new.session.machine.world.state) (last_came list))
+
+-- The last of so many Runs was worked off, before which the machine was seen like this: what all of them cost is added
+pub record LastWorksOff (sent : ℕ) (before : Before) (old new : Played) : Type 0 where
+  pub outcome : Outcome
+  pub came : Promised old.session.machine.world Run outcome new.session.machine.world
+  pub work : new.kept.work ≡ with_more old.kept.work (cost before sent new.session.machine.world.state.free (size_of new.session.machine.world.state) (Some outcome))
 
 -- ---- what stops a run
 
@@ -196,7 +225,7 @@ pub record PlaysOn (wanted : List Event) (old new : Played) : Type 0 where
   pub list : List (Event × Outcome)
   pub those : events list ≡ wanted
   pub reaches : (frames trace : ℕ) (programs : List ProgramFile) (es : List (Event × Outcome)) → IsReached frames trace programs es old.session.machine → IsReached frames trace programs (es ++ list) new.session.machine
-  pub noted : NotesGo old.session.machine.world list new.session.machine.world old.kept.notes.items new.kept.notes.items
+  pub noted : NotesGo old.session.machine.world list new.session.machine.world (noted_of old) (noted_of new)
   pub told : told_of new.kept ≡ told_by (told_of old.kept) list
   pub budget : new.kept.budget ≡ old.kept.budget
 
@@ -214,14 +243,14 @@ pub record PlaysFirst (wanted : List Event) (old new : Played) : Type 0 where
 abbrev pub IsByPlan : Plan → (keys : List ℕ) → List (Event × Outcome) → Kept → Type 0
 IsByPlan plan keys list kept = Planned plan.rounds plan.quantum keys false list ⊎ (StopsInRound plan.rounds plan.quantum keys false list × (is_over kept ≡ true))
 
--- A machine with so many frames, a trace of so many notes and these programs was booted, and has got these events, by the plan and with these keys: what is kept are their notes, each of the world before its event, and what they showed
+-- A machine with so many frames, a trace of so many notes and these programs was booted, and has got these events, by the plan and with these keys: what is kept are their notes, each of the world before its event, the place of the fault that is told, and what they showed
 pub record IsRunOf (frames trace : ℕ) (programs : List ProgramFile) (plan : Plan) (keys : List ℕ) (p : Played) : Type 0 where
   pub list : List (Event × Outcome)
   pub reached : IsReached frames trace programs list p.session.machine
   pub rounds : IsByPlan plan keys list p.kept
   pub booted : World
   pub boots : first frames trace programs ≡ Ok booted
-  pub noted : NotesGo booted list p.session.machine.world [] p.kept.notes.items
+  pub noted : NotesGo booted list p.session.machine.world nothing_noted (noted_of p)
   pub shown : p.kept.shown.items ≡ out list
   pub told : told_of p.kept ≡ told_by nothing list
   pub budget : p.kept.budget ≡ plan.budget

@@ -1,5 +1,5 @@
 //! A run of what was handed in: what happened, and what was shown.
-ghost use Rattle.std.specs.Prelude.{◌≡◌, ◌+◌, ◌*◌, ◌<◌, ◌≤◌, ◌^◌, ◌++◌, ◌∷◌, [], None, ◌||◌, map, option_map, Option, replicate, slice_get, is_some, IfOk};
+ghost use Rattle.std.specs.Prelude.{◌≡◌, ◌+◌, ◌*◌, ◌<◌, ◌≤◌, ◌^◌, ◌++◌, ◌∷◌, [], None, ◌||◌, map, option_map, replicate, slice_get, is_some, IfOk};
 ghost use Rattle.std.specs.Option.{option_to_list};
 ghost use Rattle.kernel_spec.specs.runs.Run as run_events;
 ghost use Rattle.kernel_spec.specs.runs.Rounds.{round};
@@ -8,9 +8,8 @@ ghost use Rattle.xv_machine.specs.Events.{event_of, outcome_of};
 ghost use Rattle.xv_machine.specs.RoundParts.{events_of_parts};
 ghost use Rattle.xv_session.specs.Recorded.{IsRecorded};
 ghost use Rattle.grade_submissions.specs.Plays.{note_with, all_of, passed_notes, nothing, runs_in, runs_among, told_of, told_with, told_runs, last_after, idle_after, sending_after};
-ghost use Rattle.grade_submissions.specs.Plays.{is_full, is_over, PlaysOn, PlaysFirst, IsPlayed, end_of, fault_after, fault_behind, FaultKept, LastFaultKept, WorksOff};
-ghost use Rattle.kcall_core.specs.Observers.{size_of};
-ghost use Rattle.run_work.specs.Work.{cost, size_now, with_more};
+ghost use Rattle.grade_submissions.specs.Plays.{is_full, is_over, PlaysOn, PlaysFirst, IsPlayed, end_of, fault_after, fault_behind, AreInstructions, WorksOff, LastWorksOff};
+ghost use Rattle.run_work.specs.Work.{with_more};
 
 use crate::givens::{given_now, nothing_given};
 use grade_rules::{End, Given, Note};
@@ -292,7 +291,7 @@ impl Played {
         ensures within { IfOk result (λ sent. sent ≤ most) }
         ensures runs { IfOk result (λ sent. self.new.kept.runs ≡ self.old.kept.runs + sent) }
         ensures work { IfOk result (λ _. self.new.kept.work ≡ self.old.kept.work) }
-        ensures fault { IfOk result (λ _. self.new.kept.fault ≡ self.old.kept.fault) }
+        ensures done { IfOk result (λ sent. AreInstructions sent self.old.session.machine.world self.new.session.machine.world) }
     {
         let sent = self.session.instructions(most)?;
         if sent == 0 {
@@ -309,9 +308,7 @@ impl Played {
         requires few { sent + 1 < 2 ^ 32 }
         ensures plays { IfOk result (λ _. PlaysOn (run_events.Run ∷ []) self.old self.new) }
         ensures runs { IfOk result (λ _. self.new.kept.runs ≡ self.old.kept.runs + 1) }
-        ensures work { IfOk result (λ _. (last : Option run_events.Outcome)
-            × (self.new.kept.work ≡ with_more self.old.kept.work (cost before.now (sent + 1) self.new.session.machine.world.state.free (size_of self.new.session.machine.world.state) last))) }
-        ensures fault { IfOk result (λ _. FaultKept run_events.Run self.old self.new) }
+        ensures work { IfOk result (λ _. LastWorksOff (sent + 1) before.now self.old self.new) }
     {
         let given = given_now(self.session.machine());
         let outcome = self.session.send(Event::Run)?;
@@ -354,7 +351,6 @@ impl Played {
         ensures within { IfOk result (λ sent. sent ≤ most) }
         ensures runs { IfOk result (λ sent. self.new.kept.runs ≡ self.old.kept.runs + sent) }
         ensures work { IfOk result (λ sent. WorksOff sent self.old self.new) }
-        ensures fault { IfOk result (λ _. LastFaultKept self.old self.new) }
     {
         let before = Before::of(self.session.machine());
         let runs = self.session.run(most)?;
@@ -404,7 +400,6 @@ impl Played {
         ensures plays { IfOk result (λ _. PlaysOn (event_of event ∷ []) self.old self.new) }
         ensures runs { IfOk result (λ _. self.new.kept.runs ≡ self.old.kept.runs) }
         ensures work { IfOk result (λ _. self.new.kept.work ≡ with_more self.old.kept.work 1) }
-        ensures fault { IfOk result (λ _. FaultKept (event_of event) self.old self.new) }
     {
         let outcome = self.session.send(event)?;
         let place = self.session.at().saturating_sub(1);
@@ -499,6 +494,7 @@ fn begin(alloc: Global, session: Session, budget: u64) -> Played
     ensures session { result.session ≡ session }
     ensures kept { told_of result.kept ≡ nothing }
     ensures notes { result.kept.notes.items ≡ [] }
+    ensures fault { result.kept.fault ≡ None }
     ensures budget { result.kept.budget ≡ budget }
     ensures work { result.kept.work ≡ 0 }
     ensures recorded { IsRecorded session }

@@ -3,7 +3,7 @@ use Rattle.kernel_spec.specs.views.State.{named_file}
 use Rattle.xv_machine.specs.Reached.{IsReached}
 use Rattle.xv_session.specs.Recorded.{Recorded}
 use Rattle.grade_submissions.specs.Plays.{Told}
-use Rattle.grade_submissions.proofs.Going.{booted-reached}
+use Rattle.grade_submissions.proofs.Going.{booted-reached, booted-blank}
 use Rattle.grade_submissions.proofs.Planning.{none-played, round-more, plan-ended, plan-done, run-of, neither}
 use Rattle.grade_submissions.proofs.playing.play.Goals as goal
 
@@ -39,8 +39,9 @@ returns-then-is_ended c =
     let start : IsReached frames trace programs [] booted.session.machine =
     subst (λ (s : Recorded). IsReached frames trace programs [] s.machine) (sym c.begin-played.ensures.session)
     (booted-reached frames trace programs c.in-Ok.session c.begin-played.ensures.recorded c.in-Ok.ensures.fresh) in
+    let blank = booted-blank frames trace programs c.in-Ok.session booted c.in-Ok.ensures.fresh c.begin-played.ensures.session c.begin-played.ensures.notes c.begin-played.ensures.fault in
     run-of frames trace programs c.args.plan c.args.keys.now c.loop-round.round booted now start c.loop-round.invariant.played
-    c.begin-played.ensures.kept c.begin-played.ensures.notes c.begin-played.ensures.budget
+    c.begin-played.ensures.kept blank c.begin-played.ensures.budget
     (plan-ended frames trace programs c.args.plan c.args.keys.now c.loop-round.round booted now start c.loop-round.invariant.played
     (omega (arith, c.loop-round-test.true)) (sym c.is_ended.ensures ∙ c.if-is_ended.true))
 
@@ -54,7 +55,8 @@ returns c =
     let start : IsReached frames trace programs [] booted.session.machine =
     subst (λ (s : Recorded). IsReached frames trace programs [] s.machine) (sym c.begin-played.ensures.session)
     (booted-reached frames trace programs c.in-Ok.session c.begin-played.ensures.recorded c.in-Ok.ensures.fresh) in
+    let blank = booted-blank frames trace programs c.in-Ok.session booted c.in-Ok.ensures.fresh c.begin-played.ensures.session c.begin-played.ensures.notes c.begin-played.ensures.fault in
     run-of frames trace programs c.args.plan c.args.keys.now c.loop-round.round booted now start c.loop-round.invariant.played
-    c.begin-played.ensures.kept c.begin-played.ensures.notes c.begin-played.ensures.budget
+    c.begin-played.ensures.kept blank c.begin-played.ensures.budget
     (plan-done frames trace programs c.args.plan c.args.keys.now c.loop-round.round booted now start c.loop-round.invariant.played (omega (arith, c.loop-round.auto.round-end))
     (inl (omega (arith, c.loop-round-test.false, c.loop-round.auto.round-end))))

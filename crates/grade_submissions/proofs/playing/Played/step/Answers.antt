@@ -3,9 +3,8 @@ use Rattle.grade_rules.specs.declared.given.Given.{Given}
 use Rattle.xv_machine.specs.Events.{outcome_of}
 use Rattle.xv_machine.specs.Meaning.{Meaning}
 use Rattle.grade_submissions.specs.Givens.{given_in}
-use Rattle.grade_submissions.specs.Plays.{note_with, all_of, fault_after}
-use Rattle.grade_submissions.proofs.Going.{place-of, plays-run}
-use Rattle.kernel_spec.specs.runs.Run.{Run}
+use Rattle.grade_submissions.specs.Plays.{note_with, all_of}
+use Rattle.grade_submissions.proofs.Going.{plays-run}
 use Rattle.run_work.specs.Work.{cost, with_more}
 use Rattle.kcall_core.specs.Observers.{size_of}
 use Rattle.grade_submissions.proofs.playing.Played.step.Goals as goal
@@ -14,21 +13,11 @@ pub returns-clause-plays : goal.returns-clause-plays
 returns-clause-plays c =
     let o = outcome_of c.in_ok-outcome.outcome in
     let given : c.given_now-given.result ≡ given_in c.args.self.now.session.machine.world = c.given_now-given.ensures ∙ ap (λ (m : Meaning). given_in m.world) c.machine.ensures.machine in
-    plays-run o c.args.self.now (record { session = c.send.new.self; kept = c.add_work.new.self }) c.in_ok-outcome.ensures.sent
-    (c.add_work.ensures.notes ∙ c.in_ok-keep_noted.ensures.notes ∙ ap (λ (g : Given). c.args.self.now.kept.notes.items ++ all_of (note_with g o)) given)
-    (c.add_work.ensures.told ∙ c.in_ok-keep_noted.ensures.told) (c.add_work.ensures.budget ∙ c.in_ok-keep_noted.ensures.budget)
-
-pub returns-clause-fault : goal.returns-clause-fault
-returns-clause-fault c =
-    let o = outcome_of c.in_ok-outcome.outcome in
-    let sent = c.in_ok-outcome.ensures.sent in
     let last : c.saturating_sub-place.result ≡ length c.send.new.self.events - 1 = omega arith in
-    let place = place-of c.args.self.now.session c.send.new.self Run o c.saturating_sub-place.result sent last in
-    record {
-      outcome = o;
-      came = sent.0.event;
-      fault = c.add_work.ensures.fault ∙ c.in_ok-keep_noted.ensures.fault ∙ ap (λ (n : ℕ). fault_after c.args.self.now.kept.fault n o) place;
-    }
+    plays-run o c.saturating_sub-place.result c.args.self.now (record { session = c.send.new.self; kept = c.add_work.new.self }) c.in_ok-outcome.ensures.sent last
+    (c.add_work.ensures.notes ∙ c.in_ok-keep_noted.ensures.notes ∙ ap (λ (g : Given). c.args.self.now.kept.notes.items ++ all_of (note_with g o)) given)
+    (c.add_work.ensures.fault ∙ c.in_ok-keep_noted.ensures.fault)
+    (c.add_work.ensures.told ∙ c.in_ok-keep_noted.ensures.told) (c.add_work.ensures.budget ∙ c.in_ok-keep_noted.ensures.budget)
 
 pub returns-clause-work : goal.returns-clause-work
 returns-clause-work c =
@@ -36,4 +25,8 @@ returns-clause-work c =
     let k = c.args.self.now.kept in
     let priced = c.cost_of-cost.ensures
     ∙ ap (λ (m : Meaning). cost c.args.before.now (c.args.sent + 1) m.world.state.free (size_of m.world.state) (Some o)) c.machine-2.ensures.machine in
-    (Some o, c.add_work.ensures.work ∙ ap (λ (n : ℕ). with_more n c.cost_of-cost.result) c.in_ok-keep_noted.ensures.work ∙ ap (λ (n : ℕ). with_more k.work n) priced)
+    record {
+      outcome = o;
+      came = c.in_ok-outcome.ensures.sent.0.event.promised;
+      work = c.add_work.ensures.work ∙ ap (λ (n : ℕ). with_more n c.cost_of-cost.result) c.in_ok-keep_noted.ensures.work ∙ ap (λ (n : ℕ). with_more k.work n) priced;
+    }
