@@ -54,8 +54,8 @@ fn prompt<F: RecordFile, H: Host + Patience, E: Write>(
 ) -> Result<Option<End>, Failure<'static>>
     ensures end { IfOk result (λ e. IfSome e (λ f. IsEndOf session.new f)) }
     ensures is { IfOk result (IsEndBehindPrompt session.new.machine.world.turns.halted) }
-    ensures lines { Converses H.may_end debugger.old.quantum session.old session.new }
-    ensures quantum { debugger.new.quantum ≡ debugger.old.quantum }
+    ensures lines { Converses H.may_end debugger.old.plan session.old session.new }
+    ensures plan { debugger.new.plan ≡ debugger.old.plan }
     ensures kept { OnOk result (IsKept F.held recorder.old session.old.events → IsKept F.held recorder.new session.new.events) }
     ensures goes_on { GoesOn recorder.old recorder.new }
 {
@@ -76,8 +76,8 @@ fn end_behind<F: RecordFile, H: Host + Patience, E: Write>(
     requires { IsPauseOf session.old pause }
     ensures end { IfOk result (λ e. IfSome e (λ f. IsEndOf session.new f)) }
     ensures is { IfOk result (IsEndBehind pause session.new.machine.world.turns.halted) }
-    ensures lines { Converses H.may_end debugger.old.quantum session.old session.new }
-    ensures quantum { debugger.new.quantum ≡ debugger.old.quantum }
+    ensures lines { Converses H.may_end debugger.old.plan session.old session.new }
+    ensures plan { debugger.new.plan ≡ debugger.old.plan }
     ensures kept { OnOk result (IsKept F.held recorder.old session.old.events → IsKept F.held recorder.new session.new.events) }
     ensures goes_on { GoesOn recorder.old recorder.new }
 {
@@ -100,8 +100,8 @@ fn turn<F: RecordFile, H: Host + Patience, W: ByteSink, E: Write>(
     screen: &mut Screen<W, Notes<E>>,
 ) -> Result<Option<End>, Failure<'static>>
     ensures end { IfOk result (λ e. IfSome e (λ f. IsEndOf session.new f)) }
-    ensures stretch { OnOk result (Stretch H.may_end debugger.old.quantum session.old session.new (W.sink screen.old.sink).held (W.sink screen.new.sink).held) }
-    ensures quantum { debugger.new.quantum ≡ debugger.old.quantum }
+    ensures stretch { OnOk result (Stretch H.may_end debugger.old.plan session.old session.new (W.sink screen.old.sink).held (W.sink screen.new.sink).held) }
+    ensures plan { debugger.new.plan ≡ debugger.old.plan }
     ensures kept { OnOk result (IsKept F.held recorder.old session.old.events → IsKept F.held recorder.new session.new.events) }
     ensures goes_on { GoesOn recorder.old recorder.new }
 {
@@ -120,7 +120,7 @@ fn converse<F: RecordFile, H: Host + Patience, W: ByteSink, E: Write>(
     screen: &mut Screen<W, Notes<E>>,
 ) -> Result<End, Failure<'static>>
     ensures end { IfOk result (λ e. IsEndOf session.new e) }
-    ensures lives { OnOk result (Lives H.may_end debugger.old.quantum session.old session.new (W.sink screen.old.sink).held (W.sink screen.new.sink).held) }
+    ensures lives { OnOk result (Lives H.may_end debugger.old.plan session.old session.new (W.sink screen.old.sink).held (W.sink screen.new.sink).held) }
     ensures kept { OnOk result (IsKept F.held recorder.old session.old.events → IsKept F.held recorder.new session.new.events) }
     ensures goes_on { GoesOn recorder.old recorder.new }
 {
@@ -173,7 +173,7 @@ pub fn live<F: RecordFile, H: Host + Patience, W: ByteSink, E: Write>(
     recorder: &mut Recorder<F>,
     screen: &mut Screen<W, Notes<E>>,
 ) -> u8
-    ensures tells { Tells (Lives H.may_end debugger.old.quantum session.old session.new (W.sink screen.old.sink).held (W.sink screen.new.sink).held) result session.new }
+    ensures tells { Tells (Lives H.may_end debugger.old.plan session.old session.new (W.sink screen.old.sink).held (W.sink screen.new.sink).held) result session.new }
     // also if it failed
     ensures kept { IsKept F.held recorder.new session.new.events }
     ensures goes_on { GoesOn recorder.old recorder.new }

@@ -8,12 +8,15 @@ ghost use Rattle.std.specs.Prelude.{◌≡◌, [], IfOk, map};
 ghost use Rattle.program_files.specs.Statuses.{IsPlainStatus};
 ghost use Rattle.xv_record.specs.Told.{program_told, told_program};
 ghost use Rattle.terminal_session.specs.Begun.{IsBegunBy, IsOfRecord};
+ghost use Rattle.terminal_session.specs.DebugSettings.{IsPlanOf};
 
 mod command_line;
 mod conversation;
+mod keys;
 
 use crate::debugging::command_line::{Settings, read_settings};
 use crate::debugging::conversation::Conversation;
+use crate::debugging::keys::keys_of;
 use program_files::exit_statuses::DONE;
 use program_files::{Failure, line_table, programs, put};
 use recorded_runs::{RecordedFiles, Replay, play_quietly, record_of, recorded_files};
@@ -21,7 +24,7 @@ use std::alloc::Global;
 use std::io::Write;
 use std::rt::Env;
 use xk_base::Program;
-use xv_debug::Debugger;
+use xv_debug::{Debugger, Plan};
 use xv_machine::Config;
 use xv_record::Record;
 use xv_report::Sources;
@@ -30,11 +33,20 @@ use xv_session::Session;
 /// The name under which the program tells what is wrong.
 const NAME: &str = "xv_debugger";
 
+/// By what the run goes on.
+fn plan_of<'a>(rt: &HostRuntime, settings: &'a Settings) -> Result<Plan, Failure<'a>>
+    ensures { IfOk result (IsPlanOf settings.now) }
+{
+    let keys = keys_of(rt, &settings.keys)?;
+    Ok(Plan::with_keys(settings.quantum, keys))
+}
+
 /// A conversation about a machine of the settings, which has got no event yet.
 fn begun_anew<'a>(rt: &HostRuntime, settings: &'a Settings) -> Result<Conversation, Failure<'a>>
-    ensures quantum { IfOk result (λ c. c.debugger.quantum ≡ settings.now.quantum) }
+    ensures plan { IfOk result (λ c. IsPlanOf settings.now c.debugger.plan) }
     ensures events { IfOk result (λ c. c.session.events ≡ []) }
 {
+    let plan = plan_of(rt, settings)?;
     let files = settings.files.as_slice();
     let made = programs(rt, files)?;
     let table = line_table(rt, &settings.lines)?;
@@ -46,7 +58,7 @@ fn begun_anew<'a>(rt: &HostRuntime, settings: &'a Settings) -> Result<Conversati
     let session = Session::boot(rt.alloc(), config, made.programs)?;
     Ok(Conversation {
         session,
-        debugger: Debugger::alone(sources, settings.quantum),
+        debugger: Debugger::alone(sources, plan),
         prompt: settings.prompt,
     })
 }
@@ -76,9 +88,10 @@ fn begun_by<'a>(
     settings: &'a Settings,
     kept: &Record,
 ) -> Result<Conversation, Failure<'a>>
-    ensures quantum { IfOk result (λ c. c.debugger.quantum ≡ settings.now.quantum) }
+    ensures plan { IfOk result (λ c. IsPlanOf settings.now c.debugger.plan) }
     ensures led { IfOk result (λ c. IsOfRecord kept.now c.session) }
 {
+    let plan = plan_of(rt, settings)?;
     let given = settings.files.as_slice();
     let made = programs(rt, given)?;
     let table = line_table(rt, &settings.lines)?;
@@ -93,7 +106,7 @@ fn begun_by<'a>(
     let session = led(rt.alloc(), settings.trace, programs, kept)?;
     Ok(Conversation {
         session,
-        debugger: Debugger::alone(sources, settings.quantum),
+        debugger: Debugger::alone(sources, plan),
         prompt: settings.prompt,
     })
 }
@@ -105,7 +118,7 @@ fn begun<'a>(
     settings: &'a Settings,
     kept: &Option<Record>,
 ) -> Result<Conversation, Failure<'a>>
-    ensures quantum { IfOk result (λ c. c.debugger.quantum ≡ settings.now.quantum) }
+    ensures plan { IfOk result (λ c. IsPlanOf settings.now c.debugger.plan) }
     ensures begun { IfOk result (λ c. IsBegunBy kept.now c.session) }
 {
     match kept {

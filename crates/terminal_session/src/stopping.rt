@@ -168,8 +168,8 @@ fn answer<P: Patience, E: Write>(
     patience: &mut P,
     notes: &mut Notes<E>,
 ) -> Result<Next, Failure<'static>>
-    ensures moves { MovesByWord P.may_end debugger.old.quantum session.old session.new }
-    ensures quantum { debugger.new.quantum ≡ debugger.old.quantum }
+    ensures moves { MovesByWord P.may_end debugger.old.plan session.old session.new }
+    ensures plan { debugger.new.plan ≡ debugger.old.plan }
 {
     let Ok(line) = std::str::from_utf8(line) else {
         return Ok(Next::Stays);
@@ -187,8 +187,8 @@ fn exchange<H: Host + Patience, E: Write>(
     debugger: &mut Debugger,
     notes: &mut Notes<E>,
 ) -> Result<Next, Failure<'static>>
-    ensures moves { MovesByWord H.may_end debugger.old.quantum session.old session.new }
-    ensures quantum { debugger.new.quantum ≡ debugger.old.quantum }
+    ensures moves { MovesByWord H.may_end debugger.old.plan session.old session.new }
+    ensures plan { debugger.new.plan ≡ debugger.old.plan }
 {
     notes.write_text(PROMPT);
     let mut editor = LineEditor::new();
@@ -216,8 +216,8 @@ pub fn stop<F: RecordFile, H: Host + Patience, E: Write>(
     recorder: &mut Recorder<F>,
     notes: &mut Notes<E>,
 ) -> Result<Next, Failure<'static>>
-    ensures lines { Converses H.may_end debugger.old.quantum session.old session.new }
-    ensures quantum { debugger.new.quantum ≡ debugger.old.quantum }
+    ensures lines { Converses H.may_end debugger.old.plan session.old session.new }
+    ensures plan { debugger.new.plan ≡ debugger.old.plan }
     ensures kept { OnOk result (IsKept F.held recorder.old session.old.events → IsKept F.held recorder.new session.new.events) }
     ensures goes_on { GoesOn recorder.old recorder.new }
 {

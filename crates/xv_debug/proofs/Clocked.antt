@@ -1,12 +1,14 @@
--- How many Runs a round has left, and who goes on after an instruction.
+-- How far a round is, and who goes on after an instruction.
 use Rattle.std.proofs.Common.{◌≡◌, ◌∙◌, ◌+◌, ◌-◌, ◌<◌, ◌≤◌, ℕ, ℤ, zero, suc, Bool, true, false, List, [], ◌∷◌, ◌++◌, length, drop, take, replicate, Option, None, Some, inl}
-use Rattle.std.proofs.Common.{refl, sym, ap, subst, arith, is_some, not, option_map}
+use Rattle.std.proofs.Common.{refl, sym, ap, ap₂, subst, arith, ◌&&◌, ◌||◌, ◌≢◌, IfNone, IfSome, is_none, is_some, not, option_map, slice_get}
 use Rattle.std.specs.FinMap.{get}
 use Rattle.std.specs.FinSet.{contains}
 use Rattle.std.specs.Prelude.{IsSome, if◌then◌else◌}
-use Rattle.std.proofs.lemmas.List.{drop-drop, drop_all, take-append-drop}
+use Rattle.std.proofs.lemmas.List.{drop-drop, drop_all, length-drop, take-append-drop}
+use Rattle.std.proofs.lemmas.Option.{same_Some}
 use Rattle.kernel_spec.specs.runs.Run as runs
-use Rattle.kernel_spec.specs.runs.Run.{Event, Run, Tick, Outcome, RunHappens, Step_of, World, stays_current}
+use Rattle.kernel_spec.specs.runs.Run.{Event, Run, Tick, Outcome, RunHappens, Step_of, World, halts_with, stays_current}
+use Rattle.kernel_spec.specs.runs.Rounds.{key_events}
 use Rattle.kernel_spec.specs.steps.Own.{Stepped}
 use Rattle.kernel_spec.specs.steps.Step.{own}
 use Rattle.proc_table.specs.declared.process.Call.{Call}
@@ -25,53 +27,73 @@ use Rattle.xv_session.specs.Steps.{Advances}
 use Rattle.xv_session.specs.Until.{is_done}
 use Rattle.xv_session.specs.declared.running.Running.{Running}
 use Rattle.xv_debug.specs.motion.Backwards.{is_run}
-use Rattle.xv_debug.specs.motion.Clock.{IsNext, is_tick, left_after, left_by, runs_among, runs_left}
+use Rattle.xv_debug.specs.motion.Clock.{IsNext, begun, is_key, is_tick, round_after, round_by, round_of, runs_among}
 use Rattle.xv_debug.specs.motion.Effects.{Adds, AddsRuns}
+use Rattle.xv_debug.specs.motion.Plan.{Planned, key_due}
+use Rattle.xv_debug.specs.declared.motion.clock.Round.{Round}
 use Rattle.xv_debug.specs.motion.Resting.{AwaitsTick, SomebodyMayGoOn, is_clock}
 use Rattle.xv_debug.proofs.Quiet.{done-is}
 
 -- ---- some events after others
 
-pub left-join : (q left : ℕ) (xs ys : List Event) → left_after q left (xs ++ ys) ≡ left_after q (left_after q left xs) ys
-left-join q left [] ys = refl
-left-join q left (x ∷ xs) ys = left-join q (left_by q left x) xs ys
+pub round-join : (q : ℕ) (round : Round) (xs ys : List Event) → round_after q round (xs ++ ys) ≡ round_after q (round_after q round xs) ys
+round-join q round [] ys = refl
+round-join q round (x ∷ xs) ys = round-join q (round_by q round x) xs ys
 
 -- behind those of a run
-pub left-added : (q : ℕ) (list : List Event) (a b : Recorded) → Adds list a b → runs_left q b.events ≡ left_after q (runs_left q a.events) list
-left-added q list a b adds = ap (λ (s : Recorded). runs_left q s.events) adds ∙ left-join q q a.events list
+pub round-added : (q : ℕ) (list : List Event) (a b : Recorded) → Adds list a b → round_of q b.events ≡ round_after q (round_of q a.events) list
+round-added q list a b adds = ap (λ (s : Recorded). round_of q s.events) adds ∙ round-join q (begun q) a.events list
 
 -- one
-pub left_sent : (q left now : ℕ) (e : Event) (o : Outcome) (a b : Recorded) → Sent a e o b → left ≡ runs_left q a.events → now ≡ left_by q left e → now ≡ runs_left q b.events
-left_sent q left now e o a b (one, same) is next = next ∙ ap (λ (n : ℕ). left_by q n e) is ∙ sym (left-added q (e ∷ []) a b same)
+pub round_sent : (q : ℕ) (round now : Round) (e : Event) (o : Outcome) (a b : Recorded) → Sent a e o b → round ≡ round_of q a.events → now ≡ round_by q round e → now ≡ round_of q b.events
+round_sent q round now e o a b (one, same) is next = next ∙ ap (λ (r : Round). round_by q r e) is ∙ sym (round-added q (e ∷ []) a b same)
+
+-- a round with so many Runs less
+abbrev pub fewer : Round → (runs : ℕ) → Round
+fewer round n = record { left = round.left - n; keyed = round.keyed }
 
 -- Runs
-pub runs-taken : (q left n : ℕ) → left_after q left (replicate n Run) ≡ left - n
-runs-taken q left zero = omega arith
-runs-taken q left (suc n) =
-    let rest = runs-taken q (left - 1) n in
-    let less : (left - 1) - n ≡ left - suc n = omega arith in
-    rest ∙ less
+pub runs-taken : (q : ℕ) (round : Round) (n : ℕ) → round_after q round (replicate n Run) ≡ fewer round n
+runs-taken q round zero = let none : round.left ≡ round.left - 0 = omega arith in ap (λ (k : ℕ). record { left = k; keyed = round.keyed }) none
+runs-taken q round (suc n) =
+    let less : (round.left - 1) - n ≡ round.left - suc n = omega arith in
+    runs-taken q (fewer round 1) n ∙ ap (λ (k : ℕ). record { left = k; keyed = round.keyed }) less
 
-pub left_ran : (q left n now : ℕ) (a b : Recorded) → AddsRuns n a b → left ≡ runs_left q a.events → now ≡ left - n → now ≡ runs_left q b.events
-left_ran q left n now a b adds is next =
-    next ∙ ap (λ (k : ℕ). k - n) is ∙ sym (left-added q (replicate n Run) a b adds ∙ runs-taken q (runs_left q a.events) n)
+pub round_ran : (q : ℕ) (round : Round) (n : ℕ) (now : Round) (a b : Recorded) → AddsRuns n a b → round ≡ round_of q a.events → now ≡ fewer round n → now ≡ round_of q b.events
+round_ran q round n now a b adds is next =
+    next ∙ ap (λ (r : Round). fewer r n) is ∙ sym (round-added q (replicate n Run) a b adds ∙ runs-taken q (round_of q a.events) n)
 
 -- ---- counted from the end
 
--- of a round of q Runs so many are left after the events from a place on, if they had q before them; and those take so many
-pub record IsCounted (q left place : ℕ) (list : List Event) : Type 0 where
-  pub taken : ℕ
-  pub left_is : left ≡ q - taken
-  pub behind : (n : ℕ) → left_after q n (drop place list) ≡ n - taken
+-- a round that comes to so much more: so many Runs, and a key, or none
+abbrev pub gone-on : Round → (runs : ℕ) → (key : Bool) → Round
+gone-on round n key = record { left = round.left - n; keyed = round.keyed || key }
 
-pub counted_none : (q place : ℕ) (list : List Event) → place ≡ length list → IsCounted q q place list
+-- of a round of q Runs it is so far after the events from a place on, if it began there; and those bring any round on by as much
+pub record IsCounted (q : ℕ) (round : Round) (place : ℕ) (list : List Event) : Type 0 where
+  pub taken : ℕ
+  pub left_is : round.left ≡ q - taken
+  pub behind : (r : Round) → round_after q r (drop place list) ≡ gone-on r taken round.keyed
+
+or-false : (b : Bool) → (b || false) ≡ b
+or-false true = refl
+or-false false = refl
+
+or-join : (a b c : Bool) → ((a || b) || c) ≡ (a || (c || b))
+or-join true b c = refl
+or-join false true true = refl
+or-join false true false = refl
+or-join false false true = refl
+or-join false false false = refl
+
+pub counted_none : (q place : ℕ) (list : List Event) → place ≡ length list → IsCounted q (begun q) place list
 counted_none q place list is = record {
   taken = 0;
   left_is = omega arith;
-  behind = λ n.
+  behind = λ r.
       let none : drop place list ≡ [] = drop_all place list (omega (arith, is)) in
-      let same : n ≡ n - 0 = omega arith in
-      ap (left_after q n) none ∙ same;
+      let same : r.left ≡ r.left - 0 = omega arith in
+      ap (round_after q r) none ∙ ap₂ (λ (n : ℕ) (b : Bool). record { left = n; keyed = b }) same (sym (or-false r.keyed));
 }
 
 -- equal events from a place on that reach up to another one
@@ -89,47 +111,49 @@ module _ (place count : ℕ) (e : Event) (list : List Event) (within : count ≤
       sym (take-append-drop count (drop (place - count) list)) ∙ ap (λ (es : List Event). es ++ drop count (drop (place - count) list)) those
       ∙ ap (λ (es : List Event). replicate count e ++ es) (drop-drop count (place - count) list ∙ ap (λ (k : ℕ). drop k list) here)
 
-  left-parts : (q n : ℕ) → left_after q n (drop (place - count) list) ≡ left_after q (left_after q n (replicate count e)) (drop place list)
-  left-parts q n = ap (left_after q n) parts ∙ left-join q n (replicate count e) (drop place list)
+  round-parts : (q : ℕ) (r : Round) → round_after q r (drop (place - count) list) ≡ round_after q (round_after q r (replicate count e)) (drop place list)
+  round-parts q r = ap (round_after q r) parts ∙ round-join q r (replicate count e) (drop place list)
 
-counted-runs : (q left now place before count : ℕ) (list : List Event) → count ≤ place → before ≡ place - count → take count (drop (place - count) list) ≡ replicate count Run
-    → now ≡ left - count → IsCounted q left place list → IsCounted q now before list
-counted-runs q left now place before count list within at all less c = record {
-  taken = c.taken + count;
-  left_is = omega (arith, less, c.left_is);
-  behind = λ n.
-      let less_still : (n - count) - c.taken ≡ n - (c.taken + count) = omega arith in
-      ap (λ (k : ℕ). left_after q n (drop k list)) at ∙ left-parts place count Run list within all q n ∙ ap (λ (k : ℕ). left_after q k (drop place list)) (runs-taken q n count)
-      ∙ c.behind (n - count) ∙ less_still;
-}
+-- so many equal events that are no Ticks bring a round on
+keys-typed : (q : ℕ) (r : Round) (byte n : ℕ) → r.keyed ≡ true → round_after q r (replicate n (runs.Key byte)) ≡ r
+keys-typed q r byte zero typed = refl
+keys-typed q r byte (suc n) typed =
+    let one : round_by q r (runs.Key byte) ≡ r = ap (λ (b : Bool). record { left = r.left; keyed = b }) (sym typed) in
+    ap (λ (x : Round). round_after q x (replicate n (runs.Key byte))) one ∙ keys-typed q r byte n typed
 
-still : (q n : ℕ) (e : Event) (count : ℕ) → ((k : ℕ) → left_by q k e ≡ k) → left_after q n (replicate count e) ≡ n
-still q n e zero stays = refl
-still q n e (suc count) stays = ap (λ (k : ℕ). left_after q k (replicate count e)) (stays n) ∙ still q n e count stays
+still : (q : ℕ) (r : Round) (count : ℕ) → round_after q r (replicate count runs.Send) ≡ r
+still q r zero = refl
+still q r (suc count) = still q r count
 
-counted-still : (q left place before count : ℕ) (e : Event) (list : List Event) → ((k : ℕ) → left_by q k e ≡ k) → count ≤ place → before ≡ place - count
-    → take count (drop (place - count) list) ≡ replicate count e → IsCounted q left place list → IsCounted q left before list
-counted-still q left place before count e list stays within at those c = record {
-  taken = c.taken;
-  left_is = c.left_is;
-  behind = λ n.
-      ap (λ (k : ℕ). left_after q n (drop k list)) at ∙ left-parts place count e list within those q n ∙ ap (λ (k : ℕ). left_after q k (drop place list)) (still q n e count stays)
-      ∙ c.behind n;
-}
+or-true : (b : Bool) → (b || true) ≡ true
+or-true true = refl
+or-true false = refl
+
+equal-go-on : (q : ℕ) (r : Round) (e : Event) (count : ℕ) → 0 < count → is_tick e ≡ false → round_after q r (replicate count e) ≡ gone-on r (runs_among e count) (is_key e)
+equal-go-on q r Run count some apart = runs-taken q r count ∙ ap (λ (b : Bool). record { left = r.left - count; keyed = b }) (sym (or-false r.keyed))
+equal-go-on q r Tick count some apart = let bad : ⊥ = cc in absurd bad
+equal-go-on q r (runs.Key byte) zero some apart = let no : ⊥ = omega (arith, some) in absurd no
+equal-go-on q r (runs.Key byte) (suc n) some apart =
+    let none : r.left ≡ r.left - 0 = omega arith in
+    keys-typed q (record { left = r.left; keyed = true }) byte n refl ∙ ap₂ (λ (k : ℕ) (b : Bool). record { left = k; keyed = b }) none (sym (or-true r.keyed))
+equal-go-on q r runs.Send count some apart =
+    let none : r.left ≡ r.left - 0 = omega arith in
+    still q r count ∙ ap₂ (λ (k : ℕ) (b : Bool). record { left = k; keyed = b }) none (sym (or-false r.keyed))
 
 -- equal events that are no Ticks
-pub counted_more : (q left now place before count : ℕ) (e : Event) (list : List Event) → is_tick e ≡ false → count ≤ place → before ≡ place - count
-    → take count (drop (place - count) list) ≡ replicate count e → now ≡ left - runs_among e count → IsCounted q left place list → IsCounted q now before list
-counted_more q left now place before count Run list apart within at those less c = counted-runs q left now place before count list within at those less c
-counted_more q left now place before count Tick list apart within at those less c = let bad : ⊥ = cc in absurd bad
-counted_more q left now place before count (runs.Key byte) list apart within at those less c =
-    let none : now ≡ left - 0 = less in
-    let same : left ≡ now = omega (arith, none) in
-    subst (λ (n : ℕ). IsCounted q n before list) same (counted-still q left place before count (runs.Key byte) list (λ k. refl) within at those c)
-counted_more q left now place before count runs.Send list apart within at those less c =
-    let none : now ≡ left - 0 = less in
-    let same : left ≡ now = omega (arith, none) in
-    subst (λ (n : ℕ). IsCounted q n before list) same (counted-still q left place before count runs.Send list (λ k. refl) within at those c)
+pub counted_more : (q : ℕ) (round now : Round) (place before count : ℕ) (e : Event) (list : List Event) → is_tick e ≡ false → 0 < count → count ≤ place → before ≡ place - count
+    → take count (drop (place - count) list) ≡ replicate count e → now.left ≡ round.left - runs_among e count → now.keyed ≡ (round.keyed || is_key e)
+    → IsCounted q round place list → IsCounted q now before list
+counted_more q round now place before count e list apart some within at those less typed c = record {
+  taken = c.taken + runs_among e count;
+  left_is = omega (arith, less, c.left_is);
+  behind = λ r.
+      let less_still : (r.left - runs_among e count) - c.taken ≡ r.left - (c.taken + runs_among e count) = omega arith in
+      ap (λ (k : ℕ). round_after q r (drop k list)) at ∙ round-parts place count e list within those q r
+      ∙ ap (λ (x : Round). round_after q x (drop place list)) (equal-go-on q r e count some apart)
+      ∙ c.behind (gone-on r (runs_among e count) (is_key e))
+      ∙ ap₂ (λ (k : ℕ) (b : Bool). record { left = k; keyed = b }) less_still (or-join r.keyed (is_key e) round.keyed ∙ ap (λ (b : Bool). r.keyed || b) (sym typed));
+}
 
 is-tick : (e : Event) → is_tick e ≡ true → e ≡ Tick
 is-tick Tick is = refl
@@ -137,25 +161,29 @@ is-tick Run is = let bad : ⊥ = cc in absurd bad
 is-tick (runs.Key byte) is = let bad : ⊥ = cc in absurd bad
 is-tick runs.Send is = let bad : ⊥ = cc in absurd bad
 
-ticked : (q n count : ℕ) → 0 < count → left_after q n (replicate count Tick) ≡ q
-ticked q n zero some = let no : ⊥ = omega (arith, some) in absurd no
-ticked q n (suc zero) some = refl
-ticked q n (suc (suc count)) some = ticked q q (suc count) (omega arith)
+ticked : (q : ℕ) (r : Round) (count : ℕ) → 0 < count → round_after q r (replicate count Tick) ≡ begun q
+ticked q r zero some = let no : ⊥ = omega (arith, some) in absurd no
+ticked q r (suc zero) some = refl
+ticked q r (suc (suc count)) some = ticked q (begun q) (suc count) (omega arith)
 
-pub counted_ticks : (q left place count : ℕ) (e : Event) (list : List Event) → is_tick e ≡ true → 0 < count → count ≤ place → take count (drop (place - count) list) ≡ replicate count e
-    → IsCounted q left place list → left ≡ runs_left q list
-counted_ticks q left place count e list tick some within those c =
+-- what is counted from where a round begins is how far it is
+from-begin : (q : ℕ) (round : Round) (place : ℕ) (list : List Event) → IsCounted q round place list → round ≡ round_after q (begun q) (drop place list)
+from-begin q round place list c = ap (λ (k : ℕ). record { left = k; keyed = round.keyed }) c.left_is ∙ sym (c.behind (begun q))
+
+pub counted_ticks : (q : ℕ) (round : Round) (place count : ℕ) (e : Event) (list : List Event) → is_tick e ≡ true → 0 < count → count ≤ place
+    → take count (drop (place - count) list) ≡ replicate count e → IsCounted q round place list → round ≡ round_of q list
+counted_ticks q round place count e list tick some within those c =
     let ticks : take count (drop (place - count) list) ≡ replicate count Tick = those ∙ ap (replicate count) (is-tick e tick) in
     let before : List Event = take (place - count) list in
-    let all : left_after q q list ≡ left_after q (left_after q q before) (drop (place - count) list) =
-    ap (left_after q q) (sym (take-append-drop (place - count) list)) ∙ left-join q q before (drop (place - count) list) in
-    c.left_is ∙ sym (c.behind q) ∙ ap (λ (k : ℕ). left_after q k (drop place list)) (sym (ticked q (left_after q q before) count some))
-    ∙ sym (left-parts place count Tick list within ticks q (left_after q q before)) ∙ sym all
+    let all : round_after q (begun q) list ≡ round_after q (round_after q (begun q) before) (drop (place - count) list) =
+    ap (round_after q (begun q)) (sym (take-append-drop (place - count) list)) ∙ round-join q (begun q) before (drop (place - count) list) in
+    from-begin q round place list c ∙ ap (λ (r : Round). round_after q r (drop place list)) (sym (ticked q (round_after q (begun q) before) count some))
+    ∙ sym (round-parts place count Tick list within ticks q (round_after q (begun q) before)) ∙ sym all
 
-pub counted_all : (q left place : ℕ) (list : List Event) → place ≡ 0 → IsCounted q left place list → left ≡ runs_left q list
-counted_all q left place list none c =
+pub counted_all : (q : ℕ) (round : Round) (place : ℕ) (list : List Event) → place ≡ 0 → IsCounted q round place list → round ≡ round_of q list
+counted_all q round place list none c =
     let whole : drop place list ≡ list = ap (λ (k : ℕ). drop k list) none ∙ take-append-drop 0 list in
-    c.left_is ∙ sym (c.behind q) ∙ ap (left_after q q) whole
+    from-begin q round place list c ∙ ap (round_after q (begun q)) whole
 
 -- ---- an instruction
 
@@ -177,6 +205,27 @@ pub done-goes : (a b : Running) (o : Outcome) → Advances a Run o b → is_done
 done-goes a b o one done =
     let w = a.machine.world in
     inl (run-stays w b.machine.world w.turns.halted w.turns.current o one.event.promised.0 done)
+
+-- neither the clock goes on by it, nor does the machine halt
+run-keeps : (w t : World) (halted : Option ℤ) (current : Option ℕ) (o : Outcome) → RunHappens w halted current o t → is_done o ≡ true → (t.turns.halted ≡ halted) × (t.state.clock ≡ w.state.clock)
+run-keeps w t (Some status) current o (is, same) done = let no : is_done runs.Halted ≡ true = sym (ap is_done is) ∙ done in let bad : ⊥ = cc in absurd bad
+run-keeps w t None (Some p) o step done =
+    let stepped : (own step.before).answer ≡ Stepped = done-is p (own step.before).answer (sym (ap is_done step.answer) ∙ done) in
+    (step.turns.halted ∙ ap (halts_with p) stepped, step.state.left.clock)
+run-keeps w t None None (Step_of p a) bad done = absurd bad
+run-keeps w t None None (runs.Turn p) taken done = let bad : ⊥ = cc in absurd bad
+run-keeps w t None None runs.Idle taken done = let bad : ⊥ = cc in absurd bad
+run-keeps w t None None runs.Ticked bad done = absurd bad
+run-keeps w t None None (runs.Typed echo) bad done = absurd bad
+run-keeps w t None None (runs.Sent byte) bad done = absurd bad
+run-keeps w t None None runs.Halted bad done = absurd bad
+
+-- so the same key is due after it
+pub done-due : (plan : Planned) (round : Round) (a b : Running) (o : Outcome) → Advances a Run o b → is_done o ≡ true → key_due plan round b.machine.world ≡ key_due plan round a.machine.world
+done-due plan round a b o one done =
+    let w = a.machine.world in
+    let kept = run-keeps w b.machine.world w.turns.halted w.turns.current o one.event.promised.0 done in
+    ap₂ (λ (h : Option ℤ) (n : ℕ). if not round.keyed && is_none h then key_events (drop n plan.keys) else []) kept.0 kept.1
 
 -- ---- who may run
 
@@ -210,8 +259,55 @@ awaited_there w p awaits = by (contains w.turns.sleepers p) refl (live w.state p
 
 -- ---- an event that is a Run
 
-pub next_run : (left : ℕ) (w : World) (e : Event) → is_run e ≡ true → IsNext left w e → IsNext left w Run
-next_run left w Run is next = next
-next_run left w Tick is next = let bad : ⊥ = cc in absurd bad
-next_run left w (runs.Key byte) is next = absurd next
-next_run left w runs.Send is next = let bad : ⊥ = cc in absurd bad
+pub next_run : (plan : Planned) (round : Round) (w : World) (e : Event) → is_run e ≡ true → IsNext plan round w e → IsNext plan round w Run
+next_run plan round w Run is next = next
+next_run plan round w Tick is next = let bad : ⊥ = cc in absurd bad
+next_run plan round w (runs.Key byte) is next = let bad : ⊥ = cc in absurd bad
+next_run plan round w runs.Send is next = let bad : ⊥ = cc in absurd bad
+
+-- ---- the keys of rounds
+
+-- the key of a round, by its number
+pub key_there : (keys : List ℕ) (n byte : ℕ) → slice_get keys n ≡ Some byte → key_events (drop n keys) ≡ runs.Key byte ∷ []
+key_there [] n byte is = let bad : ⊥ = cc in absurd bad
+key_there (k ∷ ks) zero byte is = ap (λ (b : ℕ). runs.Key b ∷ []) (same_Some k byte is)
+key_there (k ∷ ks) (suc n) byte is = key_there ks n byte is
+
+pub no_key_there : (keys : List ℕ) (n : ℕ) → slice_get keys n ≡ None → key_events (drop n keys) ≡ []
+no_key_there [] zero is = refl
+no_key_there [] (suc n) is = refl
+no_key_there (k ∷ ks) zero is = let bad : ⊥ = cc in absurd bad
+no_key_there (k ∷ ks) (suc n) is = no_key_there ks n is
+
+-- as it is told
+pub key_if : (keys : List ℕ) (n : ℕ) (told : Option ℕ) → told ≡ slice_get keys n → IfSome told (λ byte. key_events (drop n keys) ≡ runs.Key byte ∷ [])
+key_if keys n None is = tt
+key_if keys n (Some byte) is = key_there keys n byte (sym is)
+
+pub key_if_none : (keys : List ℕ) (n : ℕ) (told : Option ℕ) → told ≡ slice_get keys n → IfNone told (key_events (drop n keys) ≡ [])
+key_if_none keys n None is = no_key_there keys n (sym is)
+key_if_none keys n (Some byte) is = tt
+
+-- whether a later round has one
+pub keys_behind : (n : ℕ) (keys : List ℕ) → n < length keys → drop n keys ≢ []
+keys_behind n keys few none = let short = length-drop n keys in let zero_long : length (drop n keys) ≡ 0 = ap length none in omega (arith, few, short, zero_long)
+
+pub no_keys_behind : (n : ℕ) (keys : List ℕ) → length keys ≤ n → drop n keys ≡ []
+no_keys_behind n keys all = drop_all n keys all
+
+-- the key that is due, if the round may still begin with one
+due-if : (may : Bool) (key now : List Event) → may ≡ true → key ≡ now → (if may then key else []) ≡ now
+due-if true key now is same = same
+due-if false key now is same = let bad : ⊥ = cc in absurd bad
+
+pub due_not : (may : Bool) (key : List Event) → may ≡ false → (if may then key else []) ≡ []
+due_not true key is = let bad : ⊥ = cc in absurd bad
+due_not false key is = refl
+
+pub due_some : (may : Bool) (key : List Event) (told : Option ℕ) → may ≡ true → IfSome told (λ byte. key ≡ runs.Key byte ∷ []) → IfSome told (λ byte. (if may then key else []) ≡ runs.Key byte ∷ [])
+due_some may key None is same = tt
+due_some may key (Some byte) is same = due-if may key (runs.Key byte ∷ []) is same
+
+pub due_none : (may : Bool) (key : List Event) (told : Option ℕ) → may ≡ true → IfNone told (key ≡ []) → IfNone told ((if may then key else []) ≡ [])
+due_none may key None is same = due-if may key [] is same
+due_none may key (Some byte) is same = tt

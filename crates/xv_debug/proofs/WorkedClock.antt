@@ -1,25 +1,54 @@
 -- Worked cases of the clock.
-use Rattle.std.proofs.Common.{◌≡◌, ◌∙◌, ℕ, true, false, [], ◌∷◌, Option, None, Some, is_some, inl, inr, refl, sym, ap, arith}
+use Rattle.std.proofs.Common.{◌≡◌, ◌∙◌, ℕ, ℤ, true, false, List, [], ◌∷◌, Option, None, Some, is_some, inl, inr, refl, sym, ap, arith}
 use Rattle.kernel_spec.specs.runs.Run as runs
 use Rattle.kernel_spec.specs.runs.Run.{Event, Run, Tick, Send, Key, World}
 use Rattle.xv_report.specs.declared.waits.Wait.TheVariants.{Until, Child}
-use Rattle.xv_debug.specs.motion.Clock.{IsNext, runs_left}
+use Rattle.xv_debug.specs.motion.Clock.{IsNext, begun, round_of}
+use Rattle.xv_debug.specs.motion.Plan.{Planned, key_due, later_keys}
 use Rattle.xv_debug.specs.motion.Reaching.{is_turn_of}
 use Rattle.xv_debug.specs.motion.Resting.{RestsBy, RestsQuiet, SomebodyMayGoOn, is_clock}
+use Rattle.xv_debug.specs.declared.motion.clock.Round.{Round}
 use Rattle.xv_debug.specs.declared.motion.journey.Stop.TheVariants.{Asleep}
 
--- ---- how many Runs are left
+-- ---- how far a round is
 
 -- a byte that is sent takes none
-two_of_three : runs_left 3 (Run ∷ Send ∷ []) ≡ 2
+two_of_three : round_of 3 (Run ∷ Send ∷ []) ≡ record { left = 2; keyed = false }
 two_of_three = refl
 
--- after a tick all are left, and no more than none
-after_a_tick : runs_left 3 (Run ∷ Run ∷ Tick ∷ Run ∷ []) ≡ 2
+-- after a tick all are left, and a key may come again
+after_a_tick : round_of 3 (Key 97 ∷ Run ∷ Run ∷ Tick ∷ Run ∷ []) ≡ record { left = 2; keyed = false }
 after_a_tick = refl
 
-more_than_all : runs_left 3 (Run ∷ Run ∷ Run ∷ Run ∷ []) ≡ 0
+more_than_all : round_of 3 (Run ∷ Run ∷ Run ∷ Run ∷ []) ≡ record { left = 0; keyed = false }
 more_than_all = refl
+
+-- a key takes no Run, and is the round's to its end
+keyed_round : round_of 3 (Run ∷ Key 97 ∷ Run ∷ Send ∷ []) ≡ record { left = 1; keyed = true }
+keyed_round = refl
+
+-- ---- which key is due
+
+abbrev ab : Planned
+ab = record { quantum = 1000; keys = 97 ∷ 98 ∷ [] }
+
+-- in the first round the first, and a later one has one more
+first_key : (w : World) → w.state.clock ≡ 0 → w.turns.halted ≡ None → (key_due ab (begun 1000) w ≡ Key 97 ∷ []) × (later_keys ab w ≡ 98 ∷ [])
+first_key w at going = (rw (at, going) refl, rw at refl)
+
+-- in the next one the next, and that is the last
+second_key : (w : World) → w.state.clock ≡ 1 → w.turns.halted ≡ None → (key_due ab (begun 1000) w ≡ Key 98 ∷ []) × (later_keys ab w ≡ [])
+second_key w at going = (rw (at, going) refl, rw at refl)
+
+no_third_key : (w : World) → w.state.clock ≡ 2 → w.turns.halted ≡ None → key_due ab (begun 1000) w ≡ []
+no_third_key w at going = rw (at, going) refl
+
+-- none in a round that has had one, nor on a machine that has halted, nor without keys
+had_one : (w : World) → key_due ab (record { left = 1000; keyed = true }) w ≡ []
+had_one w = refl
+
+halted_gets_none : (w : World) (status : ℤ) → w.turns.halted ≡ Some status → key_due ab (begun 1000) w ≡ []
+halted_gets_none w status gone = rw gone refl
 
 -- ---- what comes next
 
@@ -28,31 +57,46 @@ resting : (w : World) → SomebodyMayGoOn w → RestsBy Asleep w → ⊥
 resting w (inl stands) (stopped, going, nobody) = let no : false ≡ true = sym (ap (λ (o : Option ℕ). is_some o) stopped) ∙ stands in let bad : ⊥ = cc in bad
 resting w (inr (going, (p, may))) (stopped, here, nobody) = nobody p may
 
--- the clock settles the event
-one_comes : (left : ℕ) (w : World) (e f : Event) → IsNext left w e → IsNext left w f → e ≡ f
-one_comes left w Send Send a b = refl
-one_comes left w Send Tick a (quiet, b) = absurd (a quiet)
-one_comes left w Send Run a (quiet, some, on) = absurd (a quiet)
-one_comes left w Tick Send (quiet, a) b = absurd (b quiet)
-one_comes left w Tick Tick a b = refl
-one_comes left w Tick Run (quiet, inl (none, goes)) (still, some, on) = let bad : ⊥ = omega (arith, none, some) in absurd bad
-one_comes left w Tick Run (quiet, inr (rests, waits)) (still, some, on) = absurd (resting w on rests)
-one_comes left w Run Send (quiet, some, on) b = absurd (b quiet)
-one_comes left w Run Tick (still, some, on) (quiet, inl (none, goes)) = let bad : ⊥ = omega (arith, none, some) in absurd bad
-one_comes left w Run Tick (still, some, on) (quiet, inr (rests, waits)) = absurd (resting w on rests)
-one_comes left w Run Run a b = refl
-one_comes left w (Key k) f a b = absurd a
-one_comes left w Send (Key k) a b = absurd b
-one_comes left w Tick (Key k) a b = absurd b
-one_comes left w Run (Key k) a b = absurd b
+-- a key is due, or none
+key-or-none : (keys : List Event) (e : Event) → keys ≡ e ∷ [] → keys ≡ [] → ⊥
+key-or-none keys e some none = let no : [] ≡ e ∷ [] = sym none ∙ some in let bad : ⊥ = cc in bad
+
+abbrev first-of : Event → List Event → Event
+first-of other [] = other
+first-of other (e ∷ es) = e
+
+same-key : (a b : Event) → a ∷ [] ≡ b ∷ [] → a ≡ b
+same-key a b is = ap (first-of a) is
+
+-- the plan settles the event
+one_comes : (plan : Planned) (round : Round) (w : World) (e f : Event) → IsNext plan round w e → IsNext plan round w f → e ≡ f
+one_comes plan round w Send Send a b = refl
+one_comes plan round w Send Tick a (quiet, keyless, b) = absurd (a quiet)
+one_comes plan round w Send Run a (quiet, keyless, some, on) = absurd (a quiet)
+one_comes plan round w Send (Key k) a (quiet, due) = absurd (a quiet)
+one_comes plan round w Tick Send (quiet, keyless, a) b = absurd (b quiet)
+one_comes plan round w Tick Tick a b = refl
+one_comes plan round w Tick Run (quiet, keyless, inl (none, goes)) (still, keyless_still, some, on) = let bad : ⊥ = omega (arith, none, some) in absurd bad
+one_comes plan round w Tick Run (quiet, keyless, inr (rests, waits)) (still, keyless_still, some, on) = absurd (resting w on rests)
+one_comes plan round w Tick (Key k) (quiet, keyless, a) (still, due) = absurd (key-or-none (key_due plan round w) (Key k) due keyless)
+one_comes plan round w Run Send (quiet, keyless, some, on) b = absurd (b quiet)
+one_comes plan round w Run Tick (still, keyless_still, some, on) (quiet, keyless, inl (none, goes)) = let bad : ⊥ = omega (arith, none, some) in absurd bad
+one_comes plan round w Run Tick (still, keyless_still, some, on) (quiet, keyless, inr (rests, waits)) = absurd (resting w on rests)
+one_comes plan round w Run Run a b = refl
+one_comes plan round w Run (Key k) (quiet, keyless, some, on) (still, due) = absurd (key-or-none (key_due plan round w) (Key k) due keyless)
+one_comes plan round w (Key k) Send (quiet, due) b = absurd (b quiet)
+one_comes plan round w (Key k) Tick (quiet, due) (still, keyless, b) = absurd (key-or-none (key_due plan round w) (Key k) due keyless)
+one_comes plan round w (Key k) Run (quiet, due) (still, keyless, some, on) = absurd (key-or-none (key_due plan round w) (Key k) due keyless)
+one_comes plan round w (Key k) (Key m) (quiet, due) (still, also) = same-key (Key k) (Key m) (sym due ∙ also)
 
 -- and none comes where it rests
-none_at_rest : (left : ℕ) (w : World) (e : Event) → RestsQuiet Asleep w → IsNext left w e → ⊥
-none_at_rest left w Send (rests, quiet, nobody) next = next quiet
-none_at_rest left w Tick (rests, quiet, nobody) (still, inl (none, goes)) = resting w goes rests
-none_at_rest left w Tick (rests, quiet, nobody) (still, inr (asleep, (p, waits))) = nobody p waits
-none_at_rest left w Run (rests, quiet, nobody) (still, some, goes) = resting w goes rests
-none_at_rest left w (Key k) rests next = next
+none_at_rest : (plan : Planned) (round : Round) (w : World) (e : Event) → RestsQuiet plan round Asleep w → IsNext plan round w e → ⊥
+none_at_rest plan round w Send (rests, quiet, nobody, keyless) next = next quiet
+none_at_rest plan round w Tick (rests, quiet, nobody, keyless) (still, no_key, inl (none, goes)) = resting w goes rests
+none_at_rest plan round w Tick (rests, quiet, nobody, keyless) (still, no_key, inr (asleep, inl (p, waits))) = nobody p waits
+none_at_rest plan round w Tick (rests, quiet, nobody, keyless) (still, no_key, inr (asleep, inr more)) = more keyless.1
+none_at_rest plan round w Run (rests, quiet, nobody, keyless) (still, no_key, some, goes) = resting w goes rests
+none_at_rest plan round w (Key k) (rests, quiet, nobody, keyless) (still, due) = key-or-none (key_due plan round w) (Key k) due keyless.0
 
 -- only the clock is one
 clocks : (is_clock (Some (Until 7)) ≡ true) × (is_clock (Some Child) ≡ false) × (is_clock None ≡ false)

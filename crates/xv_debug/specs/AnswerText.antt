@@ -17,6 +17,7 @@ use Rattle.xv_debug.specs.motion.Finishing.{IsFinishAim}
 use Rattle.xv_debug.specs.motion.Backwards.{GoesBackUntil}
 use Rattle.xv_debug.specs.declared.motion.aiming.Aim.{Aim}
 use Rattle.xv_debug.specs.declared.motion.aiming.Aim.TheVariants.{On}
+use Rattle.xv_debug.specs.motion.Plan.{Planned}
 use Rattle.xv_debug.specs.motion.Reaching.{Test, met_from}
 use Rattle.xv_debug.specs.declared.motion.journey.Stop.{Stop}
 use Rattle.xv_debug.specs.declared.motion.output.Output.{Output}
@@ -41,29 +42,29 @@ StepTells may_end word count old new before after = (d : Steps may_end count old
 abbrev pub IsEmpty : Output → Type 0
 IsEmpty o = (o.last ≡ buffer [] 512) × (o.count ≡ 0)
 
-abbrev pub SearchTells : (may_end : Bool) → (quantum : ℕ) → Word → Test → (old new : Recorded) → (before after : List ℕ) → Type 0
-SearchTells may_end quantum word test old new before after =
-    (d : Searches may_end quantum test old new) × IsEmpty d.had × Writes before after (IsSentText word new d.sent d.stop d.last (output_text d.has))
+abbrev pub SearchTells : (may_end : Bool) → (plan : Planned) → Word → Test → (old new : Recorded) → (before after : List ℕ) → Type 0
+SearchTells may_end plan word test old new before after =
+    (d : Searches may_end plan test old new) × IsEmpty d.had × Writes before after (IsSentText word new d.sent d.stop d.last (output_text d.has))
 
 -- where there is no process of which it is asked, or it isn't known where the function ends, none is sent
-abbrev pub AimTells : (may_end : Bool) → (quantum : ℕ) → Word → Option Aim → (why : List ℕ) → (old new : Recorded) → (before after : List ℕ) → Type 0
-AimTells may_end quantum word None why old new before after = (new ≡ old) × (after ≡ before ++ why)
-AimTells may_end quantum word (Some aim) why old new before after = SearchTells may_end quantum word (met_from old aim []) old new before after
+abbrev pub AimTells : (may_end : Bool) → (plan : Planned) → Word → Option Aim → (why : List ℕ) → (old new : Recorded) → (before after : List ℕ) → Type 0
+AimTells may_end plan word None why old new before after = (new ≡ old) × (after ≡ before ++ why)
+AimTells may_end plan word (Some aim) why old new before after = SearchTells may_end plan word (met_from old aim []) old new before after
 
-abbrev pub GoalTells : (may_end : Bool) → (quantum : ℕ) → Word → Goal → (old new : Recorded) → (before after : List ℕ) → Type 0
-GoalTells may_end quantum word goal old new before after = (aim : Option Aim) × IsAimOf goal old aim × AimTells may_end quantum word aim nobody old new before after
+abbrev pub GoalTells : (may_end : Bool) → (plan : Planned) → Word → Goal → (old new : Recorded) → (before after : List ℕ) → Type 0
+GoalTells may_end plan word goal old new before after = (aim : Option Aim) × IsAimOf goal old aim × AimTells may_end plan word aim nobody old new before after
 
-abbrev pub FinishTells : (known : Option Sources) → (may_end : Bool) → (quantum : ℕ) → Word → (old new : Recorded) → (before after : List ℕ) → Type 0
-FinishTells known may_end quantum word old new before after = (aim : Option Aim) × IfSome aim (IsFinishAim known old) × AimTells may_end quantum word aim no_return old new before after
+abbrev pub FinishTells : (known : Option Sources) → (may_end : Bool) → (plan : Planned) → Word → (old new : Recorded) → (before after : List ℕ) → Type 0
+FinishTells known may_end plan word old new before after = (aim : Option Aim) × IfSome aim (IsFinishAim known old) × AimTells may_end plan word aim no_return old new before after
 
 abbrev pub SendsTell : (may_end : Bool) → Word → (wanted : ℕ → List Event) → (all : ℕ) → (old new : Recorded) → (before after : List ℕ) → Type 0
 SendsTell may_end word wanted all old new before after =
     (d : SendsFirst may_end wanted all old new) × IsEmpty d.had × Writes before after (IsSentText word new d.sent d.stop d.last (output_text d.has))
 
 -- of rounds nothing is told here of what came of the last event
-abbrev pub RoundsTell : (may_end : Bool) → (quantum : ℕ) → Word → (rounds : ℕ) → (old new : Recorded) → (before after : List ℕ) → Type 0
-RoundsTell may_end quantum word rounds old new before after =
-    (d : Plays may_end quantum rounds old new) × IsEmpty d.had
+abbrev pub RoundsTell : (may_end : Bool) → (plan : Planned) → Word → (rounds : ℕ) → (old new : Recorded) → (before after : List ℕ) → Type 0
+RoundsTell may_end plan word rounds old new before after =
+    (d : Plays may_end plan rounds old new) × IsEmpty d.had
     × ((o : Option Outcome) × Writes before after (IsSentText word new (length new.events - length old.events) d.stop o (output_text d.has)))
 
 -- ---- the word that goes back
@@ -104,18 +105,18 @@ SeekBackTells may_end goal old new before after = (aim : Option Aim) × IsAimOf 
 
 -- ---- all words
 
--- What is written behind an answer, of the session as the word found it and as it left it; `shown` is where the memory that was shown last ends, `known` is what is known of the sources of programs, `may_end` says whether the word may be broken off, and `quantum` how many Runs a round has
-abbrev pub Answers : (known : Option Sources) → (may_end : Bool) → (quantum shown : ℕ) → Word → (old new : Recorded) → (before after : List ℕ) → Type 0
-Answers known may_end quantum shown (Step count) old new before after = StepTells may_end (Step count) count old new before after
-Answers known may_end quantum shown Next old new before after = SearchTells may_end quantum Next (met_from old (aim_in old.machine.world) []) old new before after
-Answers known may_end quantum shown (Until goal) old new before after = GoalTells may_end quantum (Until goal) goal old new before after
-Answers known may_end quantum shown (Run rounds) old new before after = RoundsTell may_end quantum (Run rounds) rounds old new before after
-Answers known may_end quantum shown (Tick count) old new before after = SendsTell may_end (Tick count) (λ n. replicate n runs.Tick) count old new before after
-Answers known may_end quantum shown (Send count) old new before after = SendsTell may_end (Send count) (λ n. replicate n runs.Send) count old new before after
-Answers known may_end quantum shown (Key keys) old new before after = SendsTell false (Key keys) (λ n. map runs.Key (take n keys.items)) (length keys.items) old new before after
-Answers known may_end quantum shown (ToMark marks) old new before after = SearchTells may_end quantum (ToMark marks) (met_from old (On Fault) marks.items) old new before after
-Answers known may_end quantum shown Finish old new before after = FinishTells known may_end quantum Finish old new before after
-Answers known may_end quantum shown (BackUntil goal) old new before after = SeekBackTells may_end goal old new before after
-Answers known may_end quantum shown (Back count) old new before after = BackTells may_end count old new before after
-Answers known may_end quantum shown (Goto place) old new before after = GotoTells may_end place old new before after
-Answers known may_end quantum shown word old new before after = Shows shown old word before after
+-- What is written behind an answer, of the session as the word found it and as it left it; `shown` is where the memory that was shown last ends, `known` is what is known of the sources of programs, `may_end` says whether the word may be broken off, and `plan` by what the run goes on
+abbrev pub Answers : (known : Option Sources) → (may_end : Bool) → (plan : Planned) → (shown : ℕ) → Word → (old new : Recorded) → (before after : List ℕ) → Type 0
+Answers known may_end plan shown (Step count) old new before after = StepTells may_end (Step count) count old new before after
+Answers known may_end plan shown Next old new before after = SearchTells may_end plan Next (met_from old (aim_in old.machine.world) []) old new before after
+Answers known may_end plan shown (Until goal) old new before after = GoalTells may_end plan (Until goal) goal old new before after
+Answers known may_end plan shown (Run rounds) old new before after = RoundsTell may_end plan (Run rounds) rounds old new before after
+Answers known may_end plan shown (Tick count) old new before after = SendsTell may_end (Tick count) (λ n. replicate n runs.Tick) count old new before after
+Answers known may_end plan shown (Send count) old new before after = SendsTell may_end (Send count) (λ n. replicate n runs.Send) count old new before after
+Answers known may_end plan shown (Key keys) old new before after = SendsTell false (Key keys) (λ n. map runs.Key (take n keys.items)) (length keys.items) old new before after
+Answers known may_end plan shown (ToMark marks) old new before after = SearchTells may_end plan (ToMark marks) (met_from old (On Fault) marks.items) old new before after
+Answers known may_end plan shown Finish old new before after = FinishTells known may_end plan Finish old new before after
+Answers known may_end plan shown (BackUntil goal) old new before after = SeekBackTells may_end goal old new before after
+Answers known may_end plan shown (Back count) old new before after = BackTells may_end count old new before after
+Answers known may_end plan shown (Goto place) old new before after = GotoTells may_end place old new before after
+Answers known may_end plan shown word old new before after = Shows shown old word before after

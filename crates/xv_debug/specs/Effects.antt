@@ -18,6 +18,7 @@ use Rattle.xv_debug.specs.motion.Backwards.{GoesBackUntil}
 use Rattle.xv_debug.specs.motion.Lines.{IsLineOf}
 use Rattle.xv_debug.specs.declared.motion.aiming.Aim.{Aim}
 use Rattle.xv_debug.specs.declared.motion.aiming.Aim.TheVariants.{On}
+use Rattle.xv_debug.specs.motion.Plan.{Planned}
 use Rattle.xv_debug.specs.motion.Ran.{Ran}
 use Rattle.xv_debug.specs.motion.Reaching.{Reaches, IsRefusal, IsRefusedBy, Test, met_from}
 use Rattle.xv_debug.specs.motion.Resting.{RestsIf}
@@ -44,7 +45,7 @@ IsAimOf Fault s answer = answer ≡ Some (On waits_for.Fault)
 IsAimOf Exit s answer = answer ≡ Some (On waits_for.Exit)
 IsAimOf Line s answer = (p : Option ℕ) × IsFocus None s p × IsLineOf p s.machine.world answer
 
--- ---- what the words leave; `may_end` says whether they may be broken off, and `quantum` how many Runs a round has
+-- ---- what the words leave; `may_end` says whether they may be broken off, and `plan` by what the run goes on
 
 -- So many Runs were sent, or fewer, where nobody may run, it was broken off, or the session keeps no more events; and it is known what came of the last
 pub record Steps (may_end : Bool) (count : ℕ) (old new : Recorded) : Type 0 where
@@ -60,32 +61,32 @@ pub record Steps (may_end : Bool) (count : ℕ) (old new : Recorded) : Type 0 wh
   pub rests : RestsIf stop new.machine.world
   pub reason : IsRefusedBy stop new
 
--- Events were sent by the clock, up to the first Run that is what is waited for; or fewer than that, where nobody may go on and none waits for a tick, it was broken off, the session keeps no more events, or all that a word may send were sent
-pub record Searches (may_end : Bool) (quantum : ℕ) (test : Test) (old new : Recorded) : Type 0 where
+-- Events were sent by the plan, up to the first Run that is what is waited for; or fewer than that, where nobody may go on, none waits for a tick and no key is left, it was broken off, the session keeps no more events, or all that a word may send were sent
+pub record Searches (may_end : Bool) (plan : Planned) (test : Test) (old new : Recorded) : Type 0 where
   pub stop : Stop
   pub sent : ℕ
   pub last : Option Outcome
   pub had : Output
   pub has : Output
-  pub reaches : Reaches may_end quantum test EVENTS_MOST stop sent last old new had has
+  pub reaches : Reaches may_end plan test EVENTS_MOST stop sent last old new had has
 
 -- up to this aim; where there is none, all stays
-abbrev pub SearchesAim : (may_end : Bool) → (quantum : ℕ) → Option Aim → Recorded → Recorded → Type 0
-SearchesAim may_end quantum None old new = new ≡ old
-SearchesAim may_end quantum (Some aim) old new = Searches may_end quantum (met_from old aim []) old new
+abbrev pub SearchesAim : (may_end : Bool) → (plan : Planned) → Option Aim → Recorded → Recorded → Type 0
+SearchesAim may_end plan None old new = new ≡ old
+SearchesAim may_end plan (Some aim) old new = Searches may_end plan (met_from old aim []) old new
 
 -- up to a goal
-pub record SearchesGoal (may_end : Bool) (quantum : ℕ) (goal : Goal) (old new : Recorded) : Type 0 where
+pub record SearchesGoal (may_end : Bool) (plan : Planned) (goal : Goal) (old new : Recorded) : Type 0 where
   pub aim : Option Aim
   pub is : IsAimOf goal old aim
-  pub searches : SearchesAim may_end quantum aim old new
+  pub searches : SearchesAim may_end plan aim old new
 
 -- up to the end of the function in which the process that runs is, if it is known where that is, by what is known of the sources of programs
-pub record Finishes (may_end : Bool) (quantum : ℕ) (old new : Recorded) : Type 0 where
+pub record Finishes (may_end : Bool) (plan : Planned) (old new : Recorded) : Type 0 where
   pub known : Option Sources
   pub aim : Option Aim
   pub is : IfSome aim (IsFinishAim known old)
-  pub searches : SearchesAim may_end quantum aim old new
+  pub searches : SearchesAim may_end plan aim old new
 
 -- These events were sent, or the first of them, where it was broken off, or the session keeps no more
 pub record SendsFirst (may_end : Bool) (wanted : ℕ → List Event) (all : ℕ) (old new : Recorded) : Type 0 where
@@ -103,11 +104,11 @@ pub record SendsFirst (may_end : Bool) (wanted : ℕ → List Event) (all : ℕ)
   pub reason : IsRefusedBy stop new
 
 -- Rounds were played
-pub record Plays (may_end : Bool) (quantum : ℕ) (most : ℕ) (old new : Recorded) : Type 0 where
+pub record Plays (may_end : Bool) (plan : Planned) (most : ℕ) (old new : Recorded) : Type 0 where
   pub stop : Stop
   pub had : Output
   pub has : Output
-  pub leaves : RoundsLeave may_end quantum most stop old new had has
+  pub leaves : RoundsLeave may_end plan.quantum most stop old new had has
 
 -- It has gone back by so many events, to the boot where there were fewer; or it is as it was, where it was broken off, or the host had too little memory
 abbrev pub GoesBack : (count : ℕ) → Recorded → Recorded → Type 0
@@ -130,24 +131,24 @@ pub record SeeksBack (goal : Goal) (old new : Recorded) : Type 0 where
   pub goes : GoesBackTo aim old new
 
 -- What a word leaves
-abbrev pub Does : (may_end : Bool) → (quantum : ℕ) → words.Word → Recorded → Recorded → Type 0
-Does may_end quantum (Step count) old new = Steps may_end count old new
-Does may_end quantum Next old new = Searches may_end quantum (met_from old (aim_in old.machine.world) []) old new
-Does may_end quantum (Until goal) old new = SearchesGoal may_end quantum goal old new
-Does may_end quantum (Run rounds) old new = Plays may_end quantum rounds old new
-Does may_end quantum (Tick count) old new = SendsFirst may_end (λ n. replicate n runs.Tick) count old new
-Does may_end quantum (Send count) old new = SendsFirst may_end (λ n. replicate n runs.Send) count old new
-Does may_end quantum (Key keys) old new = SendsFirst false (λ n. map runs.Key (take n keys.items)) (length keys.items) old new
-Does may_end quantum (Back count) old new = GoesBack count old new
-Does may_end quantum (Goto place) old new = GoesTo place old new
-Does may_end quantum (BackUntil goal) old new = SeeksBack goal old new
-Does may_end quantum (ToMark marks) old new = Searches may_end quantum (met_from old (On waits_for.Fault) marks.items) old new
-Does may_end quantum Finish old new = Finishes may_end quantum old new
-Does may_end quantum _ old new = new ≡ old
+abbrev pub Does : (may_end : Bool) → (plan : Planned) → words.Word → Recorded → Recorded → Type 0
+Does may_end plan (Step count) old new = Steps may_end count old new
+Does may_end plan Next old new = Searches may_end plan (met_from old (aim_in old.machine.world) []) old new
+Does may_end plan (Until goal) old new = SearchesGoal may_end plan goal old new
+Does may_end plan (Run rounds) old new = Plays may_end plan rounds old new
+Does may_end plan (Tick count) old new = SendsFirst may_end (λ n. replicate n runs.Tick) count old new
+Does may_end plan (Send count) old new = SendsFirst may_end (λ n. replicate n runs.Send) count old new
+Does may_end plan (Key keys) old new = SendsFirst false (λ n. map runs.Key (take n keys.items)) (length keys.items) old new
+Does may_end plan (Back count) old new = GoesBack count old new
+Does may_end plan (Goto place) old new = GoesTo place old new
+Does may_end plan (BackUntil goal) old new = SeeksBack goal old new
+Does may_end plan (ToMark marks) old new = Searches may_end plan (met_from old (On waits_for.Fault) marks.items) old new
+Does may_end plan Finish old new = Finishes may_end plan old new
+Does may_end plan _ old new = new ≡ old
 
 -- Where the host had too little memory for its answer, it may have done nothing
-abbrev pub DoesOrStays : (may_end : Bool) → (quantum : ℕ) → words.Word → Recorded → Recorded → Type 0
-DoesOrStays may_end quantum word old new = (new ≡ old) ⊎ Does may_end quantum word old new
+abbrev pub DoesOrStays : (may_end : Bool) → (plan : Planned) → words.Word → Recorded → Recorded → Type 0
+DoesOrStays may_end plan word old new = (new ≡ old) ⊎ Does may_end plan word old new
 
 -- ---- what a line leaves
 
@@ -158,14 +159,14 @@ next_of Quit = ends.Ends
 next_of _ = ends.Stays
 
 -- What some word leaves whose numbers are in their ranges. A line that is no word is answered as the word Nothing is, which does nothing
-pub record DoesSome (may_end : Bool) (quantum : ℕ) (old new : Recorded) : Type 0 where
+pub record DoesSome (may_end : Bool) (plan : Planned) (old new : Recorded) : Type 0 where
   pub word : words.Word
   pub in_range : IsInRange word
-  pub does : Does may_end quantum word old new
+  pub does : Does may_end plan word old new
 
 -- and what comes behind its answer
-pub record Obeys (may_end : Bool) (quantum : ℕ) (old new : Recorded) (next : behind_words.Next) : Type 0 where
+pub record Obeys (may_end : Bool) (plan : Planned) (old new : Recorded) (next : behind_words.Next) : Type 0 where
   pub word : words.Word
   pub in_range : IsInRange word
-  pub does : Does may_end quantum word old new
+  pub does : Does may_end plan word old new
   pub behind : next ≡ next_of word

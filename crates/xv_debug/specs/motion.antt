@@ -6,6 +6,7 @@ pub mod Finishing
 pub mod Lines
 pub mod Marks
 pub mod Places
+pub mod Plan
 pub mod Ran
 pub mod Reaching
 pub mod Resting

@@ -11,7 +11,7 @@ use crate::kept::KeptMarks;
 use crate::looks::{
     show_descriptors_of, show_nobody, show_numbers_of, show_pages_of, show_registers_of,
 };
-use crate::motion::{self, Aim, Journey, Output};
+use crate::motion::{self, Aim, Journey, Output, Plan};
 use crate::names::Known;
 use crate::pipes::show_pipes;
 use crate::processes::{show_process, show_processes, show_where};
@@ -50,8 +50,8 @@ pub enum Next {
 /// A debugger: what it remembers between its words. The session isn't part of it.
 #[derive(Drop)]
 pub struct Debugger {
-    /// The Runs in a round.
-    quantum: u32,
+    /// What the machine goes on by.
+    plan: Plan,
     /// The address after the memory that was shown last.
     shown: u64,
     /// What is known of the sources of the session's programs, if anything is.
@@ -151,6 +151,7 @@ impl Debugger {
     ghost use Rattle.debug_words.specs.Ranges.{IsInRange};
     ghost use Rattle.xv_session.specs.declared.until.Condition.TheVariants.{Fault};
     ghost use Rattle.xv_debug.specs.declared.debugger.TheConstants.{QUANTUM};
+    ghost use Rattle.xv_debug.specs.motion.Plan.{keyless};
     ghost use Rattle.xv_debug.specs.declared.motion.aiming.Aim.TheVariants.{On};
     ghost use Rattle.xv_debug.specs.motion.Backwards.{GoesBackUntil};
     ghost use Rattle.xv_debug.specs.motion.Reaching.{met_from};
@@ -169,12 +170,12 @@ impl Debugger {
     /// A debugger that has seen nothing. The names of functions come from the programs' own symbols, and no line is
     /// known.
     pub fn new() -> Debugger
-        ensures quantum { result.quantum ≡ QUANTUM }
+        ensures plan { result.plan ≡ keyless QUANTUM }
         ensures shown { result.shown ≡ 0 }
         ensures sources { result.sources ≡ None }
     {
         Debugger {
-            quantum: QUANTUM,
+            plan: Plan::keyless(QUANTUM),
             shown: 0,
             sources: None,
             marks: KeptMarks::new(),
@@ -184,12 +185,12 @@ impl Debugger {
 
     /// A debugger that has seen nothing, and knows this of the programs' sources.
     pub fn with_sources(sources: Sources) -> Debugger
-        ensures quantum { result.quantum ≡ QUANTUM }
+        ensures plan { result.plan ≡ keyless QUANTUM }
         ensures shown { result.shown ≡ 0 }
         ensures sources { result.sources ≡ Some sources }
     {
         Debugger {
-            quantum: QUANTUM,
+            plan: Plan::keyless(QUANTUM),
             shown: 0,
             sources: Some(sources),
             marks: KeptMarks::new(),
@@ -197,16 +198,16 @@ impl Debugger {
         }
     }
 
-    /// The same, of a machine that nobody lets go on after it: so `c` goes on up to a fault, if there is no mark. Its rounds
-    /// have so many Runs.
-    pub fn alone(sources: Sources, quantum: u32) -> Debugger
-        ensures quantum { result.quantum ≡ quantum }
+    /// The same, of a machine that nobody lets go on after it: so `c` goes on up to a fault, if there is no mark. It goes on
+    /// by this plan.
+    pub fn alone(sources: Sources, plan: Plan) -> Debugger
+        ensures plan { result.plan ≡ plan }
         ensures shown { result.shown ≡ 0 }
         ensures sources { result.sources ≡ Some sources }
         ensures alone { result.alone ≡ true }
     {
         Debugger {
-            quantum,
+            plan,
             shown: 0,
             sources: Some(sources),
             marks: KeptMarks::new(),
@@ -260,9 +261,9 @@ impl Debugger {
         patience: &mut P,
         answer: &mut String,
     ) -> Result<Next, AllocError>
-        ensures done { IfOk result (λ next. Obeys P.may_end self.old.quantum session.old session.new next) }
-        ensures failed { IfErr result (λ _. (session.new ≡ session.old) ⊎ DoesSome P.may_end self.old.quantum session.old session.new) }
-        ensures quantum { self.new.quantum ≡ self.old.quantum }
+        ensures done { IfOk result (λ next. Obeys P.may_end self.old.plan session.old session.new next) }
+        ensures failed { IfErr result (λ _. (session.new ≡ session.old) ⊎ DoesSome P.may_end self.old.plan session.old session.new) }
+        ensures plan { self.new.plan ≡ self.old.plan }
     {
         if self.tells_of_c(alloc, session, line, answer)? {
             return self.answer_marked(alloc, session, Word::Nothing, patience, answer);
@@ -332,9 +333,9 @@ impl Debugger {
         answer: &mut String,
     ) -> Result<Next, AllocError>
         requires { IsInRange word }
-        ensures done { IfOk result (λ next. Obeys P.may_end self.old.quantum session.old session.new next) }
-        ensures failed { IfErr result (λ _. (session.new ≡ session.old) ⊎ DoesSome P.may_end self.old.quantum session.old session.new) }
-        ensures quantum { self.new.quantum ≡ self.old.quantum }
+        ensures done { IfOk result (λ next. Obeys P.may_end self.old.plan session.old session.new next) }
+        ensures failed { IfErr result (λ _. (session.new ≡ session.old) ⊎ DoesSome P.may_end self.old.plan session.old session.new) }
+        ensures plan { self.new.plan ≡ self.old.plan }
     {
         let word = self.with_marks(word);
         let next = self.obey_word(alloc, session, &word, patience, answer);
@@ -345,7 +346,7 @@ impl Debugger {
     /// Forgets the marks for once that are met where the session is, after the word that goes on to them.
     fn forget_met(&mut self, session: &Session, word: &Word)
         ensures marks { self.new.marks.kept.items ≡ left_after (running_of session.now) word.now self.old.marks.kept.items }
-        ensures quantum { self.new.quantum ≡ self.old.quantum }
+        ensures plan { self.new.plan ≡ self.old.plan }
     {
         if let Word::ToMark(_) = word {
             self.marks.forget_met(session);
@@ -362,9 +363,9 @@ impl Debugger {
         answer: &mut String,
     ) -> Result<Next, AllocError>
         requires { IsInRange word.now }
-        ensures done { IfOk result (λ next. Obeys P.may_end self.old.quantum session.old session.new next) }
-        ensures failed { IfErr result (λ _. (session.new ≡ session.old) ⊎ DoesSome P.may_end self.old.quantum session.old session.new) }
-        ensures quantum { self.new.quantum ≡ self.old.quantum }
+        ensures done { IfOk result (λ next. Obeys P.may_end self.old.plan session.old session.new next) }
+        ensures failed { IfErr result (λ _. (session.new ≡ session.old) ⊎ DoesSome P.may_end self.old.plan session.old session.new) }
+        ensures plan { self.new.plan ≡ self.old.plan }
     {
         self.answer(alloc, session, word, patience, answer)
     }
@@ -382,13 +383,13 @@ impl Debugger {
         patience: &mut P,
         answer: &mut String,
     ) -> Result<Next, AllocError>
-        ensures done { IfOk result (λ _. Does P.may_end self.old.quantum word.now session.old session.new) }
+        ensures done { IfOk result (λ _. Does P.may_end self.old.plan word.now session.old session.new) }
         ensures next { IfOk result (λ next. next ≡ next_of word.now) }
         ensures told { OnOk result
-            (Answers self.old.sources P.may_end self.old.quantum self.old.shown word.now session.old session.new
+            (Answers self.old.sources P.may_end self.old.plan self.old.shown word.now session.old session.new
             (string_bytes answer.old) (string_bytes answer.new)) }
-        ensures failed { IfErr result (λ _. DoesOrStays P.may_end self.old.quantum word.now session.old session.new) }
-        ensures quantum { self.new.quantum ≡ self.old.quantum }
+        ensures failed { IfErr result (λ _. DoesOrStays P.may_end self.old.plan word.now session.old session.new) }
+        ensures plan { self.new.plan ≡ self.old.plan }
     {
         self.act(alloc, session, word, patience, answer)?;
         Ok(next_of(word))
@@ -403,12 +404,12 @@ impl Debugger {
         patience: &mut P,
         answer: &mut String,
     ) -> Result<(), AllocError>
-        ensures done { IfOk result (λ _. Does P.may_end self.old.quantum word.now session.old session.new) }
+        ensures done { IfOk result (λ _. Does P.may_end self.old.plan word.now session.old session.new) }
         ensures told { OnOk result
-            (Answers self.old.sources P.may_end self.old.quantum self.old.shown word.now session.old session.new
+            (Answers self.old.sources P.may_end self.old.plan self.old.shown word.now session.old session.new
             (string_bytes answer.old) (string_bytes answer.new)) }
-        ensures failed { IfErr result (λ _. DoesOrStays P.may_end self.old.quantum word.now session.old session.new) }
-        ensures quantum { self.new.quantum ≡ self.old.quantum }
+        ensures failed { IfErr result (λ _. DoesOrStays P.may_end self.old.plan word.now session.old session.new) }
+        ensures plan { self.new.plan ≡ self.old.plan }
     {
         match word {
             Word::Back { count } => self.go_back(alloc, session, *count, patience, answer),
@@ -542,7 +543,7 @@ impl Debugger {
         self.tell(alloc, session, word, &journey, answer)
     }
 
-    /// Sends events by the clock up to an aim or a mark, and tells what came of them.
+    /// Sends events by the plan up to an aim or a mark, and tells what came of them.
     fn search<P: Patience>(
         &self,
         alloc: Global,
@@ -553,16 +554,16 @@ impl Debugger {
         patience: &mut P,
         answer: &mut String,
     ) -> Result<(), AllocError>
-        ensures done { IfOk result (λ _. Searches P.may_end self.now.quantum (met_from session.old aim.now marks.now) session.old session.new) }
+        ensures done { IfOk result (λ _. Searches P.may_end self.now.plan (met_from session.old aim.now marks.now) session.old session.new) }
         ensures told { OnOk result
-            (SearchTells P.may_end self.now.quantum word.now (met_from session.old aim.now marks.now)
+            (SearchTells P.may_end self.now.plan word.now (met_from session.old aim.now marks.now)
             session.old session.new (string_bytes answer.old) (string_bytes answer.new)) }
-        ensures failed { IfErr result (λ _. (session.new ≡ session.old) ⊎ Searches P.may_end self.now.quantum (met_from session.old aim.now marks.now) session.old session.new) }
+        ensures failed { IfErr result (λ _. (session.new ≡ session.old) ⊎ Searches P.may_end self.now.plan (met_from session.old aim.now marks.now) session.old session.new) }
     {
         let mut output = Output::new(alloc)?;
         let journey = motion::search(
             session,
-            self.quantum,
+            &self.plan,
             EVENTS_MOST,
             aim,
             marks,
@@ -572,7 +573,7 @@ impl Debugger {
         self.tell_shown(alloc, session, word, &journey, &output, answer)
     }
 
-    /// Sends events by the clock up to the end of an instruction, and of the call that it makes.
+    /// Sends events by the plan up to the end of an instruction, and of the call that it makes.
     fn next<P: Patience>(
         &self,
         alloc: Global,
@@ -581,17 +582,17 @@ impl Debugger {
         patience: &mut P,
         answer: &mut String,
     ) -> Result<(), AllocError>
-        ensures done { IfOk result (λ _. Searches P.may_end self.now.quantum (met_from session.old (aim_in session.old.machine.world) []) session.old session.new) }
+        ensures done { IfOk result (λ _. Searches P.may_end self.now.plan (met_from session.old (aim_in session.old.machine.world) []) session.old session.new) }
         ensures told { OnOk result
-            (SearchTells P.may_end self.now.quantum word.now (met_from session.old (aim_in session.old.machine.world) [])
+            (SearchTells P.may_end self.now.plan word.now (met_from session.old (aim_in session.old.machine.world) [])
             session.old session.new (string_bytes answer.old) (string_bytes answer.new)) }
-        ensures failed { IfErr result (λ _. (session.new ≡ session.old) ⊎ Searches P.may_end self.now.quantum (met_from session.old (aim_in session.old.machine.world) []) session.old session.new) }
+        ensures failed { IfErr result (λ _. (session.new ≡ session.old) ⊎ Searches P.may_end self.now.plan (met_from session.old (aim_in session.old.machine.world) []) session.old session.new) }
     {
         let aim = motion::aim_in(session.machine());
         self.search(alloc, session, word, &aim, &[], patience, answer)
     }
 
-    /// Sends events by the clock up to the first Run that meets one of these marks, or by which a process is gone by a fault.
+    /// Sends events by the plan up to the first Run that meets one of these marks, or by which a process is gone by a fault.
     fn go_on<P: Patience>(
         &self,
         alloc: Global,
@@ -601,11 +602,11 @@ impl Debugger {
         patience: &mut P,
         answer: &mut String,
     ) -> Result<(), AllocError>
-        ensures done { IfOk result (λ _. Searches P.may_end self.now.quantum (met_from session.old (On Fault) marks.now.items) session.old session.new) }
+        ensures done { IfOk result (λ _. Searches P.may_end self.now.plan (met_from session.old (On Fault) marks.now.items) session.old session.new) }
         ensures told { OnOk result
-            (SearchTells P.may_end self.now.quantum word.now (met_from session.old (On Fault) marks.now.items)
+            (SearchTells P.may_end self.now.plan word.now (met_from session.old (On Fault) marks.now.items)
             session.old session.new (string_bytes answer.old) (string_bytes answer.new)) }
-        ensures failed { IfErr result (λ _. (session.new ≡ session.old) ⊎ Searches P.may_end self.now.quantum (met_from session.old (On Fault) marks.now.items) session.old session.new) }
+        ensures failed { IfErr result (λ _. (session.new ≡ session.old) ⊎ Searches P.may_end self.now.plan (met_from session.old (On Fault) marks.now.items) session.old session.new) }
     {
         let aim = Aim::On(Condition::Fault);
         self.search(
@@ -619,7 +620,7 @@ impl Debugger {
         )
     }
 
-    /// Sends events by the clock up to the end of the function in which the process that runs is; none if it isn't known.
+    /// Sends events by the plan up to the end of the function in which the process that runs is; none if it isn't known.
     fn finish<P: Patience>(
         &self,
         alloc: Global,
@@ -628,11 +629,11 @@ impl Debugger {
         patience: &mut P,
         answer: &mut String,
     ) -> Result<(), AllocError>
-        ensures done { IfOk result (λ _. Finishes P.may_end self.now.quantum session.old session.new) }
+        ensures done { IfOk result (λ _. Finishes P.may_end self.now.plan session.old session.new) }
         ensures told { OnOk result
-            (FinishTells self.now.sources P.may_end self.now.quantum word.now session.old session.new
+            (FinishTells self.now.sources P.may_end self.now.plan word.now session.old session.new
             (string_bytes answer.old) (string_bytes answer.new)) }
-        ensures failed { IfErr result (λ _. (session.new ≡ session.old) ⊎ Finishes P.may_end self.now.quantum session.old session.new) }
+        ensures failed { IfErr result (λ _. (session.new ≡ session.old) ⊎ Finishes P.may_end self.now.plan session.old session.new) }
     {
         match motion::finish_aim(alloc, session, self.sources.as_ref())? {
             Some(aim) => self.search(alloc, session, word, &aim, &[], patience, answer),
@@ -640,7 +641,7 @@ impl Debugger {
         }
     }
 
-    /// Sends events by the clock up to a goal; none if it is asked of a process that isn't there.
+    /// Sends events by the plan up to a goal; none if it is asked of a process that isn't there.
     fn seek<P: Patience>(
         &self,
         alloc: Global,
@@ -650,11 +651,11 @@ impl Debugger {
         patience: &mut P,
         answer: &mut String,
     ) -> Result<(), AllocError>
-        ensures done { IfOk result (λ _. SearchesGoal P.may_end self.now.quantum goal.now session.old session.new) }
+        ensures done { IfOk result (λ _. SearchesGoal P.may_end self.now.plan goal.now session.old session.new) }
         ensures told { OnOk result
-            (GoalTells P.may_end self.now.quantum word.now goal.now session.old session.new
+            (GoalTells P.may_end self.now.plan word.now goal.now session.old session.new
             (string_bytes answer.old) (string_bytes answer.new)) }
-        ensures failed { IfErr result (λ _. (session.new ≡ session.old) ⊎ SearchesGoal P.may_end self.now.quantum goal.now session.old session.new) }
+        ensures failed { IfErr result (λ _. (session.new ≡ session.old) ⊎ SearchesGoal P.may_end self.now.plan goal.now session.old session.new) }
     {
         match self.aim(session, goal) {
             Some(aim) => self.search(alloc, session, word, &aim, &[], patience, answer),
@@ -713,14 +714,20 @@ impl Debugger {
         patience: &mut P,
         answer: &mut String,
     ) -> Result<(), AllocError>
-        ensures done { IfOk result (λ _. Plays P.may_end self.now.quantum rounds session.old session.new) }
+        ensures done { IfOk result (λ _. Plays P.may_end self.now.plan rounds session.old session.new) }
         ensures told { OnOk result
-            (RoundsTell P.may_end self.now.quantum word.now rounds session.old session.new
+            (RoundsTell P.may_end self.now.plan word.now rounds session.old session.new
             (string_bytes answer.old) (string_bytes answer.new)) }
-        ensures failed { IfErr result (λ _. (session.new ≡ session.old) ⊎ Plays P.may_end self.now.quantum rounds session.old session.new) }
+        ensures failed { IfErr result (λ _. (session.new ≡ session.old) ⊎ Plays P.may_end self.now.plan rounds session.old session.new) }
     {
         let mut output = Output::new(alloc)?;
-        let journey = motion::play_rounds(session, self.quantum, rounds, patience, &mut output);
+        let journey = motion::play_rounds(
+            session,
+            self.plan.quantum(),
+            rounds,
+            patience,
+            &mut output,
+        );
         self.tell_shown(alloc, session, word, &journey, &output, answer)
     }
 
@@ -837,7 +844,7 @@ impl Debugger {
         ensures shows { OnOk result
             (Shows self.old.shown session.now word.now
             (string_bytes answer.old) (string_bytes answer.new)) }
-        ensures quantum { self.new.quantum ≡ self.old.quantum }
+        ensures plan { self.new.plan ≡ self.old.plan }
     {
         match word {
             Word::Where { pid } => self.show_focus(alloc, session, *pid, INSTRUCTIONS, answer),
@@ -935,7 +942,7 @@ impl Debugger {
             (Writes (string_bytes answer.old) (string_bytes answer.new)
             (IsOfFocus session.now named
             (λ p text. text ≡ memory_shown session.now p (unwrap_or address self.old.shown) count))) }
-        ensures quantum { self.new.quantum ≡ self.old.quantum }
+        ensures plan { self.new.plan ≡ self.old.plan }
     {
         let Some(pid) = focus(session, named) else {
             return show_nobody(answer);

@@ -27,4 +27,5 @@ mod variables;
 mod waits;
 
 pub use debugger::{Debugger, Next};
+pub use motion::Plan;
 pub use xv_session::{Endless, Patience};

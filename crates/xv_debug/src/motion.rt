@@ -1,9 +1,10 @@
 //! The debugger's words that move a session: they send it events, or take it back.
 //!
 //! [`step`] sends so many Runs (`specs/motion/Ran.antt`), and none if nobody may run (`specs/motion/Resting.antt`).
-//! [`search`] goes by the clock (`specs/motion/Clock.antt`) up to a Run that is what is waited for, and takes the bytes
-//! that wait in the console (`specs/motion/Reaching.antt`, `specs/motion/Aims.antt`, `specs/motion/Marks.antt`). It ends
-//! if nobody may go on, and no tick wakes one. [`send_often`], [`type_keys`] and [`play_rounds`]
+//! [`search`] goes by a plan (`specs/motion/Plan.antt`, `specs/motion/Clock.antt`) up to a Run that is what is waited for,
+//! types the plan's keys, and takes the bytes that wait in the console (`specs/motion/Reaching.antt`,
+//! `specs/motion/Aims.antt`, `specs/motion/Marks.antt`). It ends if nobody may go on, no tick wakes one, and no key is left.
+//! [`send_often`], [`type_keys`] and [`play_rounds`]
 //! send the other events. [`go_back`] takes the last ones back, [`back_until`] those after the last Run that is the aim
 //! (`specs/motion/Backwards.antt`). All but [`type_keys`] ask a `Patience` now and then (`pace.rt`), and end if it is over.
 //! Each promises which events the session has got then (`specs/motion/Effects.antt`): no event is sent that isn't kept, and
@@ -19,6 +20,7 @@ mod marks;
 mod output;
 mod pace;
 mod places;
+mod plan;
 mod resting;
 mod rounds;
 mod running;
@@ -33,6 +35,7 @@ pub(crate) use journey::{Journey, Stop};
 pub(crate) use lines::line_aim;
 pub(crate) use marks::is_at_mark;
 pub(crate) use output::Output;
+pub use plan::Plan;
 pub(crate) use rounds::play_rounds;
 pub(crate) use running::step;
 pub(crate) use searching::search;

@@ -3,6 +3,7 @@ ghost use Rattle.std.specs.Prelude.{IfOk};
 ghost use Rattle.terminal_session.specs.DebugSettings.{AreInRange};
 
 use crate::debugging::NAME;
+use crate::debugging::keys::{KEYS, KEYS_WORD};
 use program_files::{
     CommandLine, CommandWord, FRAMES, NumberOption, QUANTUM, TRACE, WordsError, given_words,
 };
@@ -22,6 +23,8 @@ pub(crate) struct Settings {
     pub prompt: bool,
     /// The path of a table of lines.
     pub lines: Option<String>,
+    /// The path of a file whose bytes are typed.
+    pub keys: Option<String>,
     /// What is said of a record, at whose end the conversation begins.
     pub replay: ReplayWords,
     /// The path of each FILE, in the order of the words: at least one.
@@ -40,6 +43,9 @@ if it is there, or else by FILE.
 Standard input has words, a line each: help lists them. Without --prompt each line is written
 before its answer, after a >, so that the words of a file and their answers read well. The end
 of the input ends the debugger, and so does quit.
+
+The words next, finish, until and c go by rounds. With --keys each round begins with a byte of that file,
+until there is none left.
 
 With --replay the events of a record that a terminal has kept are sent first, by its programs among
 the FILEs: all of them, or with --at the first N. Nothing is shown of them. The words go on from
@@ -75,11 +81,25 @@ const COMMAND_LINE: CommandLine = CommandLine {
             value: "TABLE",
             help: "A file with rows PROGRAM ADDRESS LINE in decimal numbers, as ./xv --debug makes it",
         },
+        KEYS_WORD,
         REPLAY_WORD,
         AT_WORD,
         CommandWord::Files,
     ],
 };
+
+/// The same words, if no file of keys is named; and else the option that names it doesn't go with a record, which tells
+/// the keys itself.
+fn without_keys(words: ReplayWords, keys: &Option<String>) -> ReplayWords {
+    match keys {
+        Some(_) => ReplayWords {
+            path: words.path,
+            at: words.at,
+            beside: Some(KEYS),
+        },
+        None => words,
+    }
+}
 
 /// What the words of the command line ask for.
 ///
@@ -96,7 +116,8 @@ pub(crate) fn read_settings<R: Env + AllocGlobal>(rt: &R) -> Result<Settings, Wo
     let trace = given.number(&TRACE)?;
     let prompt = given.flag(PROMPT);
     let lines = given.text(LINES)?;
-    let replay = replay_words(rt, &given, &TOLD_BY_RECORD)?;
+    let keys = given.text(KEYS)?;
+    let replay = without_keys(replay_words(rt, &given, &TOLD_BY_RECORD)?, &keys);
     let files = given.files()?;
     Ok(Settings {
         frames,
@@ -104,6 +125,7 @@ pub(crate) fn read_settings<R: Env + AllocGlobal>(rt: &R) -> Result<Settings, Wo
         trace,
         prompt,
         lines,
+        keys,
         replay,
         files,
     })

@@ -73,8 +73,8 @@ impl Conversation {
         line: &str,
         output: &mut W,
     ) -> Result<Next, Failure<'static>>
-        ensures moves { MovesByWord false self.old.debugger.quantum self.old.session self.new.session }
-        ensures quantum { self.new.debugger.quantum ≡ self.old.debugger.quantum }
+        ensures moves { MovesByWord false self.old.debugger.plan self.old.session self.new.session }
+        ensures plan { self.new.debugger.plan ≡ self.old.debugger.plan }
     {
         let mut text = String::new(alloc);
         let next = self
@@ -91,8 +91,8 @@ impl Conversation {
         input: &mut R,
         output: &mut W,
     ) -> Result<bool, Failure<'static>>
-        ensures moves { MovesByWord false self.old.debugger.quantum self.old.session self.new.session }
-        ensures quantum { self.new.debugger.quantum ≡ self.old.debugger.quantum }
+        ensures moves { MovesByWord false self.old.debugger.plan self.old.session self.new.session }
+        ensures plan { self.new.debugger.plan ≡ self.old.debugger.plan }
     {
         show(self.prompt, PROMPT, output)?;
         let Some(line) = next_line(alloc, input)? else {
@@ -116,8 +116,8 @@ impl Conversation {
         input: &mut R,
         output: &mut W,
     ) -> Result<(), Failure<'static>>
-        ensures lines { Converses false self.old.debugger.quantum self.old.session self.new.session }
-        ensures quantum { self.new.debugger.quantum ≡ self.old.debugger.quantum }
+        ensures lines { Converses false self.old.debugger.plan self.old.session self.new.session }
+        ensures plan { self.new.debugger.plan ≡ self.old.debugger.plan }
     {
         show(self.prompt, GREETING, output)?;
         for _ in 0..u64::MAX {

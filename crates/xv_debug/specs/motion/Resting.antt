@@ -1,10 +1,12 @@
 -- Where nobody may run, and who waits for the clock then.
-use Rattle.std.specs.Prelude.{◌≡◌, ◌⊎◌, ℕ, Bool, true, false, [], Option, None, Some, IsSome}
+use Rattle.std.specs.Prelude.{◌≡◌, ◌≢◌, ◌⊎◌, ℕ, Bool, true, false, [], Option, None, Some, IsSome}
 use Rattle.kernel_spec.specs.runs.Run.{World}
 use Rattle.kernel_spec.specs.waking.Wakes.{IsRunnable}
 use Rattle.xv_report.specs.Waits.{wait_of}
 use Rattle.xv_report.specs.declared.waits.Wait.{Wait}
 use Rattle.xv_report.specs.declared.waits.Wait.TheVariants.{Until}
+use Rattle.xv_debug.specs.motion.Plan.{Planned, key_due, later_keys}
+use Rattle.xv_debug.specs.declared.motion.clock.Round.{Round}
 use Rattle.xv_debug.specs.declared.motion.journey.Stop.{Stop}
 use Rattle.xv_debug.specs.declared.motion.journey.Stop.TheVariants.{Asleep, Halted}
 
@@ -42,18 +44,22 @@ AwaitsTick w p = is_clock (wait_of w p) ≡ true
 abbrev pub NobodyAwaitsTick : World → Type 0
 NobodyAwaitsTick w = (p : ℕ) → ¬ AwaitsTick w p
 
--- All processes sleep, and one of them up to a tick
-abbrev pub AreAwaitingTicks : World → Type 0
-AreAwaitingTicks w = RestsBy Asleep w × ((p : ℕ) × AwaitsTick w p)
+-- All processes sleep, and one of them sleeps up to a tick, or a later round has a key
+abbrev pub AreAwaitingTicks : Planned → World → Type 0
+AreAwaitingTicks plan w = RestsBy Asleep w × (((p : ℕ) × AwaitsTick w p) ⊎ (later_keys plan w ≢ []))
+
+-- no key is due, nor has a later round one
+abbrev pub NoKeyIsLeft : Planned → Round → World → Type 0
+NoKeyIsLeft plan round w = (key_due plan round w ≡ []) × (later_keys plan w ≡ [])
 
 -- ---- where a way rests
 
--- The machine has halted, or all processes sleep, and none of them up to a tick; and no byte waits in the console
-abbrev pub RestsQuiet : Stop → World → Type 0
-RestsQuiet Asleep w = RestsBy Asleep w × (w.state.console.to_send ≡ []) × NobodyAwaitsTick w
-RestsQuiet stop w = RestsBy stop w × (w.state.console.to_send ≡ [])
+-- The machine has halted, or all processes sleep, none of them up to a tick, and no key is left; and no byte waits in the console
+abbrev pub RestsQuiet : Planned → Round → Stop → World → Type 0
+RestsQuiet plan round Asleep w = RestsBy Asleep w × (w.state.console.to_send ≡ []) × NobodyAwaitsTick w × NoKeyIsLeft plan round w
+RestsQuiet plan round stop w = RestsBy stop w × (w.state.console.to_send ≡ [])
 
-abbrev pub RestsQuietIf : Stop → World → Type 0
-RestsQuietIf Halted w = RestsQuiet Halted w
-RestsQuietIf Asleep w = RestsQuiet Asleep w
-RestsQuietIf _ w = Unit {0}
+abbrev pub RestsQuietIf : Planned → Round → Stop → World → Type 0
+RestsQuietIf plan round Halted w = RestsQuiet plan round Halted w
+RestsQuietIf plan round Asleep w = RestsQuiet plan round Asleep w
+RestsQuietIf plan round _ w = Unit {0}

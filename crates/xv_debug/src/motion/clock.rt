@@ -1,26 +1,48 @@
-//! The clock of a way: how many Runs its round has left, and which event comes next.
-ghost use Rattle.std.specs.Prelude.{◌≡◌, ◌≤◌, ◌<◌, ◌-◌, [], IfOk, IfErr, drop, false, is_some, length, replicate, slice_get, take, true};
+//! The clock of a way: how far its round is, and which event comes next.
+ghost use Rattle.std.specs.Prelude.{◌≡◌, ◌≤◌, ◌<◌, ◌-◌, ◌||◌, ◌&&◌, [], ◌∷◌, IfOk, IfErr, IfNone, IfSome, drop, false, is_none, is_some, length, not, replicate, slice_get, take, true};
+ghost use Rattle.kernel_spec.specs.runs.Run as runs;
 ghost use Rattle.xv_machine.specs.Events.{event_of};
-ghost use Rattle.xv_debug.specs.motion.Clock.{IsNext, is_tick, left_by, runs_among, runs_left};
+ghost use Rattle.xv_debug.specs.motion.Clock.{IsNext, is_key, is_tick, round_by, round_of, runs_among};
+ghost use Rattle.xv_debug.specs.motion.Plan.{key_due};
 ghost use Rattle.xv_debug.specs.motion.Resting.{AreAwaitingTicks, RestsBy, RestsQuiet};
 
 use crate::motion::backwards::{Equal, equal_from, is_run};
 use crate::motion::journey::Stop;
+use crate::motion::plan::Plan;
 use crate::motion::resting::{is_tick_awaited, rest_of};
 use xv_machine::{ConsoleList, Event, Machine};
 use xv_session::Session;
 
+/// How far a round is.
+#[derive(Clone, Copy)]
+pub(crate) struct Round {
+    /// How many Runs it has left.
+    pub left: u32,
+    /// Whether a key was typed in it.
+    pub keyed: bool,
+}
+
 /// How often the count of equal events is doubled that are looked for at once.
 const DOUBLINGS: u32 = 16;
 
-/// How many Runs a round has left after an event.
-pub(crate) fn left_by(quantum: u32, left: u32, event: Event) -> u32
-    ensures { result ≡ left_by quantum left (event_of event) }
+/// How far a round is after an event.
+pub(crate) fn round_by(plan: &Plan, round: Round, event: Event) -> Round
+    ensures { result ≡ round_by plan.now.quantum round (event_of event) }
 {
     match event {
-        Event::Run => left.saturating_sub(1),
-        Event::Tick => quantum,
-        Event::Key(_) | Event::Send => left,
+        Event::Run => Round {
+            left: round.left.saturating_sub(1),
+            keyed: round.keyed,
+        },
+        Event::Tick => Round {
+            left: plan.quantum(),
+            keyed: false,
+        },
+        Event::Key(_) => Round {
+            left: round.left,
+            keyed: true,
+        },
+        Event::Send => round,
     }
 }
 
@@ -57,6 +79,16 @@ fn is_tick(event: Event) -> bool
     }
 }
 
+/// Whether an event is a Key.
+fn is_key(event: Event) -> bool
+    ensures { result ≡ is_key (event_of event) }
+{
+    match event {
+        Event::Key(_) => true,
+        _ => false,
+    }
+}
+
 /// How many Runs are left, of so many, if as many were sent as these events are.
 fn left_without(left: u32, events: &Equal) -> u32
     ensures { result ≡ left - runs_among (event_of events.now.event) events.now.count }
@@ -67,22 +99,35 @@ fn left_without(left: u32, events: &Equal) -> u32
     u64::from(left).saturating_sub(events.count) as u32
 }
 
-/// How many Runs the round has left in which the run is. The events before it are looked at, from the last on, up to a
-/// Tick.
-pub(crate) fn runs_left(session: &Session, quantum: u32) -> u32
-    ensures { result ≡ runs_left quantum session.now.events }
+/// How far a round is, if these events came in it too.
+fn round_with(round: Round, events: &Equal) -> Round
+    ensures left { result.left ≡ round.left - runs_among (event_of events.now.event) events.now.count }
+    ensures keyed { result.keyed ≡ (round.keyed || is_key (event_of events.now.event)) }
 {
-    let mut left = quantum;
+    Round {
+        left: left_without(round.left, events),
+        keyed: round.keyed | is_key(events.event),
+    }
+}
+
+/// How far the round is in which the run is. The events before it are looked at, from the last on, up to a Tick.
+pub(crate) fn round_of(session: &Session, plan: &Plan) -> Round
+    ensures { result ≡ round_of plan.now.quantum session.now.events }
+{
+    let mut round = Round {
+        left: plan.quantum(),
+        keyed: false,
+    };
     let mut end = session.at();
     'events: while end > 0 {
         let before = equal_before(session, end);
         if is_tick(before.event) {
-            return left;
+            return round;
         }
-        left = left_without(left, &before);
+        round = round_with(round, &before);
         end -= before.count;
     }
-    left
+    round
 }
 
 /// Whether a byte waits in the console.
@@ -92,50 +137,80 @@ fn byte_waits(machine: &Machine) -> bool
     machine.console_byte(ConsoleList::ToSend, 0).is_some()
 }
 
-/// Whether all processes sleep, and one of them up to a tick.
-fn is_tick_awaited_at(stop: Stop, machine: &Machine) -> bool
+/// Whether a round may still begin with a key: none was typed in it, and the machine hasn't halted.
+fn takes_key(machine: &Machine, round: Round) -> bool
+    ensures { result ≡ (not round.keyed && is_none machine.now.world.turns.halted) }
+{
+    !round.keyed & machine.halted().is_none()
+}
+
+/// The key that is to be typed now.
+#[tactic(auto, using(crate::proofs::Clocked::due_not, crate::proofs::Clocked::due_some, crate::proofs::Clocked::due_none))]
+fn key_due(machine: &Machine, plan: &Plan, round: Round) -> Option<u8>
+    ensures some { IfSome result (λ byte. key_due plan.now round machine.now.world ≡ runs.Key byte ∷ []) }
+    ensures none { IfNone result (key_due plan.now round machine.now.world ≡ []) }
+{
+    if !takes_key(machine, round) {
+        return None;
+    }
+    plan.key_of_round(machine.clock())
+}
+
+/// Whether all processes sleep, and one of them sleeps up to a tick, or a later round has a key.
+#[tactic(auto, using(crate::proofs::Clocked::keys_behind, crate::proofs::Clocked::no_keys_behind))]
+fn is_tick_awaited_at(stop: Stop, machine: &Machine, plan: &Plan, round: Round) -> bool
     requires quiet { machine.now.world.state.console.to_send ≡ [] }
+    requires keyless { key_due plan.now round machine.now.world ≡ [] }
     requires rests { RestsBy stop machine.now.world }
-    ensures some { result ≡ true → AreAwaitingTicks machine.now.world }
-    ensures none { result ≡ false → RestsQuiet stop machine.now.world }
+    ensures some { result ≡ true → AreAwaitingTicks plan.now machine.now.world }
+    ensures none { result ≡ false → RestsQuiet plan.now round stop machine.now.world }
 {
     match stop {
-        Stop::Asleep => is_tick_awaited(machine),
+        Stop::Asleep => plan.has_key_after(machine.clock()) || is_tick_awaited(machine),
         Stop::Done | Stop::Met | Stop::Halted | Stop::Broken | Stop::Refused(_) => false,
     }
 }
 
-/// The event that comes next, if no byte waits.
+/// The event that comes next, if no byte waits, and no key is due.
 ///
 /// # Errors
 ///
-/// None comes: the machine has halted, or all processes sleep, and none of them up to a tick.
-fn event_without_bytes(machine: &Machine, left: u32) -> Result<Event, Stop>
-    requires { machine.now.world.state.console.to_send ≡ [] }
-    ensures next { IfOk result (λ event. IsNext left machine.now.world (event_of event)) }
-    ensures rests { IfErr result (λ stop. RestsQuiet stop machine.now.world) }
+/// None comes: the machine has halted, or all processes sleep, none of them up to a tick, and no round has a key.
+fn event_without_bytes(machine: &Machine, plan: &Plan, round: Round) -> Result<Event, Stop>
+    requires quiet { machine.now.world.state.console.to_send ≡ [] }
+    requires keyless { key_due plan.now round machine.now.world ≡ [] }
+    ensures next { IfOk result (λ event. IsNext plan.now round machine.now.world (event_of event)) }
+    ensures rests { IfErr result (λ stop. RestsQuiet plan.now round stop machine.now.world) }
 {
     let Some(stop) = rest_of(machine) else {
-        return Ok(if left == 0 { Event::Tick } else { Event::Run });
+        return Ok(if round.left == 0 {
+            Event::Tick
+        } else {
+            Event::Run
+        });
     };
-    if is_tick_awaited_at(stop, machine) {
+    if is_tick_awaited_at(stop, machine, plan, round) {
         return Ok(Event::Tick);
     }
     Err(stop)
 }
 
-/// The event that comes next, in a round that has so many Runs left.
+/// The event that comes next by a plan, in a round that is so far.
 ///
 /// # Errors
 ///
-/// None comes: the machine has halted, or all processes sleep, and none of them up to a tick; and no byte waits.
+/// None comes: the machine has halted, or all processes sleep, none of them up to a tick, and no round has a key; and no
+/// byte waits.
 #[tactic(auto, using(crate::proofs::Searched::waits, crate::proofs::Searched::none_waits))]
-pub(crate) fn next_event(machine: &Machine, left: u32) -> Result<Event, Stop>
-    ensures next { IfOk result (λ event. IsNext left machine.now.world (event_of event)) }
-    ensures rests { IfErr result (λ stop. RestsQuiet stop machine.now.world) }
+pub(crate) fn next_event(machine: &Machine, plan: &Plan, round: Round) -> Result<Event, Stop>
+    ensures next { IfOk result (λ event. IsNext plan.now round machine.now.world (event_of event)) }
+    ensures rests { IfErr result (λ stop. RestsQuiet plan.now round stop machine.now.world) }
 {
     if byte_waits(machine) {
         return Ok(Event::Send);
     }
-    event_without_bytes(machine, left)
+    if let Some(byte) = key_due(machine, plan, round) {
+        return Ok(Event::Key(byte));
+    }
+    event_without_bytes(machine, plan, round)
 }

@@ -1,4 +1,4 @@
-//! Sending events by the clock, up to a Run that is what is waited for.
+//! Sending events by the plan, up to a Run that is what is waited for.
 ghost use Rattle.std.specs.Prelude.{◌≡◌, ◌<◌, ◌≤◌, ◌&&◌, ◌||◌, IfOk, IfErr, IfSome, false, length, not, option_map};
 ghost use Rattle.kernel_spec.specs.runs.Run as runs;
 ghost use Rattle.kernel_spec.specs.runs.Run.{bytes_out};
@@ -7,7 +7,7 @@ ghost use Rattle.xv_session.specs.Answers.{IsReason, Sent};
 ghost use Rattle.xv_session.specs.Recorded.{running_of};
 ghost use Rattle.xv_debug.specs.motion.Aims as aims;
 ghost use Rattle.xv_debug.specs.motion.Backwards as backwards;
-ghost use Rattle.xv_debug.specs.motion.Clock.{IsNext, left_by, runs_left};
+ghost use Rattle.xv_debug.specs.motion.Clock.{IsNext, round_of};
 ghost use Rattle.xv_debug.specs.motion.Marks as marked;
 ghost use Rattle.xv_debug.specs.motion.Places.{ArePlaces};
 ghost use Rattle.xv_debug.specs.motion.Reaching as reached;
@@ -17,12 +17,13 @@ ghost use Rattle.xv_debug.specs.motion.Ways.{test_of};
 
 use crate::motion::aiming::{Aim, is_due, is_met};
 use crate::motion::backwards::is_run;
-use crate::motion::clock::{left_by, next_event, runs_left};
+use crate::motion::clock::{Round, next_event, round_by, round_of};
 use crate::motion::journey::{Journey, Stop};
 use crate::motion::marks::{is_any_due, meets_marks};
 use crate::motion::output::Output;
 use crate::motion::pace::{Pace, STRETCH, at_once};
 use crate::motion::places::{Places, places_of};
+use crate::motion::plan::Plan;
 use debug_words::Mark;
 use xk_base::Pid;
 use xv_machine::{Event, Outcome};
@@ -31,8 +32,8 @@ use xv_session::{Patience, Session, SessionError};
 /// What a way goes by.
 #[derive(Drop)]
 pub(crate) struct Way<'a> {
-    /// The Runs of a round.
-    pub quantum: u32,
+    /// What the run goes on by.
+    pub plan: &'a Plan,
     /// The process that ran at first. A turn of it isn't what is waited for: it stands there already.
     pub ran: Option<Pid>,
     /// What is waited for, and the marks.
@@ -51,8 +52,8 @@ pub(crate) struct Went {
     pub met: bool,
     /// What came of the last of them.
     pub last: Option<Outcome>,
-    /// How many Runs the round has left.
-    pub left: u32,
+    /// How far the round is.
+    pub round: Round,
 }
 
 /// Whether a store that is waited for is the next step of the process that runs.
@@ -119,14 +120,14 @@ fn send_apart(
     session: &mut Session,
     way: &Way<'_>,
     event: Event,
-    left: u32,
+    round: Round,
     output: &mut Output,
 ) -> Result<Went, SessionError>
     requires apart { backwards.is_run (event_of event) ≡ false }
-    requires left { left ≡ runs_left way.now.quantum session.old.events }
-    requires next { IsNext left session.old.machine.world (event_of event) }
-    ensures goes { IfOk result (λ w. Goes way.now.quantum (test_of way.now) w.met w.sent (option_map outcome_of w.last) session.old session.new output.old output.new) }
-    ensures left { IfOk result (λ w. w.left ≡ runs_left way.now.quantum session.new.events) }
+    requires round { round ≡ round_of way.now.plan.now.quantum session.old.events }
+    requires next { IsNext way.now.plan.now round session.old.machine.world (event_of event) }
+    ensures goes { IfOk result (λ w. Goes way.now.plan.now (test_of way.now) w.met w.sent (option_map outcome_of w.last) session.old session.new output.old output.new) }
+    ensures round { IfOk result (λ w. w.round ≡ round_of way.now.plan.now.quantum session.new.events) }
     ensures one { IfOk result (λ w. w.sent ≡ 1) }
     ensures refused { IfErr result (λ _. session.new ≡ session.old) }
     ensures silent { IfErr result (λ _. output.new ≡ output.old) }
@@ -137,7 +138,7 @@ fn send_apart(
         sent: 1,
         met: false,
         last: Some(outcome),
-        left: left_by(way.quantum, left, event),
+        round: round_by(way.plan, round, event),
     })
 }
 
@@ -145,13 +146,13 @@ fn send_apart(
 fn run_once(
     session: &mut Session,
     way: &Way<'_>,
-    left: u32,
+    round: Round,
     output: &mut Output,
 ) -> Result<Went, SessionError>
-    requires left { left ≡ runs_left way.now.quantum session.old.events }
-    requires next { IsNext left session.old.machine.world runs.Run }
-    ensures goes { IfOk result (λ w. Goes way.now.quantum (test_of way.now) w.met w.sent (option_map outcome_of w.last) session.old session.new output.old output.new) }
-    ensures left { IfOk result (λ w. w.left ≡ runs_left way.now.quantum session.new.events) }
+    requires round { round ≡ round_of way.now.plan.now.quantum session.old.events }
+    requires next { IsNext way.now.plan.now round session.old.machine.world runs.Run }
+    ensures goes { IfOk result (λ w. Goes way.now.plan.now (test_of way.now) w.met w.sent (option_map outcome_of w.last) session.old session.new output.old output.new) }
+    ensures round { IfOk result (λ w. w.round ≡ round_of way.now.plan.now.quantum session.new.events) }
     ensures one { IfOk result (λ w. w.sent ≡ 1) }
     ensures refused { IfErr result (λ _. session.new ≡ session.old) }
     ensures silent { IfErr result (λ _. output.new ≡ output.old) }
@@ -164,7 +165,7 @@ fn run_once(
         sent: 1,
         met,
         last: Some(outcome),
-        left: left.saturating_sub(1),
+        round: round_by(way.plan, round, Event::Run),
     })
 }
 
@@ -175,19 +176,19 @@ fn run_often(
     session: &mut Session,
     most: u32,
     way: &Way<'_>,
-    left: u32,
+    round: Round,
     places: &Places,
     output: &mut Output,
 ) -> Result<Went, SessionError>
     requires some { 0 < most }
-    requires few { most ≤ left }
-    requires left { left ≡ runs_left way.now.quantum session.old.events }
-    requires next { IsNext left session.old.machine.world runs.Run }
+    requires few { most ≤ round.left }
+    requires round { round ≡ round_of way.now.plan.now.quantum session.old.events }
+    requires next { IsNext way.now.plan.now round session.old.machine.world runs.Run }
     requires places { ArePlaces way.now.aim.now way.now.marks.now places.now }
     requires aim { aims.is_due way.now.aim.now session.old.machine ≡ false }
     requires marks { marked.is_any_due way.now.marks.now session.old.machine.world ≡ false }
-    ensures goes { IfOk result (λ w. Goes way.now.quantum (test_of way.now) w.met w.sent (option_map outcome_of w.last) session.old session.new output.old output.new) }
-    ensures left { IfOk result (λ w. w.left ≡ runs_left way.now.quantum session.new.events) }
+    ensures goes { IfOk result (λ w. Goes way.now.plan.now (test_of way.now) w.met w.sent (option_map outcome_of w.last) session.old session.new output.old output.new) }
+    ensures round { IfOk result (λ w. w.round ≡ round_of way.now.plan.now.quantum session.new.events) }
     ensures within { IfOk result (λ w. w.sent ≤ most) }
     ensures forth { IfOk result (λ w. 0 < w.sent) }
     ensures refused { IfErr result (λ _. session.new ≡ session.old) }
@@ -209,7 +210,10 @@ fn run_often(
         sent,
         met,
         last: Some(outcome),
-        left: left.saturating_sub(sent),
+        round: Round {
+            left: round.left.saturating_sub(sent),
+            keyed: round.keyed,
+        },
     })
 }
 
@@ -220,15 +224,15 @@ fn run_some(
     session: &mut Session,
     most: u32,
     way: &Way<'_>,
-    left: u32,
+    round: Round,
     output: &mut Output,
 ) -> Result<Went, SessionError>
     requires some { 0 < most }
     requires places { IfSome way.now.places (ArePlaces way.now.aim.now way.now.marks.now) }
-    requires left { left ≡ runs_left way.now.quantum session.old.events }
-    requires next { IsNext left session.old.machine.world runs.Run }
-    ensures goes { IfOk result (λ w. Goes way.now.quantum (test_of way.now) w.met w.sent (option_map outcome_of w.last) session.old session.new output.old output.new) }
-    ensures left { IfOk result (λ w. w.left ≡ runs_left way.now.quantum session.new.events) }
+    requires round { round ≡ round_of way.now.plan.now.quantum session.old.events }
+    requires next { IsNext way.now.plan.now round session.old.machine.world runs.Run }
+    ensures goes { IfOk result (λ w. Goes way.now.plan.now (test_of way.now) w.met w.sent (option_map outcome_of w.last) session.old session.new output.old output.new) }
+    ensures round { IfOk result (λ w. w.round ≡ round_of way.now.plan.now.quantum session.new.events) }
     ensures within { IfOk result (λ w. w.sent ≤ most) }
     ensures forth { IfOk result (λ w. 0 < w.sent) }
     ensures refused { IfErr result (λ _. session.new ≡ session.old) }
@@ -236,13 +240,13 @@ fn run_some(
     ensures reason { IfErr result (λ e. IsReason e (length session.old.events)) }
 {
     let Some(places) = &way.places else {
-        return run_once(session, way, left, output);
+        return run_once(session, way, round, output);
     };
     let due = due_now(session, way);
     if due.aim || due.mark {
-        return run_once(session, way, left, output);
+        return run_once(session, way, round, output);
     }
-    run_often(session, most.min(left), way, left, places, output)
+    run_often(session, most.min(round.left), way, round, places, output)
 }
 
 /// Sends the next event; and if it is a Run, more Runs, so many at most in all.
@@ -252,15 +256,15 @@ fn send_some(
     most: u32,
     way: &Way<'_>,
     event: Event,
-    left: u32,
+    round: Round,
     output: &mut Output,
 ) -> Result<Went, SessionError>
     requires some { 0 < most }
     requires places { IfSome way.now.places (ArePlaces way.now.aim.now way.now.marks.now) }
-    requires left { left ≡ runs_left way.now.quantum session.old.events }
-    requires next { IsNext left session.old.machine.world (event_of event) }
-    ensures goes { IfOk result (λ w. Goes way.now.quantum (test_of way.now) w.met w.sent (option_map outcome_of w.last) session.old session.new output.old output.new) }
-    ensures left { IfOk result (λ w. w.left ≡ runs_left way.now.quantum session.new.events) }
+    requires round { round ≡ round_of way.now.plan.now.quantum session.old.events }
+    requires next { IsNext way.now.plan.now round session.old.machine.world (event_of event) }
+    ensures goes { IfOk result (λ w. Goes way.now.plan.now (test_of way.now) w.met w.sent (option_map outcome_of w.last) session.old session.new output.old output.new) }
+    ensures round { IfOk result (λ w. w.round ≡ round_of way.now.plan.now.quantum session.new.events) }
     ensures within { IfOk result (λ w. w.sent ≤ most) }
     ensures forth { IfOk result (λ w. 0 < w.sent) }
     ensures refused { IfErr result (λ _. session.new ≡ session.old) }
@@ -268,19 +272,19 @@ fn send_some(
     ensures reason { IfErr result (λ e. IsReason e (length session.old.events)) }
 {
     if is_run(event) {
-        return run_some(session, most, way, left, output);
+        return run_some(session, most, way, round, output);
     }
-    send_apart(session, way, event, left, output)
+    send_apart(session, way, event, round, output)
 }
 
 /// The way of a session from here on.
-fn way_from<'a>(session: &Session, quantum: u32, aim: &'a Aim, marks: &'a [Mark]) -> Way<'a>
-    ensures quantum { result.quantum ≡ quantum }
+fn way_from<'a>(session: &Session, plan: &'a Plan, aim: &'a Aim, marks: &'a [Mark]) -> Way<'a>
+    ensures plan { result.plan.now ≡ plan.now }
     ensures test { test_of result ≡ met_from session.now aim.now marks.now }
     ensures places { IfSome result.places (ArePlaces result.aim.now result.marks.now) }
 {
     Way {
-        quantum,
+        plan,
         ran: session.machine().current(),
         aim,
         marks,
@@ -288,27 +292,27 @@ fn way_from<'a>(session: &Session, quantum: u32, aim: &'a Aim, marks: &'a [Mark]
     }
 }
 
-/// Sends events by the clock, so many at most, up to the first Run that is the aim or meets a mark; and none more if nobody
-/// may go on and nobody waits for a tick, or if it is broken off. A round has `quantum` Runs, and a byte that waits in the
-/// console is taken before the next Run.
+/// Sends events by the plan, so many at most, up to the first Run that is the aim or meets a mark; and none more if nobody
+/// may go on, nobody waits for a tick and no key is left, or if it is broken off. A byte that waits in the console is taken
+/// before the next Run.
 pub(crate) fn search<P: Patience>(
     session: &mut Session,
-    quantum: u32,
+    plan: &Plan,
     most: u32,
     aim: &Aim,
     marks: &[Mark],
     patience: &mut P,
     output: &mut Output,
 ) -> Journey
-    ensures { Reaches P.may_end quantum (met_from session.old aim.now marks.now) most result.stop result.sent (option_map outcome_of result.last) session.old session.new output.old output.new }
+    ensures { Reaches P.may_end plan.now (met_from session.old aim.now marks.now) most result.stop result.sent (option_map outcome_of result.last) session.old session.new output.old output.new }
 {
-    let way = way_from(session, quantum, aim, marks);
+    let way = way_from(session, plan, aim, marks);
     let mut pace = Pace::new(u64::from(STRETCH));
-    let mut left = runs_left(session, quantum);
+    let mut round = round_of(session, plan);
     let mut sent: u32 = 0;
     let mut last = None;
     'events: while sent < most {
-        let event = match next_event(session.machine(), left) {
+        let event = match next_event(session.machine(), plan, round) {
             Ok(event) => event,
             Err(stop) => return Journey::new(u64::from(sent), stop, last),
         };
@@ -317,10 +321,10 @@ pub(crate) fn search<P: Patience>(
             return Journey::new(far, Stop::Broken, last);
         }
         let part = at_once(most - sent);
-        match send_some(session, part, &way, event, left, output) {
+        match send_some(session, part, &way, event, round, output) {
             Ok(went) => {
                 sent += went.sent;
-                left = went.left;
+                round = went.round;
                 last = went.last;
                 if went.met {
                     return Journey::new(u64::from(sent), Stop::Met, last);

@@ -10,7 +10,7 @@ pub turns-preserved : goal.turns-preserved
 turns-preserved g c =
     let (lived, same, kept, on) = c.turns.invariant in (
       lives-more _ _ _ _ _ _ _ _ _ lived same c.in_ok-end.ensures.stretch,
-      c.in_ok-end.ensures.quantum ∙ same,
+      c.in_ok-end.ensures.plan ∙ same,
       λ k. c.in_ok-end.ensures.kept (kept k),
       on_join _ _ _ on c.in_ok-end.ensures.goes_on,
     )

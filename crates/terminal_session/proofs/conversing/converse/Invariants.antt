@@ -5,7 +5,7 @@ use Rattle.terminal_session.proofs.conversing.converse.Given as goal
 
 abbrev pub invariant-turns : goal.invariant-turns
 invariant-turns g l =
-    Lives g.H.Patience.may_end l.fn.debugger.quantum l.fn.session l.session (g.W.ByteSink.sink l.fn.screen.sink).held (g.W.ByteSink.sink l.screen.sink).held
-    × (l.debugger.quantum ≡ l.fn.debugger.quantum)
+    Lives g.H.Patience.may_end l.fn.debugger.plan l.fn.session l.session (g.W.ByteSink.sink l.fn.screen.sink).held (g.W.ByteSink.sink l.screen.sink).held
+    × (l.debugger.plan ≡ l.fn.debugger.plan)
     × (IsKept g.F.RecordFile.held l.fn.recorder l.fn.session.events → IsKept g.F.RecordFile.held l.recorder l.session.events)
     × GoesOn l.fn.recorder l.recorder

@@ -10,7 +10,7 @@ use Rattle.xv_debug.proofs.debugger.Debugger.act.Goals as goal
 
 pub returns-in-Step-clause-told : goal.returns-in-Step-clause-told
 returns-in-Step-clause-told g c =
-    let q = c.args.self.now.quantum in
+    let q = c.args.self.now.plan in
     let old = c.args.session.now in
     let new = c.step.new.session in
     let before = string_bytes c.args.answer.now in
@@ -20,7 +20,7 @@ returns-in-Step-clause-told g c =
 
 pub returns-in-Next-clause-told : goal.returns-in-Next-clause-told
 returns-in-Next-clause-told g c =
-    let q = c.args.self.now.quantum in
+    let q = c.args.self.now.plan in
     let old = c.args.session.now in
     let new = c.next.new.session in
     let before = string_bytes c.args.answer.now in
@@ -30,7 +30,7 @@ returns-in-Next-clause-told g c =
 
 pub returns-in-Until-clause-told : goal.returns-in-Until-clause-told
 returns-in-Until-clause-told g c =
-    let q = c.args.self.now.quantum in
+    let q = c.args.self.now.plan in
     let old = c.args.session.now in
     let new = c.seek.new.session in
     let before = string_bytes c.args.answer.now in
@@ -40,7 +40,7 @@ returns-in-Until-clause-told g c =
 
 pub returns-in-Run-clause-told : goal.returns-in-Run-clause-told
 returns-in-Run-clause-told g c =
-    let q = c.args.self.now.quantum in
+    let q = c.args.self.now.plan in
     let old = c.args.session.now in
     let new = c.play.new.session in
     let before = string_bytes c.args.answer.now in
@@ -50,7 +50,7 @@ returns-in-Run-clause-told g c =
 
 pub returns-in-Tick-clause-told : goal.returns-in-Tick-clause-told
 returns-in-Tick-clause-told g c =
-    let q = c.args.self.now.quantum in
+    let q = c.args.self.now.plan in
     let old = c.args.session.now in
     let new = c.send_often.new.session in
     let before = string_bytes c.args.answer.now in
@@ -60,7 +60,7 @@ returns-in-Tick-clause-told g c =
 
 pub returns-in-Send-clause-told : goal.returns-in-Send-clause-told
 returns-in-Send-clause-told g c =
-    let q = c.args.self.now.quantum in
+    let q = c.args.self.now.plan in
     let old = c.args.session.now in
     let new = c.send_often-in-Send.new.session in
     let before = string_bytes c.args.answer.now in
@@ -71,7 +71,7 @@ returns-in-Send-clause-told g c =
 
 pub returns-in-Key-clause-told : goal.returns-in-Key-clause-told
 returns-in-Key-clause-told g c =
-    let q = c.args.self.now.quantum in
+    let q = c.args.self.now.plan in
     let old = c.args.session.now in
     let new = c.type_in.new.session in
     let before = string_bytes c.args.answer.now in
@@ -82,7 +82,7 @@ returns-in-Key-clause-told g c =
 
 pub returns-in-ToMark-clause-told : goal.returns-in-ToMark-clause-told
 returns-in-ToMark-clause-told g c =
-    let q = c.args.self.now.quantum in
+    let q = c.args.self.now.plan in
     let old = c.args.session.now in
     let new = c.go_on.new.session in
     let before = string_bytes c.args.answer.now in
@@ -92,7 +92,7 @@ returns-in-ToMark-clause-told g c =
 
 pub returns-in-Finish-clause-told : goal.returns-in-Finish-clause-told
 returns-in-Finish-clause-told g c =
-    let q = c.args.self.now.quantum in
+    let q = c.args.self.now.plan in
     let old = c.args.session.now in
     let new = c.finish.new.session in
     let before = string_bytes c.args.answer.now in

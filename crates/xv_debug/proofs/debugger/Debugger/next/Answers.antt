@@ -9,6 +9,6 @@ use Rattle.xv_debug.proofs.debugger.Debugger.next.Goals as goal
 pub returns-clause-told : goal.returns-clause-told
 returns-clause-told g c =
     subst (λ (aim : Aim).
-    OnOk c.search.result (SearchTells g.P.Patience.may_end c.args.self.now.quantum c.args.word.now (met_from c.args.session.now aim []) c.args.session.now c.search.new.session
+    OnOk c.search.result (SearchTells g.P.Patience.may_end c.args.self.now.plan c.args.word.now (met_from c.args.session.now aim []) c.args.session.now c.search.new.session
     (string_bytes c.args.answer.now) (string_bytes c.search.new.answer)))
     (c.aim_in-aim.ensures ∙ ap (λ (m : Meaning). aim_in m.world) c.machine.ensures.machine) c.search.ensures.told

@@ -9,20 +9,20 @@ use Rattle.xv_debug.proofs.debugger.Debugger.search.Goals as goal
 pub returns-clause-done : goal.returns-clause-done
 returns-clause-done g c =
     let j = c.search-journey in
-    let d : Searches g.P.Patience.may_end c.args.self.now.quantum (met_from c.args.session.now c.args.aim.now c.args.marks.now) c.args.session.now j.new.session =
+    let d : Searches g.P.Patience.may_end c.args.self.now.plan (met_from c.args.session.now c.args.aim.now c.args.marks.now) c.args.session.now j.new.session =
     record { stop = j.result.stop; sent = j.result.sent; last = option_map outcome_of j.result.last; had = c.in_ok-output.output; has = j.new.output; reaches = j.ensures } in
     if-ok c.tell_shown.result d
 
 pub returns-clause-failed : goal.returns-clause-failed
 returns-clause-failed g c =
     let j = c.search-journey in
-    let d : Searches g.P.Patience.may_end c.args.self.now.quantum (met_from c.args.session.now c.args.aim.now c.args.marks.now) c.args.session.now j.new.session =
+    let d : Searches g.P.Patience.may_end c.args.self.now.plan (met_from c.args.session.now c.args.aim.now c.args.marks.now) c.args.session.now j.new.session =
     record { stop = j.result.stop; sent = j.result.sent; last = option_map outcome_of j.result.last; had = c.in_ok-output.output; has = j.new.output; reaches = j.ensures } in
     if-err c.tell_shown.result (inr d)
 
 pub returns-clause-told : goal.returns-clause-told
 returns-clause-told g c =
     let j = c.search-journey in
-    let d : Searches g.P.Patience.may_end c.args.self.now.quantum (met_from c.args.session.now c.args.aim.now c.args.marks.now) c.args.session.now j.new.session =
+    let d : Searches g.P.Patience.may_end c.args.self.now.plan (met_from c.args.session.now c.args.aim.now c.args.marks.now) c.args.session.now j.new.session =
     record { stop = j.result.stop; sent = j.result.sent; last = option_map outcome_of j.result.last; had = c.in_ok-output.output; has = j.new.output; reaches = j.ensures } in
     on_ok_weaker c.tell_shown.result (λ wrote. (d, (c.in_ok-output.ensures.kept, c.in_ok-output.ensures.none), wrote)) c.tell_shown.ensures

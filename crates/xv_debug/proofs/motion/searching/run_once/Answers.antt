@@ -1,4 +1,4 @@
-use Rattle.std.proofs.Common.{◌&&◌, ◌||◌, ◌∙◌, ℕ, Bool, ap₂, not, sym, subst}
+use Rattle.std.proofs.Common.{◌&&◌, ◌||◌, ◌∙◌, Bool, ap₂, not, sym, subst}
 use Rattle.kernel_spec.specs.runs.Run.{Run}
 use Rattle.xv_machine.specs.Events.{outcome_of}
 use Rattle.xv_session.specs.Recorded.{running_of}
@@ -7,7 +7,8 @@ use Rattle.xv_debug.specs.motion.Clock.{IsNext}
 use Rattle.xv_debug.specs.motion.Marks as marked
 use Rattle.xv_debug.specs.motion.Reaching.{is_turn_of}
 use Rattle.xv_debug.specs.motion.Ways.{test_of}
-use Rattle.xv_debug.proofs.Clocked.{left_sent}
+use Rattle.xv_debug.specs.declared.motion.clock.Round.{Round}
+use Rattle.xv_debug.proofs.Clocked.{round_sent}
 use Rattle.xv_debug.proofs.Searched.{goes-run}
 use Rattle.xv_debug.proofs.motion.searching.run_once.Goals as goal
 
@@ -18,12 +19,12 @@ returns-clause-goes c =
     let o = outcome_of c.in_ok-outcome.outcome in
     let new = c.send_one.new.session in
     let due = c.due_now-due.ensures in
-    goes-run way.quantum (test_of way) c.is_one-met.result o old new c.args.output.now c.send_one.new.output
-    (subst (λ (left : ℕ). IsNext left old.machine.world Run) c.requires.left c.requires.next) c.in_ok-outcome.ensures.sent c.in_ok-outcome.ensures.shown
+    goes-run way.plan.now (test_of way) c.is_one-met.result o old new c.args.output.now c.send_one.new.output
+    (subst (λ (round : Round). IsNext way.plan.now round old.machine.world Run) c.requires.round c.requires.next) c.in_ok-outcome.ensures.sent c.in_ok-outcome.ensures.shown
     (ap₂ (λ (x y : Bool). not (is_turn_of way.ran o) && (aims.meets_with way.aim.now x o new.machine || marked.meets_with way.marks.now y o (running_of new))) (sym due.aim) (sym due.mark)
     ∙ sym c.is_one-met.ensures)
 
-pub returns-clause-left : goal.returns-clause-left
-returns-clause-left c =
-    left_sent c.args.way.now.quantum c.args.left c.saturating_sub.result Run (outcome_of c.in_ok-outcome.outcome) c.args.session.now c.send_one.new.session
-    c.in_ok-outcome.ensures.sent c.requires.left c.saturating_sub.ensures
+pub returns-clause-round : goal.returns-clause-round
+returns-clause-round c =
+    round_sent c.args.way.now.plan.now.quantum c.args.round c.round_by.result Run (outcome_of c.in_ok-outcome.outcome) c.args.session.now c.send_one.new.session
+    c.in_ok-outcome.ensures.sent c.requires.round c.round_by.ensures

@@ -1,6 +1,7 @@
 use Rattle.std.proofs.Common.{◌≡◌, ◌+◌, ℕ, Bool, true, false, option_map, arith, subst}
 use Rattle.xv_machine.specs.Events.{outcome_of}
-use Rattle.xv_debug.specs.motion.Clock.{runs_left}
+use Rattle.xv_debug.specs.motion.Clock.{round_of}
+use Rattle.xv_debug.specs.motion.Plan.{Planned}
 use Rattle.xv_debug.specs.motion.Reaching.{Goes, Test, met_from}
 use Rattle.xv_debug.specs.motion.Ways.{test_of}
 use Rattle.xv_debug.specs.declared.motion.journey.Stop.TheVariants.{Met}
@@ -9,13 +10,13 @@ use Rattle.xv_debug.proofs.motion.searching.search.Goals as goal
 
 pub events-init : goal.events-init
 events-init g c =
-    let q = c.args.quantum in
+    let q = c.args.plan.now in
     let old = c.args.session.now in
-    (omega arith, goes-none q (met_from old c.args.aim.now c.args.marks.now) old c.args.output.now c.args.output.now.fits, c.runs_left-left.ensures)
+    (omega arith, goes-none q (met_from old c.args.aim.now c.args.marks.now) old c.args.output.now c.args.output.now.fits, c.round_of-round.ensures)
 
 pub events-preserved : goal.events-preserved
 events-preserved g c =
-    let q = c.args.quantum in
+    let q = c.args.plan.now in
     let old = c.args.session.now in
     let test = met_from old c.args.aim.now c.args.marks.now in
     let way = c.way_from-way.result in
@@ -26,16 +27,16 @@ events-preserved g c =
     let one : Goes q test false went.sent last c.events.session new c.events.output has =
     subst (λ (met : Bool). Goes q test met went.sent last c.events.session new c.events.output has) c.if-went.false
     (subst (λ (t : Test). Goes q t went.met went.sent last c.events.session new c.events.output has) c.way_from-way.ensures.test
-    (subst (λ (k : ℕ). Goes k (test_of way) went.met went.sent last c.events.session new c.events.output has) c.way_from-way.ensures.quantum c.in-Ok-send_some.ensures.goes)) in (
+    (subst (λ (k : Planned). Goes k (test_of way) went.met went.sent last c.events.session new c.events.output has) c.way_from-way.ensures.plan c.in-Ok-send_some.ensures.goes)) in (
       omega (arith, c.events.invariant.0, c.events-test.true, c.at_once-part.ensures.within, c.in-Ok-send_some.ensures.within),
       goes-join q test false c.events.sent went.sent (option_map outcome_of c.events.last) last old c.events.session new c.args.output.now c.events.output
           has c.in-Ok-send_some.ensures.forth c.events.invariant.1 one,
-      subst (λ (k : ℕ). went.left ≡ runs_left k new.events) c.way_from-way.ensures.quantum c.in-Ok-send_some.ensures.left,
+      subst (λ (k : Planned). went.round ≡ round_of k.quantum new.events) c.way_from-way.ensures.plan c.in-Ok-send_some.ensures.round,
     )
 
 pub returns-then-went : goal.returns-then-went
 returns-then-went g c =
-    let q = c.args.quantum in
+    let q = c.args.plan.now in
     let old = c.args.session.now in
     let test = met_from old c.args.aim.now c.args.marks.now in
     let way = c.way_from-way.result in
@@ -46,7 +47,7 @@ returns-then-went g c =
     let one : Goes q test true went.sent last c.events.session new c.events.output has =
     subst (λ (met : Bool). Goes q test met went.sent last c.events.session new c.events.output has) c.if-went.true
     (subst (λ (t : Test). Goes q t went.met went.sent last c.events.session new c.events.output has) c.way_from-way.ensures.test
-    (subst (λ (k : ℕ). Goes k (test_of way) went.met went.sent last c.events.session new c.events.output has) c.way_from-way.ensures.quantum c.in-Ok-send_some.ensures.goes)) in
+    (subst (λ (k : Planned). Goes k (test_of way) went.met went.sent last c.events.session new c.events.output has) c.way_from-way.ensures.plan c.in-Ok-send_some.ensures.goes)) in
     let goes = goes-join q test true c.events.sent went.sent (option_map outcome_of c.events.last) last old c.events.session new c.args.output.now c.events.output has
     c.in-Ok-send_some.ensures.forth c.events.invariant.1 one in
     reaches_told g.P.Patience.may_end q test c.args.most c.new-then-went.result (c.events.sent + went.sent) c.from-then-went.result Met went.last

@@ -1,8 +1,9 @@
-use Rattle.std.proofs.Common.{ℕ, subst}
+use Rattle.std.proofs.Common.{subst}
 use Rattle.xv_machine.specs.Events.{event_of, outcome_of}
 use Rattle.xv_debug.specs.motion.Clock.{IsNext}
 use Rattle.xv_debug.specs.motion.Ways.{test_of}
-use Rattle.xv_debug.proofs.Clocked.{left_sent}
+use Rattle.xv_debug.specs.declared.motion.clock.Round.{Round}
+use Rattle.xv_debug.proofs.Clocked.{round_sent}
 use Rattle.xv_debug.proofs.Searched.{goes-apart}
 use Rattle.xv_debug.proofs.motion.searching.send_apart.Goals as goal
 
@@ -12,10 +13,10 @@ returns-clause-goes c =
     let e = event_of c.args.event in
     let old = c.args.session.now in
     let sent = c.in_ok-outcome.ensures in
-    goes-apart way.quantum (test_of way) e (outcome_of c.in_ok-outcome.outcome) old c.send_one.new.session c.args.output.now c.send_one.new.output
-    c.requires.apart (subst (λ (left : ℕ). IsNext left old.machine.world e) c.requires.left c.requires.next) sent.sent sent.shown
+    goes-apart way.plan.now (test_of way) e (outcome_of c.in_ok-outcome.outcome) old c.send_one.new.session c.args.output.now c.send_one.new.output
+    c.requires.apart (subst (λ (round : Round). IsNext way.plan.now round old.machine.world e) c.requires.round c.requires.next) sent.sent sent.shown
 
-pub returns-clause-left : goal.returns-clause-left
-returns-clause-left c =
-    left_sent c.args.way.now.quantum c.args.left c.left_by.result (event_of c.args.event) (outcome_of c.in_ok-outcome.outcome) c.args.session.now c.send_one.new.session
-    c.in_ok-outcome.ensures.sent c.requires.left c.left_by.ensures
+pub returns-clause-round : goal.returns-clause-round
+returns-clause-round c =
+    round_sent c.args.way.now.plan.now.quantum c.args.round c.round_by.result (event_of c.args.event) (outcome_of c.in_ok-outcome.outcome) c.args.session.now c.send_one.new.session
+    c.in_ok-outcome.ensures.sent c.requires.round c.round_by.ensures
