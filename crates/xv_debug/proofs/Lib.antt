@@ -2,6 +2,7 @@ pub mod Backwards
 pub mod Clocked
 pub mod Conversed
 pub mod HeldEnds
+pub mod Left
 pub mod Looking
 pub mod PipeBytes
 pub mod Played
@@ -15,6 +16,8 @@ pub mod ToldPipes
 pub mod ToldProcesses
 pub mod Unmet
 mod WorkedAnswers
+mod WorkedChosen
 mod WorkedClock
+mod WorkedDisplays
 mod WorkedMarks
 mod WorkedReasons

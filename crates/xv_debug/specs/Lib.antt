@@ -1,5 +1,7 @@
 pub mod AnswerText
+pub mod Chosen
 pub mod Conversations
+pub mod Displays
 pub mod Effects
 pub mod Focus
 pub mod Instructions

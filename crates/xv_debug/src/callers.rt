@@ -1,7 +1,8 @@
 //! The calls that led a process to where it is, as they are told.
+use crate::choosing::{SeenCall, call_seen};
 use std::alloc::{AllocError, Global};
 use xk_base::Pid;
-use xv_report::{Callers, Calls, ProgramSource, Sources, calls_of, source_of};
+use xv_report::{Callers, Calls, NumberedCall, ProgramSource, Sources, calls_of, source_of};
 use xv_session::Session;
 
 /// The address of a call, which stands in the four bytes before the address to which it returns.
@@ -25,56 +26,42 @@ fn show_call(
     }
 }
 
-/// Writes the calls that return to these addresses, from the last one on.
+/// Writes the calls that are told, from the last one on.
 fn show_calls(
     source: &ProgramSource<'_>,
-    addresses: &[u64],
+    calls: &Calls,
     answer: &mut String,
 ) -> Result<(), AllocError> {
-    for place in 0..addresses.len() {
-        show_call(source, place + 1, call_before(addresses[place]), answer)?;
+    for place in 0..calls.count() {
+        if let Some(address) = calls.return_at(place) {
+            show_call(source, place + 1, call_before(address), answer)?;
+        }
     }
     Ok(())
 }
 
-/// Writes the calls that a table of call frames tells.
-fn show_known(
-    source: &ProgramSource<'_>,
-    addresses: &[u64],
-    answer: &mut String,
-) -> Result<(), AllocError> {
-    if addresses.is_empty() {
-        return answer.push_str("(no caller: by its table of call frames the stack holds none)\n");
-    }
-    show_calls(source, addresses, answer)
-}
-
-/// Writes the calls from ra on, and that they are a guess.
-fn show_from_ra(
-    source: &ProgramSource<'_>,
-    addresses: &[u64],
-    answer: &mut String,
-) -> Result<(), AllocError> {
-    show_calls(source, addresses, answer)?;
-    answer.push_str("(a guess from ra on: no table of call frames has the function of #0)\n")
-}
-
-/// Writes the calls that are guessed, and that they are.
-fn show_guessed(
-    source: &ProgramSource<'_>,
-    callers: &Callers,
-    answer: &mut String,
-) -> Result<(), AllocError> {
+/// What is said of calls that are guessed.
+fn guess_remark(callers: &Callers) -> &'static str {
     if !callers.frames.is_empty() {
-        show_calls(source, callers.frames.as_slice(), answer)?;
-        return answer.push_str("(a guess, by the frame pointers)\n");
+        return "(a guess, by the frame pointers)\n";
     }
     match callers.ra {
-        Some(address) => {
-            show_call(source, 1, call_before(address), answer)?;
-            answer.push_str("(a guess, by ra alone, which an earlier call may have left)\n")
+        Some(_) => "(a guess, by ra alone, which an earlier call may have left)\n",
+        None => "(no caller: s0 leads to no frame, and ra to no call)\n",
+    }
+}
+
+/// What is said of calls.
+fn remark(calls: &Calls) -> &'static str {
+    match calls {
+        Calls::Known(addresses) if addresses.is_empty() => {
+            "(no caller: by its table of call frames the stack holds none)\n"
         }
-        None => answer.push_str("(no caller: s0 leads to no frame, and ra to no call)\n"),
+        Calls::Known(_) => "",
+        Calls::FromRa(_) => {
+            "(a guess from ra on: no table of call frames has the function of #0)\n"
+        }
+        Calls::Guessed(callers) => guess_remark(callers),
     }
 }
 
@@ -91,10 +78,59 @@ pub(crate) fn told_calls(
         return Ok(told);
     };
     show_call(&source, 0, regs.pc(), &mut told)?;
-    match calls_of(alloc, session.machine(), pid, &source)? {
-        Some(Calls::Known(addresses)) => show_known(&source, addresses.as_slice(), &mut told)?,
-        Some(Calls::FromRa(addresses)) => show_from_ra(&source, addresses.as_slice(), &mut told)?,
-        Some(Calls::Guessed(callers)) => show_guessed(&source, &callers, &mut told)?,
+    if let Some(calls) = calls_of(alloc, session.machine(), pid, &source)? {
+        show_calls(&source, &calls, &mut told)?;
+        told.push_str(remark(&calls))?;
+    }
+    Ok(told)
+}
+
+/// Writes the call that was made last of a process.
+fn show_last(
+    session: &Session,
+    source: &ProgramSource<'_>,
+    pid: Pid,
+    answer: &mut String,
+) -> Result<(), AllocError> {
+    match session.machine().registers(pid) {
+        Some(regs) => show_call(source, 0, regs.pc(), answer),
+        None => {
+            let number = pid.number();
+            writeln!(
+                answer,
+                "no live process has the pid {number}; ps lists them"
+            )
+        }
+    }
+}
+
+/// Writes a call that led to the last one, and whether it is a guess.
+fn show_caller(
+    source: &ProgramSource<'_>,
+    number: usize,
+    call: &NumberedCall,
+    answer: &mut String,
+) -> Result<(), AllocError> {
+    show_call(source, number, call_before(call.pc), answer)?;
+    if call.is_guess {
+        answer.push_str("(a guess: bt tells by what)\n")?;
+    }
+    Ok(())
+}
+
+/// What is told of the call of a number of a process.
+pub(crate) fn told_call(
+    alloc: Global,
+    session: &Session,
+    sources: Option<&Sources>,
+    pid: Pid,
+    number: usize,
+) -> Result<String, AllocError> {
+    let mut told = String::new(alloc);
+    let source = source_of(sources, session, session.program_of(pid));
+    match call_seen(alloc, session, &source, pid, number)? {
+        Some(SeenCall::Last) => show_last(session, &source, pid, &mut told)?,
+        Some(SeenCall::Caller(call)) => show_caller(&source, number, &call, &mut told)?,
         None => {}
     }
     Ok(told)

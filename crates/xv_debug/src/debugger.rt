@@ -5,7 +5,10 @@ ghost use Rattle.xv_debug.specs.Kept.{goes_on, marks_after};
 ghost use Rattle.xv_debug.specs.StopText.{never, no_return};
 
 use crate::callers::told_calls;
+use crate::choosing::{Chosen, choose};
+use crate::displays::{Displayed, KeptDisplays, show_kept};
 use crate::focus::{focus, program_looked_at};
+use crate::frame_words::{Display, FrameWord, frame_word_of, show_frame_topic, show_frame_topics};
 use crate::instruction::listed_from;
 use crate::kept::KeptMarks;
 use crate::looks::{
@@ -18,11 +21,11 @@ use crate::processes::{show_process, show_processes, show_where};
 use crate::reasons::show_reason;
 use crate::shown_output::show_output;
 use crate::stops::{show_ahead, show_sent, show_unplayed};
-use crate::variables::told_of_c;
+use crate::variables::{ToldInCall, is_of_c_alone, told_of_c};
 use debug_views::{show_console, show_events, show_frames, show_memory, show_trace, show_value};
 use debug_words::texts::Many;
 use debug_words::{
-    EVENTS_MOST, Goal, Keys, Mark, Marks, Word, WordError, WordErrorKind, show_help,
+    EVENTS_MOST, Goal, Keys, Mark, Marks, Topic, Word, WordError, WordErrorKind, show_help,
 };
 use std::alloc::{AllocError, Global};
 use xk_base::Pid;
@@ -60,6 +63,10 @@ pub struct Debugger {
     marks: KeptMarks,
     /// Whether nobody lets the machine go on after it: then `c` goes on without a mark too, up to a fault.
     alone: bool,
+    /// The call that was chosen.
+    chosen: Chosen,
+    /// What is shown after each word that moves the session.
+    displays: KeptDisplays,
 }
 
 /// What comes after the answer to a word.
@@ -105,6 +112,15 @@ fn goes_on(word: &Word) -> bool
     }
 }
 
+/// Writes what a word does; of no word a line for each, and for each of those that ask of calls and variables.
+fn show_all_help(topic: Option<Topic>, answer: &mut String) -> Result<(), AllocError> {
+    show_help(topic, answer)?;
+    match topic {
+        Some(_) => Ok(()),
+        None => show_frame_topics(answer),
+    }
+}
+
 /// Writes that it isn't known where a function ends.
 fn show_no_return(answer: &mut String) -> Result<(), AllocError>
     ensures { OnOk result (string_bytes answer.new ≡ string_bytes answer.old ++ no_return) }
@@ -142,7 +158,7 @@ fn show_nameless(
 }
 
 impl Debugger {
-    ghost use Rattle.std.specs.Prelude.{◌≡◌, ◌⊎◌, ℕ, [], true, false, IfOk, IfErr, OnOk, Option, length, map, option_map, replicate, string_bytes, take, unwrap_or};
+    ghost use Rattle.std.specs.Prelude.{◌≡◌, ◌⊎◌, ℕ, [], true, false, IfOk, IfErr, IfSome, OnOk, Option, length, map, option_map, replicate, string_bytes, take, unwrap_or};
     ghost use Rattle.kernel_spec.specs.runs.Run as runs;
     ghost use Rattle.xv_machine.specs.Events.{event_of, outcome_of};
     ghost use Rattle.xv_session.specs.Recorded.{running_of};
@@ -162,6 +178,8 @@ impl Debugger {
     ghost use Rattle.xv_debug.specs.Effects.{Does, DoesOrStays, DoesSome, Finishes, GoesBack, GoesTo, IsAimOf, Obeys, Plays, Searches, SearchesGoal, SeeksBack, SendsFirst, Steps, next_of};
     ghost use Rattle.xv_debug.specs.Kept.{IsToMarks, goes_to_none, left_after, marks_of};
     ghost use Rattle.xv_debug.specs.LookText.{IsOfFocus, Shows};
+    ghost use Rattle.xv_debug.specs.Chosen.{Chooses, IsLeft, IsLookedAt};
+    ghost use Rattle.xv_debug.specs.Displays.{displays_after};
     ghost use Rattle.xv_debug.specs.Focus.{IsSourceLookedAt};
     ghost use Rattle.xv_report.specs.Locations.{IsSourceOf};
     ghost use Rattle.xv_debug.specs.OutputText.{output_text};
@@ -180,6 +198,8 @@ impl Debugger {
             sources: None,
             marks: KeptMarks::new(),
             alone: false,
+            chosen: Chosen::none(),
+            displays: KeptDisplays::new(),
         }
     }
 
@@ -195,6 +215,8 @@ impl Debugger {
             sources: Some(sources),
             marks: KeptMarks::new(),
             alone: false,
+            chosen: Chosen::none(),
+            displays: KeptDisplays::new(),
         }
     }
 
@@ -212,6 +234,8 @@ impl Debugger {
             sources: Some(sources),
             marks: KeptMarks::new(),
             alone: true,
+            chosen: Chosen::none(),
+            displays: KeptDisplays::new(),
         }
     }
 
@@ -262,14 +286,18 @@ impl Debugger {
         answer: &mut String,
     ) -> Result<Next, AllocError>
         ensures done { IfOk result (λ next. Obeys P.may_end self.old.plan session.old session.new next) }
+        ensures moved { IfOk result (λ _. IsLeft (length session.old.events) (length session.new.events) self.new.chosen) }
         ensures failed { IfErr result (λ _. (session.new ≡ session.old) ⊎ DoesSome P.may_end self.old.plan session.old session.new) }
         ensures plan { self.new.plan ≡ self.old.plan }
     {
+        if self.tells_of_calls(alloc, session, line, answer)? {
+            return self.answer_marked(alloc, session, Word::Nothing, patience, answer);
+        }
         if self.tells_of_c(alloc, session, line, answer)? {
             return self.answer_marked(alloc, session, Word::Nothing, patience, answer);
         }
         match self.read(session, line) {
-            Ok(word) => self.answer_marked(alloc, session, word, patience, answer),
+            Ok(word) => self.answer_displayed(alloc, session, word, patience, answer),
             Err(error) => {
                 writeln!(answer, "{error}")?;
                 show_nameless(session, &error, answer)?;
@@ -278,7 +306,68 @@ impl Debugger {
         }
     }
 
-    /// Writes what a line asks of variables or types of a program in C; `false` if it asks nothing of them that is known.
+    /// Obeys a line that asks of calls, or of what is shown again and again; `false` if it asks of neither.
+    fn tells_of_calls(
+        &mut self,
+        alloc: Global,
+        session: &Session,
+        line: &str,
+        answer: &mut String,
+    ) -> Result<bool, AllocError>
+        ensures plan { self.new.plan ≡ self.old.plan }
+    {
+        match frame_word_of(line) {
+            Ok(Some(word)) => {
+                self.obey_frame_word(alloc, session, word, answer)?;
+                Ok(true)
+            }
+            Ok(None) => Ok(false),
+            Err(error) => {
+                writeln!(answer, "{error}")?;
+                Ok(true)
+            }
+        }
+    }
+
+    /// Obeys a word that asks of calls, or of what is shown again and again.
+    fn obey_frame_word(
+        &mut self,
+        alloc: Global,
+        session: &Session,
+        word: FrameWord,
+        answer: &mut String,
+    ) -> Result<(), AllocError>
+        ensures chosen { OnOk result (Chooses self.old.sources word session.now self.old.chosen self.new.chosen) }
+        ensures plan { self.new.plan ≡ self.old.plan }
+    {
+        match word {
+            FrameWord::Choose(choice) => choose(
+                alloc,
+                session,
+                self.sources.as_ref(),
+                choice,
+                &mut self.chosen,
+                answer,
+            ),
+            FrameWord::Display(display) => self.see_to_displays(alloc, session, display, answer),
+            FrameWord::Help(topic) => show_frame_topic(topic, answer),
+        }
+    }
+
+    /// What is told of what a line asks of variables or types of a program in C, in the call at which words look.
+    fn told_in_call(
+        &self,
+        alloc: Global,
+        session: &Session,
+        line: &str,
+    ) -> Result<Option<ToldInCall>, AllocError>
+        ensures { IfOk result (λ told. IfSome told (λ t. IsLookedAt self.now.sources self.now.chosen session.now t.call)) }
+    {
+        told_of_c(alloc, session, self.sources.as_ref(), &self.chosen, line)
+    }
+
+    /// Writes what a line asks of variables or types of a program in C, or that no process lives of which it could be; `false`
+    /// if it asks nothing of them that is known.
     fn tells_of_c(
         &self,
         alloc: Global,
@@ -286,13 +375,17 @@ impl Debugger {
         line: &str,
         answer: &mut String,
     ) -> Result<bool, AllocError> {
-        match told_of_c(alloc, session, self.sources.as_ref(), line)? {
-            Some(told) => {
-                answer.push_str(told.as_str())?;
-                Ok(true)
+        if let Some(told) = self.told_in_call(alloc, session, line)? {
+            if let Some(text) = &told.text {
+                answer.push_str(text.as_str())?;
+                return Ok(true);
             }
-            None => Ok(false),
         }
+        if is_of_c_alone(line) {
+            self.show_focus(alloc, session, None, 0, answer)?;
+            return Ok(true);
+        }
+        Ok(false)
     }
 
     /// The word of a line.
@@ -322,8 +415,32 @@ impl Debugger {
         Word::ToMark(self.marks.marks())
     }
 
+    /// Does what a word of a line asks for, and writes its answer; if the run is at another place then, what is shown after
+    /// each word that moves it, too.
+    fn answer_displayed<P: Patience>(
+        &mut self,
+        alloc: Global,
+        session: &mut Session,
+        word: Word,
+        patience: &mut P,
+        answer: &mut String,
+    ) -> Result<Next, AllocError>
+        requires { IsInRange word }
+        ensures done { IfOk result (λ next. Obeys P.may_end self.old.plan session.old session.new next) }
+        ensures moved { IsLeft (length session.old.events) (length session.new.events) self.new.chosen }
+        ensures failed { IfErr result (λ _. (session.new ≡ session.old) ⊎ DoesSome P.may_end self.old.plan session.old session.new) }
+        ensures plan { self.new.plan ≡ self.old.plan }
+    {
+        let at = session.at();
+        let next = self.answer_marked(alloc, session, word, patience, answer)?;
+        if session.at() != at {
+            self.show_displays(alloc, session, answer)?;
+        }
+        Ok(next)
+    }
+
     /// Does what a word of a line asks for, and writes its answer. After it the marks for once that are met are
-    /// forgotten.
+    /// forgotten, and which call was chosen, if the run is at another place.
     fn answer_marked<P: Patience>(
         &mut self,
         alloc: Global,
@@ -334,12 +451,15 @@ impl Debugger {
     ) -> Result<Next, AllocError>
         requires { IsInRange word }
         ensures done { IfOk result (λ next. Obeys P.may_end self.old.plan session.old session.new next) }
+        ensures moved { IsLeft (length session.old.events) (length session.new.events) self.new.chosen }
         ensures failed { IfErr result (λ _. (session.new ≡ session.old) ⊎ DoesSome P.may_end self.old.plan session.old session.new) }
         ensures plan { self.new.plan ≡ self.old.plan }
     {
         let word = self.with_marks(word);
+        let at = session.at();
         let next = self.obey_word(alloc, session, &word, patience, answer);
         self.forget_met(session, &word);
+        self.chosen = self.chosen.left(at, session.at());
         next
     }
 
@@ -856,7 +976,7 @@ impl Debugger {
             Word::Value(value) => show_value(*value, answer),
             Word::Events { from } => show_events(session, *from, answer),
             Word::Trace { count } => show_trace(session, *count, answer),
-            Word::Help { topic } => show_help(*topic, answer),
+            Word::Help { topic } => show_all_help(*topic, answer),
             Word::Registers { pid } => show_registers_of(session, *pid, answer),
             Word::Descriptors { pid } => show_descriptors_of(session, *pid, answer),
             Word::Pages { from, pid } => show_pages_of(alloc, session, *pid, *from, answer),
@@ -883,6 +1003,107 @@ impl Debugger {
                     word,
                     answer,
                 )
+            }
+            _ => Ok(()),
+        }
+    }
+
+    /// Keeps a line that is shown after each word that moves the session, forgets some, or shows them, as the word asks.
+    fn see_to_displays(
+        &mut self,
+        alloc: Global,
+        session: &Session,
+        display: Display,
+        answer: &mut String,
+    ) -> Result<(), AllocError>
+        ensures kept { self.new.displays.kept.items ≡ displays_after display self.old.displays }
+        ensures chosen { self.new.chosen ≡ self.old.chosen }
+        ensures plan { self.new.plan ≡ self.old.plan }
+    {
+        match display {
+            Display::Show => self.show_displays(alloc, session, answer),
+            Display::Add(line) => {
+                let has_room = self.displays.add(line);
+                self.show_last_display(alloc, session, has_room, answer)
+            }
+            Display::Forget { number } => self.displays.delete(number, answer),
+            Display::List => show_kept(&self.displays, answer),
+        }
+    }
+
+    /// Writes what the line tells that was given last to be shown again and again, or that there was no room for it.
+    fn show_last_display(
+        &self,
+        alloc: Global,
+        session: &Session,
+        has_room: bool,
+        answer: &mut String,
+    ) -> Result<(), AllocError> {
+        if !has_room {
+            return answer.push_str("there are 20 displays, and no more: undisplay ends them\n");
+        }
+        match self.displays.as_slice().last() {
+            Some(displayed) => self.show_displayed(alloc, session, displayed, answer),
+            None => Ok(()),
+        }
+    }
+
+    /// Writes what the lines tell that are shown again and again.
+    fn show_displays(
+        &self,
+        alloc: Global,
+        session: &Session,
+        answer: &mut String,
+    ) -> Result<(), AllocError> {
+        for displayed in self.displays.as_slice() {
+            self.show_displayed(alloc, session, displayed, answer)?;
+        }
+        Ok(())
+    }
+
+    /// Writes what a line tells that is shown again and again, or why it tells nothing.
+    fn show_displayed(
+        &self,
+        alloc: Global,
+        session: &Session,
+        displayed: &Displayed,
+        answer: &mut String,
+    ) -> Result<(), AllocError> {
+        let number = displayed.number;
+        let line = displayed.line.as_str();
+        write!(answer, "{number}: ")?;
+        if self.tells_of_c(alloc, session, line, answer)? {
+            return Ok(());
+        }
+        match self.read(session, line) {
+            Ok(word) => self.show_read(alloc, session, line, &word, answer),
+            Err(error) => {
+                let kind = error.kind;
+                writeln!(answer, "{line}: {kind}")
+            }
+        }
+    }
+
+    /// Writes a line, and what its word tells of numbers or instructions.
+    fn show_read(
+        &self,
+        alloc: Global,
+        session: &Session,
+        line: &str,
+        word: &Word,
+        answer: &mut String,
+    ) -> Result<(), AllocError> {
+        writeln!(answer, "{line}")?;
+        match word {
+            Word::Value(value) => show_value(*value, answer),
+            Word::Numbers {
+                from,
+                count,
+                size,
+                pid,
+            } => show_numbers_of(session, *pid, *from, *size, *count, answer),
+            Word::Listing { from, count, pid } => {
+                self.show_listing_of(alloc, session, *pid, *from, *count, answer)
             }
             _ => Ok(()),
         }

@@ -10,8 +10,11 @@
 
 mod callers;
 mod calls;
+mod choosing;
 mod debugger;
+mod displays;
 mod focus;
+mod frame_words;
 mod happened;
 mod instruction;
 mod kept;

@@ -1,8 +1,10 @@
 //! What a line asks of a program in C: variables and types, by the compiler's tables (`c_expressions`).
-ghost use Rattle.std.specs.Prelude.{◌≡◌};
+ghost use Rattle.std.specs.Prelude.{◌≡◌, IfOk, IfSome, option_map};
 ghost use Rattle.kcall_core.specs.Observers.{byte_at};
+ghost use Rattle.xv_debug.specs.Chosen.{IsLookedAt, address_in, registers_in};
 ghost use Rattle.xv_debug.specs.Variables.{register_held};
 
+use crate::choosing::{Chosen, SeenCall, call_seen};
 use crate::focus::focus;
 use c_expressions::{Asked, Scene, answer};
 use debug_info::Sight;
@@ -10,77 +12,144 @@ use rv64i_core::Regs;
 use std::alloc::{AllocError, Global};
 use xk_base::{Pid, Reg};
 use xv_machine::Machine;
-use xv_report::{Sources, source_of};
+use xv_report::{ProgramSource, Sources, source_of};
 use xv_session::Session;
 
 /// The integer registers, x0 to x31.
 const REGISTERS: u64 = 32;
 
-/// What is seen of a process in the call that was made last.
+/// What is told of what is asked of a program in C, and in which call.
+#[derive(Drop)]
+pub(crate) struct ToldInCall {
+    /// The call; `None` if it isn't there.
+    pub call: Option<SeenCall>,
+    /// `None` if nothing is told, as of what is no variable.
+    pub text: Option<String>,
+}
+
+/// What is seen of a process in a call.
 #[derive(Clone, Copy)]
 struct ProcessSeen<'a> {
     machine: &'a Machine,
     pid: Pid,
+    /// The registers of the call that was made last.
     regs: Regs,
+    call: SeenCall,
+}
+
+/// What a register has, x0 to x31 by their numbers.
+fn register_held(regs: &Regs, number: u64) -> Option<u64>
+    ensures { result ≡ register_held regs.now number }
+{
+    if number < REGISTERS {
+        Some(regs.read(Reg::new(number as u8)))
+    } else {
+        None
+    }
+}
+
+/// Where a call stands.
+fn address_in(regs: &Regs, call: &SeenCall) -> u64
+    ensures { result ≡ address_in regs.now call.now }
+{
+    match call {
+        SeenCall::Last => regs.pc(),
+        SeenCall::Caller(call) => call.pc.saturating_sub(1),
+    }
 }
 
 impl<'a> Sight for ProcessSeen<'a> {
     ghost bytes = { λ s address. byte_at s.machine.now.world.state s.pid address };
 
-    ghost registers = { λ s number. register_held s.regs number };
+    ghost registers = { λ s number. registers_in s.regs s.call number };
 
     fn byte(&self, address: u64) -> Option<u8> {
         self.machine.peek(self.pid, address)
     }
 
     fn register(&self, number: u64) -> Option<u64> {
-        if number < REGISTERS {
-            Some(self.regs.read(Reg::new(number as u8)))
-        } else {
-            None
+        match self.call {
+            SeenCall::Last => register_held(&self.regs, number),
+            SeenCall::Caller(call) => call.register(number),
         }
     }
 }
 
-/// What is told of what is asked of the program in C that a process runs, in the call that it made last; `None` if that
-/// is of nothing that the compiler's tables tell.
-fn told_of(
+/// What is told in a call of a live process of what is asked.
+fn told_seen(
     alloc: Global,
     session: &Session,
-    sources: Option<&Sources>,
+    source: &ProgramSource<'_>,
     pid: Pid,
+    call: SeenCall,
     asked: Asked,
 ) -> Result<Option<String>, AllocError> {
     let Some(regs) = session.machine().registers(pid) else {
         return Ok(None);
     };
-    let source = source_of(sources, session, session.program_of(pid));
     let seen = ProcessSeen {
         machine: session.machine(),
         pid,
         regs,
+        call,
     };
     let scene = Scene {
         file: source.symbols,
-        address: regs.pc(),
+        address: address_in(&regs, &call),
         sight: &seen,
     };
     answer(alloc, &scene, asked)
 }
 
-/// What is told of what a line asks of the program in C that the process runs which words look at; `None` if it asks
-/// nothing of one, or of nothing that the compiler's tables tell.
+/// What is told in a call of a process of what is asked, with the call.
+fn told_in(
+    alloc: Global,
+    session: &Session,
+    source: &ProgramSource<'_>,
+    pid: Pid,
+    call: Option<SeenCall>,
+    asked: Asked,
+) -> Result<ToldInCall, AllocError>
+    ensures { IfOk result (λ told. told.call ≡ call) }
+{
+    let text = match call {
+        Some(seen) => told_seen(alloc, session, source, pid, seen, asked)?,
+        None => Some(String::from_str(alloc, "the call at which words look is not there\n")?),
+    };
+    Ok(ToldInCall { call, text })
+}
+
+/// What is told of what a line asks of the program in C that the process runs which words look at, in the call at which they
+/// look; `None` if it asks nothing of one, or there is no process.
 pub(crate) fn told_of_c(
     alloc: Global,
     session: &Session,
     sources: Option<&Sources>,
+    chosen: &Chosen,
     line: &str,
-) -> Result<Option<String>, AllocError> {
+) -> Result<Option<ToldInCall>, AllocError>
+    ensures { IfOk result (λ told. IfSome told (λ t. IsLookedAt (option_map (λ s. s.now) sources.entry) chosen.now session.now t.call)) }
+{
     let Some(asked) = Asked::of(line) else {
         return Ok(None);
     };
-    match focus(session, None) {
-        Some(pid) => told_of(alloc, session, sources, pid, asked),
-        None => Ok(None),
+    let Some(pid) = focus(session, None) else {
+        return Ok(None);
+    };
+    let source = source_of(sources, session, session.program_of(pid));
+    let number = chosen.number_of(pid, session.at());
+    let call = call_seen(alloc, session, &source, pid, number)?;
+    let told = told_in(alloc, session, &source, pid, call, asked)?;
+    Ok(Some(told))
+}
+
+/// Whether a line asks of a call, or of a type: of what no other word tells.
+pub(crate) fn is_of_c_alone(line: &str) -> bool {
+    let Some(asked) = Asked::of(line) else {
+        return false;
+    };
+    match asked {
+        Asked::Locals | Asked::Arguments | Asked::Type(_) | Asked::Layout(_) => true,
+        Asked::Value(_) | Asked::Hexadecimal(_) => false,
     }
 }

@@ -9,6 +9,7 @@ pub mod Hints
 pub mod Jumps
 pub mod Callers
 pub mod Unwound
+pub mod Numbered
 pub mod Reports
 pub mod Lines
 pub mod Locations

@@ -1,7 +1,7 @@
 //! What holds of the names of a program, and of its calls.
 //!
 //! The functions here take and give nothing: each stands for a claim about the definitions that the contracts cite.
-ghost use Rattle.xv_report.specs.CallLaws.{IsGuess};
+ghost use Rattle.xv_report.specs.CallLaws.{IsGuess, IsListed};
 ghost use Rattle.xv_report.specs.NameLaws.{HasAddress, IsCounted};
 
 /// The names of a program are those that have an address: what is told as a name can be read as one.
@@ -17,4 +17,10 @@ pub fn names_have_addresses()
 pub fn calls_without_a_table()
     // They are said to be a guess, by frame pointers and ra alone.
     ensures is_guess { IsGuess }
+{}
+
+/// The call of a number is the one that stands at its place among those that [`calls_of`](crate::calls_of) tells.
+pub fn calls_by_numbers()
+    // Call N goes on at the address to which the call at place N - 1 returns.
+    ensures is_listed { IsListed }
 {}

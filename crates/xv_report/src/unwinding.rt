@@ -50,7 +50,7 @@ pub enum Calls {
 }
 
 /// The last function that was called in a process with these registers.
-fn innermost(regs: &Regs) -> Activation
+pub(crate) fn innermost(regs: &Regs) -> Activation
     ensures { result ≡ meant.innermost regs.now }
 {
     Activation {
@@ -63,7 +63,7 @@ fn innermost(regs: &Regs) -> Activation
 }
 
 /// What a function has in a register, by its DWARF number (RISC-V ABIs, "DWARF Register Numbers"), if it is known.
-fn register_of(function: &Activation, register: u64) -> Option<u64>
+pub(crate) fn register_of(function: &Activation, register: u64) -> Option<u64>
     ensures { result ≡ meant.register_of function.now register }
 {
     if register == u64::from(RETURN_ADDRESS) {
@@ -130,7 +130,7 @@ fn is_above(function: &Activation, cfa: u64) -> bool
 
 /// The caller of a function, by the rules that hold at its instruction; `None` where they don't tell it, where the memory
 /// isn't there, and where no call stands before the return address.
-fn caller_by(
+pub(crate) fn caller_by(
     machine: &Machine,
     pid: Pid,
     function: &Activation,
@@ -182,7 +182,7 @@ fn unwind(
 
 /// The frames of all functions of a program, by the bytes of an ELF file that has its tables for debuggers; none if it has
 /// none. Which they are doesn't depend on the machine.
-fn frames_known(alloc: Global, file: &[u8]) -> Result<Vec<FrameTable>, AllocError>
+pub(crate) fn frames_known(alloc: Global, file: &[u8]) -> Result<Vec<FrameTable>, AllocError>
     ensures { IfOk result (λ v. map frames_seen v.items ≡ frames_known file.now) }
 {
     match section_named(file, b".debug_frame") {
@@ -206,7 +206,7 @@ fn frameless() -> FrameRules
 }
 
 /// The caller in ra of a function that is taken to have made no frame, if a table has rules for that call.
-fn caller_in_ra(
+pub(crate) fn caller_in_ra(
     machine: &Machine,
     pid: Pid,
     tables: &[FrameTable],
