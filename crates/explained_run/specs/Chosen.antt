@@ -8,6 +8,10 @@ use Rattle.kernel_spec.specs.steps.Own.{Answer, Stepped, Called, Blocked, Exited
 use Rattle.explained_run.specs.declared.choice.Choice.{Choice}
 use Rattle.explained_run.specs.Seen.{Before}
 
+-- no line
+abbrev pub no_line : Choice
+no_line = record { lines = false; pid = None; call = None; failed = false; numbers = false }
+
 -- this process, or any if none is asked for
 abbrev pub is_process : Option ℕ → (p : ℕ) → Bool
 is_process None p = true

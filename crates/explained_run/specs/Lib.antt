@@ -1,3 +1,4 @@
+pub mod Asked
 pub mod Booted
 pub mod Chosen
 pub mod Counts

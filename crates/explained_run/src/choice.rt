@@ -7,6 +7,7 @@ ghost use Rattle.explained_run.specs.Seen.{seen_of};
 use crate::seen::Seen;
 use kernel_calls::KernelCall;
 use kernel_calls::numbers::EXIT;
+use std::marker::Brand;
 use xk_base::Pid;
 use xv_machine::Outcome;
 
@@ -23,6 +24,19 @@ pub struct Choice {
     pub failed: bool,
     /// Each begins with the number of events before its own.
     pub numbers: bool,
+}
+
+/// Stands for what a run was asked for. So the type of who plays it says which lines these are.
+pub(crate) trait Asks {
+    ghost use Rattle.explained_run.specs.declared.choice.Choice.{Choice};
+
+    ghost asked: { Choice };
+}
+
+impl Asks for Brand {
+    ghost use Rattle.explained_run.specs.Chosen.{no_line};
+
+    ghost asked = { no_line };
 }
 
 impl Choice {

@@ -8,7 +8,7 @@ use crate::line::Settings;
 use program_files::{
     CommandLine, CommandWord, FRAMES, NumberOption, QUANTUM, ROUNDS, TRACE, WordsError, given_words,
 };
-use recorded_runs::{AT_WORD, REPLAY_WORD, replay_words};
+use recorded_runs::{AT_WORD, REPLAY_WORD, TOLD_BY_RECORD, replay_words};
 use run_work::BUDGET;
 use std::rt::Env;
 use xk_base::Pid;
@@ -34,9 +34,6 @@ const NUMBERS: &str = "numbers";
 
 /// The word that asks for a table.
 const COUNT: &str = "count";
-
-/// The options that a record tells itself.
-const TOLD_BY_RECORD: [&NumberOption; 3] = [&FRAMES, &ROUNDS, &QUANTUM];
 
 /// What stands below the list of options in the text of `--help`.
 const MORE_HELP: &str = "\
@@ -111,7 +108,7 @@ fn chosen_pid(number: u32) -> Option<Pid>
 ///
 /// Those of [`given_words`]: if a word is neither an option nor a FILE, if a number isn't in its range, if no FILE is
 /// given, if a word isn't text, if help is asked for, or if the host has too little memory.
-pub fn settings<R: Env + AllocGlobal>(rt: &R) -> Result<Settings, WordsError>
+pub(crate) fn settings<R: Env + AllocGlobal>(rt: &R) -> Result<Settings, WordsError>
     ensures { IfOk result (λ s. AreInRange s) }
 {
     let given = given_words(rt, &COMMAND_LINE)?;

@@ -65,6 +65,7 @@ impl Explained {
         choice: Choice,
     ) -> Result<Explained, BootError>
         ensures boots { Boots config.frames (machine_of result) (first config.frames config.trace (map named_file programs.items)) }
+        ensures choice { IfOk result (λ explained. explained.choice ≡ choice) }
         ensures text { IfOk result (λ explained. string_bytes explained.text ≡ []) }
     {
         match Machine::boot(alloc, config, programs) {
@@ -86,6 +87,7 @@ impl Explained {
         requires current { self.old.running.machine.world.turns.current ≡ Some pid }
         requires sound { IsSoundMachine self.old.running.machine }
         ensures advances { Advances self.old.running runs.Run (outcome_of result) self.new.running }
+        ensures choice { self.new.choice ≡ self.old.choice }
         ensures text { self.new.complete ≡ true → (self.old.complete ≡ true) × StartsWith (string_bytes self.new.text) (string_bytes self.old.text) }
     {
         let place = self.running.names.place(pid);
@@ -112,6 +114,7 @@ impl Explained {
         ensures ran { Ran most result.sent self.old.running.machine self.new.running.machine }
         ensures within { result.sent ≤ most }
         ensures some { 0 < most → 0 < result.sent }
+        ensures choice { self.new.choice ≡ self.old.choice }
         ensures text { self.new.complete ≡ true → (self.old.complete ≡ true) × StartsWith (string_bytes self.new.text) (string_bytes self.old.text) }
     {
         let Some(pid) = self.running.machine.current() else {
@@ -140,6 +143,7 @@ impl Explained {
     pub fn send(&mut self, event: Event) -> Outcome
         requires { is_run (event_of event) ≡ false }
         ensures event { IsEvent self.old.running.machine (event_of event) (outcome_of result) self.new.running.machine }
+        ensures choice { self.new.choice ≡ self.old.choice }
         ensures text { string_bytes self.new.text ≡ string_bytes self.old.text }
         ensures complete { self.new.complete ≡ self.old.complete }
     {

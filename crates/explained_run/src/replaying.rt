@@ -1,26 +1,32 @@
 //! A record that is told: from its file to the closing line.
-ghost use Rattle.std.specs.Prelude.{◌≡◌, ◌≢◌, [], true, IfOk, OnErr, map};
+ghost use Rattle.std.specs.Prelude.{◌≡◌, ◌≢◌, [], true, IfErr, IfOk, OnErr, map};
 ghost use Rattle.kernel_spec.specs.views.State.{named_file};
+ghost use Rattle.program_files.specs.Failures.{failure_status};
 ghost use Rattle.xv_record.specs.Told.{program_told, told_program};
 ghost use Rattle.run_work.specs.Runs.{IsRunStatus};
 ghost use Rattle.recorded_runs.specs.Cuts.{events_in};
-ghost use Rattle.recorded_runs.specs.Replays.{SaysReplay, TellsReplay, status_of};
+ghost use Rattle.recorded_runs.specs.Replays.{status_of};
+ghost use Rattle.xv_machine.specs.Meaning.{Meaning};
+ghost use Rattle.recorded_runs.specs.Statuses.{IsStatusOfReplay};
 ghost use Rattle.explained_run.specs.Handed.{Holds};
-ghost use Rattle.explained_run.specs.Handing.{HandsOn};
+ghost use Rattle.explained_run.specs.Handing.{ReplayTold, SaysReplayTold};
 
 use crate::NAME;
-use crate::choice::Choice;
+use crate::choice::{Asks, Choice};
 use crate::explained::Explained;
 use crate::line::Settings;
 use crate::lines::{Lines, Written};
 use crate::running::Ended;
 use crate::table::write_counts;
 use crate::watching::{Stop, Watched};
-use program_files::{Failure, programs, show_trace};
-use recorded_runs::{RecordEnd, Replay, close_record, play_record, record_of, recorded_programs};
+use program_files::{Failure, show_trace};
+use recorded_runs::{
+    RecordEnd, Replay, close_record, given_programs, play_record, record_of, recorded_programs,
+};
 use run_work::{Work, budget_of, close_over_budget};
 use std::alloc::Global;
 use std::io::Write;
+use std::marker::Brand;
 use xk_base::Program;
 use xv_machine::{ByteSink, Config, Counted, DeviceFault};
 use xv_record::Record;
@@ -49,16 +55,16 @@ fn close_played<E: Write>(
 }
 
 // Lets a machine that has booted play a record, and tells its calls. What is told at the end goes to `errors`.
-fn watch_record<W: ByteSink, L: Lines + Drop, E: Write>(
-    mut watched: Watched<L>,
+fn watch_record<W: ByteSink, L: Lines + Drop, E: Write, K: Asks>(
+    mut watched: Watched<L, K>,
     kept: &Record,
     sink: &mut W,
     errors: &mut E,
 ) -> Ended<L>
-    ensures ended { result.status ≢ 2 → TellsReplay result.status (events_in kept.now) watched.explained.running.machine
+    ensures { result.status ≢ 2 → (ended : Meaning) × ReplayTold K.asked result.status (events_in kept.now) watched.explained.running.machine ended
         (record { sink = W.sink sink.old; failed_writes = W.failures sink.old })
-        (record { sink = W.sink sink.new; failed_writes = W.failures sink.new }) }
-    ensures told { result.status ≢ 2 → HandsOn (L.handed result.lines) }
+        (record { sink = W.sink sink.new; failed_writes = W.failures sink.new })
+        (L.handed result.lines) }
 {
     let played = play_record(&mut watched, kept.events.as_slice(), sink);
     let status = close_played(&watched.explained, &watched.work, played, errors);
@@ -81,14 +87,39 @@ pub(crate) fn replay_with<W: ByteSink, L: Lines + Drop, E: Write + Drop>(
     choice: Choice,
     sink: &mut W,
     lines: L,
+    errors: E,
+) -> Ended<L>
+    requires fresh { Holds (L.handed lines) [] }
+    requires recorded { map program_told programs.items ≡ map told_program kept.now.programs.items }
+    ensures { SaysReplayTold choice result.status kept.now.frames trace (map named_file programs.items) (events_in kept.now)
+        (record { sink = W.sink sink.old; failed_writes = W.failures sink.old })
+        (record { sink = W.sink sink.new; failed_writes = W.failures sink.new })
+        (L.handed result.lines) }
+{
+    replay_as::<W, L, E, Brand>(
+        alloc, trace, work, programs, kept, choice, sink, lines, errors,
+    )
+}
+
+// The same, of what the type K stands for.
+fn replay_as<W: ByteSink, L: Lines + Drop, E: Write + Drop, K: Asks>(
+    alloc: Global,
+    trace: u32,
+    work: Work,
+    programs: Vec<Program>,
+    kept: &Record,
+    choice: Choice,
+    sink: &mut W,
+    lines: L,
     mut errors: E,
 ) -> Ended<L>
     requires fresh { Holds (L.handed lines) [] }
     requires recorded { map program_told programs.items ≡ map told_program kept.now.programs.items }
-    ensures says { SaysReplay result.status kept.now.frames trace (map named_file programs.items) (events_in kept.now)
+    requires asked { choice ≡ K.asked }
+    ensures { SaysReplayTold K.asked result.status kept.now.frames trace (map named_file programs.items) (events_in kept.now)
         (record { sink = W.sink sink.old; failed_writes = W.failures sink.old })
-        (record { sink = W.sink sink.new; failed_writes = W.failures sink.new }) }
-    ensures told { result.status ≢ 2 → HandsOn (L.handed result.lines) }
+        (record { sink = W.sink sink.new; failed_writes = W.failures sink.new })
+        (L.handed result.lines) }
 {
     let config = Config {
         frames: kept.frames,
@@ -96,7 +127,7 @@ pub(crate) fn replay_with<W: ByteSink, L: Lines + Drop, E: Write + Drop>(
     };
     match Explained::boot(alloc, config, programs, choice) {
         Ok(explained) => {
-            let watched = Watched::new(explained, lines, work);
+            let watched = Watched::<L, K>::new(explained, lines, work);
             watch_record(watched, kept, sink, &mut errors)
         }
         Err(error) => Ended {
@@ -113,9 +144,11 @@ fn replay<'a>(
     choice: Choice,
     asked: Replay<'a>,
 ) -> Result<u8, Failure<'a>>
-    ensures { IfOk result (λ status. IsRunStatus status) }
+    ensures status { IfOk result (λ status. IsRunStatus status) }
+    ensures says { IfOk result (λ status. IsStatusOfReplay status settings.now.trace asked.entry settings.now.files.items) }
+    ensures refused { IfErr result (λ e. failure_status e ≡ 2) }
 {
-    let made = programs(rt, settings.files.as_slice())?;
+    let made = given_programs(rt, settings.files.as_slice())?;
     let record = record_of(rt, NAME, &asked)?;
     let chosen = recorded_programs(rt.alloc(), made.programs.as_slice(), &record)?;
     let mut sink = Counted::new(rt.stdout());
@@ -140,7 +173,8 @@ pub(crate) fn replay_chosen<'a>(
     choice: Choice,
     asked: Replay<'a>,
 ) -> u8
-    ensures { IsRunStatus result }
+    ensures status { IsRunStatus result }
+    ensures says { IsStatusOfReplay result settings.now.trace asked.entry settings.now.files.items }
 {
     match replay(rt, settings, choice, asked) {
         Ok(status) => status,

@@ -1,13 +1,16 @@
 //! A run: from the words of the command line to the closing line.
-ghost use Rattle.std.specs.Prelude.{◌≡◌, ◌≢◌, [], true, IfOk, OnErr, map};
+ghost use Rattle.std.specs.Prelude.{◌≡◌, ◌≢◌, [], true, IfErr, IfOk, OnErr, map};
 ghost use Rattle.kernel_spec.specs.views.State.{named_file};
+ghost use Rattle.program_files.specs.Failures.{failure_status};
 ghost use Rattle.program_files.specs.Statuses.{status_of};
-ghost use Rattle.run_work.specs.Runs.{EndsSo, IsRunStatus, Says};
+ghost use Rattle.run_work.specs.Runs.{IsRunStatus, IsStatusOfRun};
+ghost use Rattle.xv_machine.specs.Meaning.{Meaning};
+ghost use Rattle.explained_run.specs.Asked.{IsCallAsked, IsChoiceOf, IsNoCall, IsStatusOf, IsStatusOfWords, config_of, plan_of};
 ghost use Rattle.explained_run.specs.Handed.{Holds};
-ghost use Rattle.explained_run.specs.Handing.{HandsOn};
+ghost use Rattle.explained_run.specs.Handing.{RunTold, SaysTold};
 
 use crate::NAME;
-use crate::choice::Choice;
+use crate::choice::{Asks, Choice};
 use crate::command_line::settings;
 use crate::explained::Explained;
 use crate::line::Settings;
@@ -17,10 +20,12 @@ use crate::table::write_counts;
 use crate::watching::{Stop, Watched};
 use kernel_calls::{CALLS, KernelCall};
 use program_files::exit_statuses::WORDS_REFUSED;
-use program_files::{Failure, close_run, programs, show_trace};
+use program_files::{Failure, close_run, show_trace};
+use recorded_runs::given_programs;
 use run_work::{Work, budget_of, close_over_budget};
 use std::alloc::Global;
 use std::io::Write;
+use std::marker::Brand;
 use std::rt::Env;
 use xk_base::Program;
 use xv_machine::{
@@ -61,17 +66,17 @@ fn close<E: Write>(
 
 // Lets a machine that has booted play rounds by the plan, and tells its calls. What is told at the end goes to
 // `errors`.
-fn watch_to_end<R: KeySource, W: ByteSink, L: Lines + Drop, E: Write>(
-    mut watched: Watched<L>,
+fn watch_to_end<R: KeySource, W: ByteSink, L: Lines + Drop, E: Write, K: Asks>(
+    mut watched: Watched<L, K>,
     plan: RunPlan,
     keys: &mut R,
     sink: &mut W,
     errors: &mut E,
 ) -> Ended<L>
-    ensures ended { result.status ≢ 2 → EndsSo result.status plan watched.explained.running.machine
+    ensures { result.status ≢ 2 → (ended : Meaning) × RunTold K.asked result.status plan watched.explained.running.machine ended
         (record { source = R.source keys.old; failed_reads = R.failures keys.old; sink = W.sink sink.old; failed_writes = W.failures sink.old })
-        (record { source = R.source keys.new; failed_reads = R.failures keys.new; sink = W.sink sink.new; failed_writes = W.failures sink.new }) }
-    ensures told { result.status ≢ 2 → HandsOn (L.handed result.lines) }
+        (record { source = R.source keys.new; failed_reads = R.failures keys.new; sink = W.sink sink.new; failed_writes = W.failures sink.new })
+        (L.handed result.lines) }
 {
     let played = play_rounds(&mut watched, plan, keys, sink);
     let status = close(&watched.explained, &watched.work, played, errors);
@@ -96,17 +101,42 @@ pub(crate) fn run_with<R: KeySource, W: ByteSink, L: Lines + Drop, E: Write + Dr
     keys: &mut R,
     sink: &mut W,
     lines: L,
-    mut errors: E,
+    errors: E,
 ) -> Ended<L>
     requires { Holds (L.handed lines) [] }
-    ensures says { Says result.status config plan (map named_file programs.items)
+    ensures { SaysTold choice result.status config plan (map named_file programs.items)
         (record { source = R.source keys.old; failed_reads = R.failures keys.old; sink = W.sink sink.old; failed_writes = W.failures sink.old })
-        (record { source = R.source keys.new; failed_reads = R.failures keys.new; sink = W.sink sink.new; failed_writes = W.failures sink.new }) }
-    ensures told { result.status ≢ 2 → HandsOn (L.handed result.lines) }
+        (record { source = R.source keys.new; failed_reads = R.failures keys.new; sink = W.sink sink.new; failed_writes = W.failures sink.new })
+        (L.handed result.lines) }
+{
+    run_as::<R, W, L, E, Brand>(
+        alloc, config, plan, work, programs, choice, keys, sink, lines, errors,
+    )
+}
+
+// The same, of what the type K stands for.
+fn run_as<R: KeySource, W: ByteSink, L: Lines + Drop, E: Write + Drop, K: Asks>(
+    alloc: Global,
+    config: Config,
+    plan: RunPlan,
+    work: Work,
+    programs: Vec<Program>,
+    choice: Choice,
+    keys: &mut R,
+    sink: &mut W,
+    lines: L,
+    mut errors: E,
+) -> Ended<L>
+    requires fresh { Holds (L.handed lines) [] }
+    requires asked { choice ≡ K.asked }
+    ensures { SaysTold K.asked result.status config plan (map named_file programs.items)
+        (record { source = R.source keys.old; failed_reads = R.failures keys.old; sink = W.sink sink.old; failed_writes = W.failures sink.old })
+        (record { source = R.source keys.new; failed_reads = R.failures keys.new; sink = W.sink sink.new; failed_writes = W.failures sink.new })
+        (L.handed result.lines) }
 {
     match Explained::boot(alloc, config, programs, choice) {
         Ok(explained) => {
-            let watched = Watched::new(explained, lines, work);
+            let watched = Watched::<L, K>::new(explained, lines, work);
             watch_to_end(watched, plan, keys, sink, &mut errors)
         }
         Err(error) => Ended {
@@ -116,18 +146,27 @@ pub(crate) fn run_with<R: KeySource, W: ByteSink, L: Lines + Drop, E: Write + Dr
     }
 }
 
-// Which lines the settings ask for; if no call has the name that they have, that name.
-fn choice_of(settings: &Settings) -> Result<Choice, &str> {
-    let call = match &settings.call {
-        None => None,
-        Some(name) => {
-            let name = name.as_str();
-            let Some(call) = KernelCall::of_name(name) else {
-                return Err(name);
-            };
-            Some(call)
-        }
+// The call of the name that is given, if one is; if no call has it, the name.
+fn call_of(given: &Option<String>) -> Result<Option<KernelCall>, &str>
+    ensures call { IfOk result (IsCallAsked given.now) }
+    ensures refused { IfErr result (λ name. IsNoCall given.now name.now) }
+{
+    let Some(name) = given else {
+        return Ok(None);
     };
+    let name = name.as_str();
+    match KernelCall::of_name(name) {
+        Some(call) => Ok(Some(call)),
+        None => Err(name),
+    }
+}
+
+// Which lines the settings ask for; if no call has the name that they have, that name.
+fn choice_of(settings: &Settings) -> Result<Choice, &str>
+    ensures choice { IfOk result (IsChoiceOf settings.now) }
+    ensures refused { IfErr result (λ name. IsNoCall settings.now.call name.now) }
+{
+    let call = call_of(&settings.call)?;
     Ok(Choice {
         lines: !settings.count,
         pid: settings.pid,
@@ -152,9 +191,11 @@ fn refuse_call<E: Write>(name: &str, errors: &mut E) -> u8
 
 // Runs the programs that the settings name, and gives the exit status.
 fn run<'a>(rt: &HostRuntime, settings: &'a Settings, choice: Choice) -> Result<u8, Failure<'a>>
-    ensures { IfOk result (λ status. IsRunStatus status) }
+    ensures status { IfOk result (λ status. IsRunStatus status) }
+    ensures says { IfOk result (λ status. IsStatusOfRun status (config_of settings.now) (plan_of settings.now) settings.now.files.items) }
+    ensures refused { IfErr result (λ e. failure_status e ≡ 2) }
 {
-    let made = programs(rt, settings.files.as_slice())?;
+    let made = given_programs(rt, settings.files.as_slice())?;
     let config = Config {
         frames: settings.frames,
         trace: settings.trace,
@@ -182,7 +223,8 @@ fn run<'a>(rt: &HostRuntime, settings: &'a Settings, choice: Choice) -> Result<u
 
 // Runs the programs that the settings name, and gives the exit status, also if they can't be had.
 fn run_chosen(rt: &HostRuntime, settings: &Settings, choice: Choice) -> u8
-    ensures { IsRunStatus result }
+    ensures status { IsRunStatus result }
+    ensures says { IsStatusOfRun result (config_of settings.now) (plan_of settings.now) settings.now.files.items }
 {
     match run(rt, settings, choice) {
         Ok(status) => status,
@@ -192,7 +234,8 @@ fn run_chosen(rt: &HostRuntime, settings: &Settings, choice: Choice) -> u8
 
 // Tells the run of the settings, or the record that they name, and gives the exit status.
 fn tell_asked(rt: &HostRuntime, settings: &Settings, choice: Choice) -> u8
-    ensures { IsRunStatus result }
+    ensures status { IsRunStatus result }
+    ensures asked { IsStatusOf settings.now result }
 {
     match settings.replay.replay() {
         Ok(Some(asked)) => replay_chosen(rt, settings, choice, asked),
@@ -203,7 +246,8 @@ fn tell_asked(rt: &HostRuntime, settings: &Settings, choice: Choice) -> u8
 
 /// Runs the programs that the words of a command line name, tells their calls as they come, and gives the exit status.
 pub fn explain_by_words<W: Env + AllocGlobal>(rt: &HostRuntime, words: &W) -> u8
-    ensures { IsRunStatus result }
+    ensures status { IsRunStatus result }
+    ensures asked { IsStatusOfWords result }
 {
     match settings(words) {
         Ok(settings) => match choice_of(&settings) {

@@ -4,18 +4,22 @@ ghost use Rattle.xv_machine.specs.Events.{outcome_of};
 ghost use Rattle.explained_run.specs.Handed.{Holds};
 ghost use Rattle.explained_run.specs.Sent.{byte_sent};
 
+use crate::choice::Asks;
 use crate::explained::Explained;
 use crate::lines::Lines;
 use run_work::{Before, Work};
+use std::marker::PhantomData;
 use xv_machine::{Event, Outcome, RoundPlayer, Sends};
 
-/// A machine that is told of, and where the lines go. If there was memory for all lines, just these were handed on.
+/// A machine that is told of, and where the lines go. These are the lines that are asked for. If there was memory for all of
+/// them, just these were handed on.
 #[derive(Drop)]
-pub(crate) struct Watched<L: Lines> {
+pub(crate) struct Watched<L: Lines, K: Asks> {
     pub explained: Explained,
     pub lines: L,
     pub work: Work,
-    ghost handed: { ∥ (explained.complete ≡ true → Holds (L.handed lines) (string_bytes explained.text)) ∥₁ },
+    pub asked: PhantomData<K>,
+    ghost handed: { ∥ (explained.choice ≡ K.asked) × (explained.complete ≡ true → Holds (L.handed lines) (string_bytes explained.text)) ∥₁ },
 }
 
 /// That a run is broken off: its budget is used up.
@@ -39,9 +43,10 @@ fn rest_from(text: &[u8], place: usize) -> &[u8]
     text.get(place..).unwrap_or(b"")
 }
 
-impl<L: Lines> Watched<L> {
+impl<L: Lines, K: Asks> Watched<L, K> {
     /// A machine that was just booted, of which nothing is told yet.
-    pub fn new(explained: Explained, lines: L, work: Work) -> Watched<L>
+    pub fn new(explained: Explained, lines: L, work: Work) -> Watched<L, K>
+        requires asked { explained.choice ≡ K.asked }
         requires text { string_bytes explained.text ≡ [] }
         requires fresh { Holds (L.handed lines) [] }
         ensures explained { result.explained ≡ explained }
@@ -51,12 +56,13 @@ impl<L: Lines> Watched<L> {
             explained,
             lines,
             work,
+            asked: PhantomData,
         }
     }
 }
 
 /// A [`Stop`] before Runs, if the budget is used up: then nothing is sent.
-impl<L: Lines> RoundPlayer for Watched<L> {
+impl<L: Lines, K: Asks> RoundPlayer for Watched<L, K> {
     type Refusal = Stop;
 
     ghost machine = { λ w. w.explained.running.machine };

@@ -14,9 +14,9 @@ use Rattle.recorded_runs.specs.declared.ending.RecordEnd.TheVariants.{Halted, Ov
 
 module _ (events : List Event) (booted ended : Meaning) (before after : Screen) where
   halted : (status : ℤ) → Played events booted ended before.sink after.sink → ended.world.turns.halted ≡ Some status
-      → TellsReplay (exit_status status) events booted before after
+      → TellsReplay (exit_status status) events booted ended before after
   halted (pos zero) played is = record {
-    exited = λ _. (ended, played, is);
+    exited = λ _. (played, is);
     exited_otherwise = λ e. absurd (omega arith);
     record_over = λ e. absurd (omega arith);
     unwritten = λ e. absurd (omega arith);
@@ -25,7 +25,7 @@ module _ (events : List Event) (booted ended : Meaning) (before after : Screen) 
   }
   halted (pos (suc n)) played is = record {
     exited = λ e. absurd (omega arith);
-    exited_otherwise = λ _. (pos (suc n), (λ e. search rules), (ended, played, is));
+    exited_otherwise = λ _. (pos (suc n), (λ e. search rules), (played, is));
     record_over = λ e. absurd (omega arith);
     unwritten = λ e. absurd (omega arith);
     over_budget = λ e. absurd (omega arith);
@@ -33,24 +33,24 @@ module _ (events : List Event) (booted ended : Meaning) (before after : Screen) 
   }
   halted (negsuc n) played is = record {
     exited = λ e. absurd (omega arith);
-    exited_otherwise = λ _. (negsuc n, (λ e. search rules), (ended, played, is));
+    exited_otherwise = λ _. (negsuc n, (λ e. search rules), (played, is));
     record_over = λ e. absurd (omega arith);
     unwritten = λ e. absurd (omega arith);
     over_budget = λ e. absurd (omega arith);
     no_other = inr (inl refl);
   }
 
-  over : Played events booted ended before.sink after.sink → ended.world.turns.halted ≡ None → TellsReplay 4 events booted before after
+  over : Played events booted ended before.sink after.sink → ended.world.turns.halted ≡ None → TellsReplay 4 events booted ended before after
   over played is = record {
     exited = λ e. absurd (omega arith);
     exited_otherwise = λ e. absurd (omega arith);
-    record_over = λ _. (ended, played, is);
+    record_over = λ _. (played, is);
     unwritten = λ e. absurd (omega arith);
     over_budget = λ e. absurd (omega arith);
     no_other = inr (inr (inl refl));
   }
 
-  unwritten : Unwritten events booted before after → TellsReplay 5 events booted before after
+  unwritten : Unwritten events booted ended before after → TellsReplay 5 events booted ended before after
   unwritten broke = record {
     exited = λ e. absurd (omega arith);
     exited_otherwise = λ e. absurd (omega arith);
@@ -66,19 +66,19 @@ module _ (events : List Event) (booted ended : Meaning) (before after : Screen) 
       → IfOk end (λ e. IsEndOf e ended)
       → OnErr end (BrokeOff events booted ended before.sink after.sink)
       → CountsFailure end before.failed_writes after.failed_writes
-      → TellsReplay (status_of end) events booted before after
+      → TellsReplay (status_of end) events booted ended before after
   tells-end (Ok (Halted status)) played is broke failures = halted status played is
   tells-end (Ok Over) played is broke failures = over played is
-  tells-end (Err fault) played is broke failures = unwritten (ended, broke, failures)
+  tells-end (Err fault) played is broke failures = unwritten (broke, failures)
 
   -- and of one that was broken off
-  pub tells-stopped : PlayedFirst events booted ended before.sink after.sink → after.failed_writes ≡ before.failed_writes → TellsReplay 6 events booted before after
+  pub tells-stopped : PlayedFirst events booted ended before.sink after.sink → after.failed_writes ≡ before.failed_writes → TellsReplay 6 events booted ended before after
   tells-stopped first failures = record {
     exited = λ e. absurd (omega arith);
     exited_otherwise = λ e. absurd (omega arith);
     record_over = λ e. absurd (omega arith);
     unwritten = λ e. absurd (omega arith);
-    over_budget = λ _. (ended, first, failures);
+    over_budget = λ _. (first, failures);
     no_other = inr (inr (inr (inr refl)));
   }
 
@@ -97,6 +97,6 @@ pub says-most : (status frames trace : ℕ) (programs : List ProgramFile) (event
 says-most status frames trace programs events before after says = elim (cases_lt status 7) [
   | inl less ↦ omega (arith, less)
   | inr more ↦
-      let (booted, first, tells) = says (λ two. omega (arith, more, two)) in
+      let (booted, ended, first, tells) = says (λ two. omega (arith, more, two)) in
       absurd (not-above status (omega (arith, more)) tells.no_other)
 ]

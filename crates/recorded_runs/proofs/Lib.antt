@@ -1,7 +1,9 @@
+pub mod Asked
 pub mod Cut
 pub mod Ends
 pub mod Lines
 pub mod Often
 pub mod WorkedAsked
 pub mod WorkedCuts
+pub mod WorkedStatuses
 pub mod WorkedTaken

@@ -1,7 +1,7 @@
--- Worked cases of the number of events that a text writes.
-use Rattle.std.proofs.Common.{◌≡◌, None, Some, arith, refl, rules}
+-- Worked cases of the number of events that a text writes, and of options among words.
+use Rattle.std.proofs.Common.{◌≡◌, None, Some, arith, false, refl, rules, true}
 use Rattle.std.specs.Prelude.{codes}
-use Rattle.recorded_runs.specs.Asked.{IsNumber, IsWritten}
+use Rattle.recorded_runs.specs.Asked.{IsNumber, IsWritten, is_end, is_option}
 
 pub seven : IsWritten (Some (codes "7")) (Some 7)
 seven = (((omega arith, (omega arith, tt)), omega arith), refl)
@@ -40,3 +40,30 @@ none_is_none = tt
 
 pub none_is_not_zero : IsWritten None (Some 0) → ⊥
 none_is_not_zero w = w
+
+-- an option is its name behind two dashes, alone, or with a value, which may be nothing
+pub an_option_alone : is_option (codes "--rounds") (codes "rounds") ≡ true
+an_option_alone = refl
+
+pub an_option_with_a_value : is_option (codes "--rounds=5") (codes "rounds") ≡ true
+an_option_with_a_value = refl
+
+pub an_option_with_an_empty_value : is_option (codes "--rounds=") (codes "rounds") ≡ true
+an_option_with_an_empty_value = refl
+
+-- no word is an option without the dashes, with less of the name, or with more
+pub a_file_is_none : is_option (codes "rounds=5") (codes "rounds") ≡ false
+a_file_is_none = refl
+
+pub less_of_the_name_is_none : is_option (codes "--round=5") (codes "rounds") ≡ false
+less_of_the_name_is_none = refl
+
+pub more_of_the_name_is_none : is_option (codes "--rounds5") (codes "rounds") ≡ false
+more_of_the_name_is_none = refl
+
+-- two dashes alone end the options
+pub two_dashes_end_them : is_end (codes "--") ≡ true
+two_dashes_end_them = refl
+
+pub an_option_ends_none : is_end (codes "--at") ≡ false
+an_option_ends_none = refl

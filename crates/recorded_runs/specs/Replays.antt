@@ -33,27 +33,27 @@ pub record Screen : Type 0 where
   pub failed_writes : ℕ
 
 -- the machine got just these events, in order, what they show was written, and process 1 has gone with this status, or is live
-abbrev pub Replayed : List Event → Meaning → (before after : Screen) → (halted : Option ℤ) → Type 0
-Replayed events booted before after halted = (ended : Meaning) × Played events booted ended before.sink after.sink × (ended.world.turns.halted ≡ halted)
+abbrev pub Replayed : List Event → (booted ended : Meaning) → (before after : Screen) → (halted : Option ℤ) → Type 0
+Replayed events booted ended before after halted = Played events booted ended before.sink after.sink × (ended.world.turns.halted ≡ halted)
 
 -- the machine got the first of these events, up to one whose bytes couldn't be written
-abbrev pub Unwritten : List Event → Meaning → (before after : Screen) → Type 0
-Unwritten events booted before after = (ended : Meaning) × BrokeOff events booted ended before.sink after.sink × (after.failed_writes ≡ one_more before.failed_writes)
+abbrev pub Unwritten : List Event → (booted ended : Meaning) → (before after : Screen) → Type 0
+Unwritten events booted ended before after = BrokeOff events booted ended before.sink after.sink × (after.failed_writes ≡ one_more before.failed_writes)
 
 -- the machine got the first of these events, and no others; what they show was written
-abbrev pub Stopped : List Event → Meaning → (before after : Screen) → Type 0
-Stopped events booted before after = (ended : Meaning) × PlayedFirst events booted ended before.sink after.sink × (after.failed_writes ≡ before.failed_writes)
+abbrev pub Stopped : List Event → (booted ended : Meaning) → (before after : Screen) → Type 0
+Stopped events booted ended before after = PlayedFirst events booted ended before.sink after.sink × (after.failed_writes ≡ before.failed_writes)
 
--- what the exit status says of a machine that has booted, and was to get these events
-pub record TellsReplay (status : ℕ) (events : List Event) (booted : Meaning) (before after : Screen) : Type 0 where
-  pub exited : status ≡ 0 → Replayed events booted before after (Some (pos 0))
-  pub exited_otherwise : status ≡ 3 → (code : ℤ) × (code ≢ pos 0) × Replayed events booted before after (Some code)
-  pub record_over : status ≡ 4 → Replayed events booted before after None
-  pub unwritten : status ≡ 5 → Unwritten events booted before after
-  pub over_budget : status ≡ 6 → Stopped events booted before after
+-- what the exit status says of a machine that was to get these events, from its boot to where it ended
+pub record TellsReplay (status : ℕ) (events : List Event) (booted ended : Meaning) (before after : Screen) : Type 0 where
+  pub exited : status ≡ 0 → Replayed events booted ended before after (Some (pos 0))
+  pub exited_otherwise : status ≡ 3 → (code : ℤ) × (code ≢ pos 0) × Replayed events booted ended before after (Some code)
+  pub record_over : status ≡ 4 → Replayed events booted ended before after None
+  pub unwritten : status ≡ 5 → Unwritten events booted ended before after
+  pub over_budget : status ≡ 6 → Stopped events booted ended before after
   pub no_other : (status ≡ 0) ⊎ (status ≡ 3) ⊎ (status ≡ 4) ⊎ (status ≡ 5) ⊎ (status ≡ 6)
 
--- What the exit status says of these programs and events: any but 2 that a machine in their first world got the events so. 2 stands for a boot that is refused, and for a host that is out of memory
+-- What the exit status says of these programs and events: any but 2 that a machine in their first world got the events so, and where it ended. 2 stands for a boot that is refused, and for a host that is out of memory
 abbrev pub SaysReplay : (status : ℕ) (frames trace : ℕ) → List ProgramFile → List Event → (before after : Screen) → Type 0
 SaysReplay status frames trace programs events before after =
-    status ≢ 2 → (booted : Meaning) × (first frames trace programs ≡ Ok booted.world) × TellsReplay status events booted before after
+    status ≢ 2 → (booted : Meaning) × (ended : Meaning) × (first frames trace programs ≡ Ok booted.world) × TellsReplay status events booted ended before after

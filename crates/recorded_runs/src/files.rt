@@ -1,13 +1,15 @@
 //! The FILEs of a record's programs, and what is known of their sources.
 ghost use Rattle.std.specs.Prelude.{◌≡◌, ◌++◌, None, IfErr, IfOk, OnOk, get_or, map, option_map, string_bytes};
 ghost use Rattle.program_files.specs.Failures.{failure_status};
+ghost use Rattle.program_files.specs.Programs.{AreProgramsIn};
 ghost use Rattle.std.specs.Option.{option_to_list};
 ghost use Rattle.recorded_runs.specs.Places.{path_at, paths_at, place_of, places_of};
 ghost use Rattle.recorded_runs.specs.Taken.{AreTaken, without_at};
+ghost use Rattle.xv_record.specs.Chosen.{AreThere};
 ghost use Rattle.xv_record.specs.Told.{program_told, told_program};
 
 use crate::reading::recorded_programs;
-use program_files::{Failure, SourcedPrograms};
+use program_files::{Failure, SourcedPrograms, programs};
 use std::alloc::{AllocError, Global};
 use std::fmt::Write;
 use uasm_core::SourceLines;
@@ -24,6 +26,24 @@ pub struct RecordedFiles {
     pub lines: Vec<Option<SourceLines>>,
     /// The rows of a table of lines that are of these programs, each with the program's place among them.
     pub table: String,
+}
+
+/// The programs of the FILEs of these paths, in this order, with the lines of those that are assembled.
+///
+/// # Errors
+///
+/// The first FILE that gives no program.
+pub fn given_programs<'a>(
+    rt: &HostRuntime,
+    paths: &'a [String],
+) -> Result<SourcedPrograms, Failure<'a>>
+    ensures made { IfOk result (λ made. AreProgramsIn paths.now made.programs.items) }
+    ensures refused { IfErr result (λ e. failure_status e ≡ 2) }
+{
+    match programs(rt, paths) {
+        Ok(made) => Ok(made),
+        Err(refusal) => Err(Failure::File(refusal)),
+    }
 }
 
 // The place of the first program of a name.
@@ -163,6 +183,7 @@ pub fn recorded_files(
     kept: &Record,
 ) -> Result<RecordedFiles, Failure<'static>>
     ensures programs { IfOk result (λ files. map program_told files.programs.items ≡ map told_program kept.now.programs.items) }
+    ensures there { IfOk result (λ _. AreThere made.programs.items kept.now.programs.items) }
     // each path is that of the first FILE whose program has the name that was recorded
     ensures paths { IfOk result (λ files. map string_bytes files.paths.items ≡ paths_at paths.now (places_of made.programs.items kept.now.programs.items)) }
     // and so are the lines of its source

@@ -4,7 +4,7 @@
 //! that is asked for. [`recorded_programs`] are the programs that were recorded, of those that are given, and
 //! [`recorded_files`] has what is known of their sources too. [`play_record`] lets a player play the record: its machine
 //! gets just the record's events, in order, and the sink just what they show. What the exit status of such a run says
-//! stands in `specs/Replays.antt`.
+//! stands in `specs/Replays.antt`, and what it says of what was asked for in `specs/Statuses.antt`.
 #![tactic(auto)]
 
 mod counting;
@@ -19,7 +19,7 @@ mod words;
 pub use counting::PLAYED_AGAIN;
 pub use cutting::{CutError, first_events, parts_of};
 pub use ending::{RecordEnd, close_record};
-pub use files::{RecordedFiles, recorded_files};
+pub use files::{RecordedFiles, given_programs, recorded_files};
 pub use playing::{play_lines, play_record};
 pub use quiet::play_quietly;
 pub use reading::{record_of, recorded_programs, whole_record};

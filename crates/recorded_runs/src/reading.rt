@@ -1,6 +1,7 @@
 //! A record's file, and the programs that it names.
 ghost use Rattle.std.specs.Prelude.{◌≡◌, IfErr, IfOk, map};
 ghost use Rattle.program_files.specs.Failures.{failure_status};
+ghost use Rattle.xv_record.specs.Chosen.{AreThere};
 ghost use Rattle.xv_record.specs.Told.{program_told, told_program};
 ghost use Rattle.recorded_runs.specs.Cuts.{IsCutOfText, IsOfText, IsTakenFromText};
 
@@ -114,6 +115,7 @@ pub fn recorded_programs(
     kept: &Record,
 ) -> Result<Vec<Program>, Failure<'static>>
     ensures programs { IfOk result (λ list. map program_told list.items ≡ map told_program kept.now.programs.items) }
+    ensures there { IfOk result (λ _. AreThere programs.now kept.now.programs.items) }
     ensures refused { IfErr result (λ e. failure_status e ≡ 2) }
 {
     match chosen(alloc, programs, kept.programs.as_slice()) {

@@ -1,9 +1,13 @@
 //! What a command line says of a record that is to be played.
-ghost use Rattle.std.specs.Prelude.{◌≡◌, IfOk, IfSome};
-ghost use Rattle.recorded_runs.specs.Asked.{AreGiven, IsNameOf};
+ghost use Rattle.std.specs.Prelude.{◌≡◌, ◌≤◌, IfErr, IfOk, IfSome, Some, length, option_map, string_bytes};
+ghost use Rattle.program_files.specs.Given.{text_of};
+ghost use Rattle.recorded_runs.specs.Asked as meant;
+ghost use Rattle.recorded_runs.specs.Asked.{AreGiven, IsGivenSomehow, IsWantOfMemory};
 
 use program_files::exit_statuses::WORDS_REFUSED;
-use program_files::{CommandWord, FRAMES, Given, NumberOption, QUANTUM, ROUNDS, WordsError, words};
+use program_files::{
+    CommandWord, FRAMES, Given, NumberOption, QUANTUM, ROUNDS, SettingsError, WordsError, words,
+};
 use std::io::Write;
 use std::rt::Env;
 use thiserror::Error;
@@ -74,47 +78,132 @@ impl ReplayRefusal<'_> {
     }
 }
 
+// What stands in a text after this beginning, if it begins so.
+fn after<'a>(text: &'a [u8], beginning: &[u8]) -> Option<&'a [u8]>
+    ensures { option_map (λ rest. rest.now) result ≡ meant.after text.now beginning.now }
+{
+    match text.strip_prefix(beginning) {
+        Some(rest) => Some(rest),
+        None => None,
+    }
+}
+
+// Whether an option's name ends before this: nothing, or `=`.
+fn ends_name(rest: &[u8]) -> bool
+    ensures { result ≡ meant.ends_name (Some rest.now) }
+{
+    match rest.first() {
+        Some(byte) => *byte == b'=',
+        None => true,
+    }
+}
+
+// Whether a text begins with this name, and the name ends there.
+fn is_named(text: &[u8], name: &str) -> bool
+    ensures { result ≡ meant.is_named (Some text.now) name.now }
+{
+    match after(text, name.as_bytes()) {
+        Some(rest) => ends_name(rest),
+        None => false,
+    }
+}
+
 // Whether a word is the option of this name, alone or with its value.
-fn is_option(word: &str, name: &str) -> bool {
-    let Some(option) = word.strip_prefix("--") else {
-        return false;
-    };
-    match option.split_once('=') {
-        Some((option, _)) => option == name,
-        None => option == name,
-    }
-}
-
-// The name of the option among these that a word is.
-fn option_in(word: &str, options: &[&'static NumberOption]) -> Option<&'static str>
-    ensures { IfSome result (λ name. IsNameOf name.now options.now) }
+fn is_option(word: &str, name: &str) -> bool
+    ensures { result ≡ meant.is_option word.now name.now }
 {
-    for option in options {
-        if is_option(word, option.name) {
-            return Some(option.name);
-        }
+    match after(word.as_bytes(), b"--") {
+        Some(text) => is_named(text, name),
+        None => false,
     }
-    None
 }
 
-// The name of the first of these options that stands among words before the word `--`.
-fn first_option(words: &[String], options: &[&'static NumberOption]) -> Option<&'static str>
-    ensures { IfSome result (λ name. IsNameOf name.now options.now) }
+// The name of the first of these options that a word is.
+fn option_of(word: &str, options: &[&'static NumberOption]) -> Option<&'static str>
+    ensures { option_map (λ name. name.now) result ≡ meant.option_of word.now options.now }
 {
-    for word in words {
-        if word.as_str() == "--" {
-            return None;
-        }
-        let option = option_in(word.as_str(), options);
-        if option.is_some() {
-            return option;
-        }
-    }
-    None
+    let option = options.iter().find(|option| is_option(word, option.name))?;
+    Some(option.name)
 }
 
-/// What the words of a command line say of a record, beside which these options can't be given. That an option is seen
-/// among the host's words, and only one that stands there, is tested (`checks/words`): no contract tells the words.
+// Whether behind a word there are no options.
+fn is_end(word: &str) -> bool
+    ensures { result ≡ meant.is_end word.now }
+{
+    word == "--"
+}
+
+// The place of the first `--` among words.
+fn end_place(words: &[String]) -> Option<usize>
+    ensures place { result ≡ meant.end_place words.now }
+    ensures bound { IfSome result (λ place. place ≤ length words.now) }
+{
+    words.iter().position(|word| is_end(word.as_str()))
+}
+
+// The words before the first `--`.
+fn before_end(words: &[String]) -> &[String]
+    ensures { result.now ≡ meant.before_end words.now }
+{
+    match end_place(words) {
+        Some(place) => &words[..place],
+        None => words,
+    }
+}
+
+// Whether a word is one of these options.
+fn is_any(word: &str, options: &[&'static NumberOption]) -> bool
+    ensures { result ≡ meant.is_any word.now options.now }
+{
+    option_of(word, options).is_some()
+}
+
+// The first of these words that is one of these options.
+fn option_word<'a>(words: &'a [String], options: &[&'static NumberOption]) -> Option<&'a String>
+    ensures { option_map (λ word. word.now) result ≡ meant.option_word words.now options.now }
+{
+    words.iter().find(|word| is_any(word.as_str(), options))
+}
+
+// The name of the option that the first of these words is that is one.
+fn option_in(words: &[String], options: &[&'static NumberOption]) -> Option<&'static str>
+    ensures { option_map (λ name. name.now) result ≡ meant.option_in words.now options.now }
+{
+    match option_word(words, options) {
+        Some(word) => option_of(word.as_str(), options),
+        None => None,
+    }
+}
+
+// The text of an option, if it is given.
+fn text_of(given: &Given, name: &str) -> Result<Option<String>, WordsError>
+    ensures text { IfOk result (λ text. option_map (λ t. string_bytes t) text ≡ text_of given.now.words.items name.now) }
+    ensures refused { IfErr result IsWantOfMemory }
+{
+    match given.text(name) {
+        Ok(text) => Ok(text),
+        Err(_) => Err(WordsError::Settings(SettingsError::Memory)),
+    }
+}
+
+// What all words of a command line, and what they give, say of a record.
+fn said_of(
+    all: &[String],
+    given: &Given,
+    others: &[&'static NumberOption],
+) -> Result<ReplayWords, WordsError>
+    ensures given { IfOk result (λ asked. AreGiven all.now given.now.words.items others.now asked) }
+    ensures refused { IfErr result IsWantOfMemory }
+{
+    Ok(ReplayWords {
+        path: text_of(given, REPLAY)?,
+        at: text_of(given, AT)?,
+        beside: option_in(before_end(all), others),
+    })
+}
+
+/// What the words of a command line say of a record, beside which these options can't be given. That the words are those
+/// of the host no contract tells: it is tested (`checks/words`).
 ///
 /// # Errors
 ///
@@ -124,20 +213,16 @@ pub fn replay_words<R: Env + AllocGlobal>(
     given: &Given,
     others: &[&'static NumberOption],
 ) -> Result<ReplayWords, WordsError>
-    ensures { IfOk result (λ asked. AreGiven given.now.words.items others.now asked) }
+    ensures given { IfOk result (IsGivenSomehow given.now.words.items others.now) }
+    ensures refused { IfErr result IsWantOfMemory }
 {
     let Ok(all) = words(rt) else {
         return Err(WordsError::NoWords);
     };
-    Ok(ReplayWords {
-        path: given.text(REPLAY)?,
-        at: given.text(AT)?,
-        beside: first_option(all.as_slice(), others),
-    })
+    said_of(all.as_slice(), given, others)
 }
 
 impl ReplayWords {
-    ghost use Rattle.std.specs.Prelude.{IfErr};
     ghost use Rattle.recorded_runs.specs.Asked.{IsAsked, IsRefused};
 
     /// The record that is to be played, if there is one.

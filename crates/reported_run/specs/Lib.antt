@@ -1,3 +1,4 @@
+pub mod Asked
 pub mod Ends
 pub mod Known
 pub mod Ranges

@@ -5,9 +5,9 @@ ghost use Rattle.reported_run.specs.Ranges.{AreInRange};
 use crate::NAME;
 use crate::line::{Settings, Telling};
 use program_files::{
-    CommandLine, CommandWord, FRAMES, NumberOption, QUANTUM, ROUNDS, TRACE, WordsError, given_words,
+    CommandLine, CommandWord, FRAMES, QUANTUM, ROUNDS, TRACE, WordsError, given_words,
 };
-use recorded_runs::{AT_WORD, REPLAY_WORD, replay_words};
+use recorded_runs::{AT_WORD, REPLAY_WORD, TOLD_BY_RECORD, replay_words};
 use run_work::BUDGET;
 use std::rt::Env;
 
@@ -19,9 +19,6 @@ const NOTES: &str = "notes";
 
 /// The word that names a table of lines.
 const LINES: &str = "lines";
-
-/// The options that a record tells itself.
-const TOLD_BY_RECORD: [&NumberOption; 3] = [&FRAMES, &ROUNDS, &QUANTUM];
 
 /// What stands below the list of options in the text of `--help`.
 const MORE_HELP: &str = "\
@@ -91,7 +88,7 @@ fn telling(in_words: bool, as_notes: bool) -> Telling {
 ///
 /// Those of [`given_words`]: if a word is neither an option nor a FILE, if a number isn't in its range, if no FILE is
 /// given, if a word isn't text, if help is asked for, or if the host has too little memory.
-pub fn settings<R: Env + AllocGlobal>(rt: &R) -> Result<Settings, WordsError>
+pub(crate) fn settings<R: Env + AllocGlobal>(rt: &R) -> Result<Settings, WordsError>
     ensures { IfOk result (λ s. AreInRange s) }
 {
     let given = given_words(rt, &COMMAND_LINE)?;

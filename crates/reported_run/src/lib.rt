@@ -7,8 +7,12 @@
 //! for `xv_picture`.
 #![tactic(auto)]
 
-ghost use Rattle.std.specs.Prelude.{IfOk};
-ghost use Rattle.run_work.specs.Runs.{IsRunStatus};
+ghost use Rattle.std.specs.Prelude.{◌≡◌, IfErr, IfOk};
+ghost use Rattle.program_files.specs.Failures.{failure_status};
+ghost use Rattle.program_files.specs.Programs.{AreProgramsIn};
+ghost use Rattle.recorded_runs.specs.Statuses.{IsStatusOfReplay};
+ghost use Rattle.run_work.specs.Runs.{IsRunStatus, IsStatusOfRun};
+ghost use Rattle.reported_run.specs.Asked.{IsStatusOf, IsStatusOfWords, config_of, plan_of};
 
 mod command_line;
 mod ends;
@@ -20,13 +24,13 @@ mod stop;
 mod teller;
 mod watching;
 
+use crate::command_line::settings;
 use crate::replaying::replay_with;
 use crate::running::run_with;
 use crate::teller::Teller;
-pub use command_line::settings;
 pub use line::Settings;
-use program_files::{Failure, line_table, programs};
-use recorded_runs::{RecordedFiles, Replay, record_of, recorded_files};
+use program_files::{Failure, line_table};
+use recorded_runs::{RecordedFiles, Replay, given_programs, record_of, recorded_files};
 use run_work::{Work, budget_of};
 use std::rt::Env;
 use xk_base::Program;
@@ -43,14 +47,27 @@ struct KnownPrograms {
     sources: Sources,
 }
 
+/// The text of the table of lines in the file of this path, if there is one.
+fn given_table<'a>(rt: &HostRuntime, path: &'a Option<String>) -> Result<String, Failure<'a>>
+    ensures { IfErr result (λ e. failure_status e ≡ 2) }
+{
+    match line_table(rt, path) {
+        Ok(table) => Ok(table),
+        Err(refusal) => Err(Failure::File(refusal)),
+    }
+}
+
 /// The programs that the settings name, and what is known of their sources.
 fn known_programs<'a>(
     rt: &HostRuntime,
     settings: &'a Settings,
-) -> Result<KnownPrograms, Failure<'a>> {
+) -> Result<KnownPrograms, Failure<'a>>
+    ensures programs { IfOk result (λ known. AreProgramsIn settings.now.files.items known.programs.items) }
+    ensures refused { IfErr result (λ e. failure_status e ≡ 2) }
+{
     let files = settings.files.as_slice();
-    let made = programs(rt, files)?;
-    let table = line_table(rt, &settings.lines)?;
+    let made = given_programs(rt, files)?;
+    let table = given_table(rt, &settings.lines)?;
     Ok(KnownPrograms {
         programs: made.programs,
         sources: Sources::of_files(rt, files, made.lines, table.as_str())?,
@@ -59,7 +76,9 @@ fn known_programs<'a>(
 
 /// Runs these programs, and gives the exit status.
 fn run(rt: &HostRuntime, settings: &Settings, known: KnownPrograms) -> u8
-    ensures { IsRunStatus result }
+    requires { AreProgramsIn settings.now.files.items known.programs.items }
+    ensures status { IsRunStatus result }
+    ensures says { IsStatusOfRun result (config_of settings.now) (plan_of settings.now) settings.now.files.items }
 {
     let config = Config {
         frames: settings.frames,
@@ -90,11 +109,13 @@ fn replay<'a>(
     settings: &'a Settings,
     asked: Replay<'a>,
 ) -> Result<u8, Failure<'a>>
-    ensures { IfOk result (λ status. IsRunStatus status) }
+    ensures status { IfOk result (λ status. IsRunStatus status) }
+    ensures says { IfOk result (λ status. IsStatusOfReplay status settings.now.trace asked.entry settings.now.files.items) }
+    ensures refused { IfErr result (λ e. failure_status e ≡ 2) }
 {
     let given = settings.files.as_slice();
-    let made = programs(rt, given)?;
-    let table = line_table(rt, &settings.lines)?;
+    let made = given_programs(rt, given)?;
+    let table = given_table(rt, &settings.lines)?;
     let record = record_of(rt, NAME, &asked)?;
     let files = recorded_files(rt.alloc(), given, made, table.as_str(), &record)?;
     let RecordedFiles {
@@ -119,7 +140,8 @@ fn replay<'a>(
 
 /// Plays a record, if it and its programs can be had, and gives the exit status.
 fn replay_files<'a>(rt: &HostRuntime, settings: &'a Settings, asked: Replay<'a>) -> u8
-    ensures { IsRunStatus result }
+    ensures status { IsRunStatus result }
+    ensures says { IsStatusOfReplay result settings.now.trace asked.entry settings.now.files.items }
 {
     match replay(rt, settings, asked) {
         Ok(status) => status,
@@ -129,7 +151,8 @@ fn replay_files<'a>(rt: &HostRuntime, settings: &'a Settings, asked: Replay<'a>)
 
 /// Tells the run that the settings ask for, and gives the exit status.
 fn tell_asked(rt: &HostRuntime, settings: &Settings) -> u8
-    ensures { IsRunStatus result }
+    ensures status { IsRunStatus result }
+    ensures asked { IsStatusOf settings.now result }
 {
     match settings.replay.replay() {
         Ok(Some(asked)) => replay_files(rt, settings, asked),
@@ -140,7 +163,8 @@ fn tell_asked(rt: &HostRuntime, settings: &Settings) -> u8
 
 /// Runs the programs that the settings name, if they can be had, and gives the exit status.
 fn run_files(rt: &HostRuntime, settings: &Settings) -> u8
-    ensures { IsRunStatus result }
+    ensures status { IsRunStatus result }
+    ensures says { IsStatusOfRun result (config_of settings.now) (plan_of settings.now) settings.now.files.items }
 {
     match known_programs(rt, settings) {
         Ok(known) => run(rt, settings, known),
@@ -150,7 +174,8 @@ fn run_files(rt: &HostRuntime, settings: &Settings) -> u8
 
 /// Runs the programs that the words of a command line name, tells the run as it goes, and gives the exit status.
 pub fn run_and_tell<W: Env + AllocGlobal>(rt: &HostRuntime, words: &W) -> u8
-    ensures { IsRunStatus result }
+    ensures status { IsRunStatus result }
+    ensures asked { IsStatusOfWords result }
 {
     match settings(words) {
         Ok(settings) => tell_asked(rt, &settings),

@@ -21,7 +21,7 @@ use xv_session::Session;
 // Lets a session's machine that has booted play a record, tells what is left to tell, shows its trace and the closing
 // line, and gives the exit status: 2 if the host's memory ran out, and 6 if the budget is used up.
 fn watch_record<W: ByteSink, E: Write>(watched: &mut Watched<E>, kept: &Record, sink: &mut W) -> u8
-    ensures { result ≢ 2 → TellsReplay result (events_in kept.now) watched.old.session.machine
+    ensures { result ≢ 2 → TellsReplay result (events_in kept.now) watched.old.session.machine watched.new.session.machine
         (record { sink = W.sink sink.old; failed_writes = W.failures sink.old })
         (record { sink = W.sink sink.new; failed_writes = W.failures sink.new }) }
 {

@@ -22,7 +22,7 @@ fn watch_to_end<R: KeySource, W: ByteSink, E: Write>(
     keys: &mut R,
     sink: &mut W,
 ) -> u8
-    ensures { result ≢ 2 → EndsSo result plan watched.old.session.machine
+    ensures { result ≢ 2 → EndsSo result plan watched.old.session.machine watched.new.session.machine
         (record { source = R.source keys.old; failed_reads = R.failures keys.old; sink = W.sink sink.old; failed_writes = W.failures sink.old })
         (record { source = R.source keys.new; failed_reads = R.failures keys.new; sink = W.sink sink.new; failed_writes = W.failures sink.new }) }
 {

@@ -16,7 +16,7 @@ use crate::line::Telling;
 use crate::stop::Stop;
 use call_reasons::{REFUSED, Reason, reason_of_last};
 use program_files::{Failure, close_run, show_trace};
-use recorded_runs::{RecordEnd, close_record};
+use recorded_runs::{PLAYED_AGAIN, RecordEnd, close_record};
 use run_work::{Work, close_over_budget};
 use std::alloc::Global;
 use std::io::Write;
@@ -28,9 +28,6 @@ use xv_report::{
     FaultReport, Hint, Sources, call_name, cause_text, report_at, source_of, waits_for,
 };
 use xv_session::{Named, Runs, Session};
-
-/// The most events that are played again to tell why calls were refused.
-const PLAYED_AGAIN: u64 = 300_000_000;
 
 /// The process that runs, as it is before Runs are sent: behind them it may be gone.
 #[derive(Clone, Copy)]

@@ -1,2 +1,3 @@
 pub mod Ended
 mod Worked
+mod WorkedRuns

@@ -13,8 +13,10 @@ returns-in-Ok g c = λ other.
     let before : Screen = record { sink = g.W.ByteSink.sink c.args.sink.now; failed_writes = g.W.ByteSink.failures c.args.sink.now } in
     let after : Screen = record { sink = g.W.ByteSink.sink c.watch_record.new.sink; failed_writes = g.W.ByteSink.failures c.watch_record.new.sink } in (
       c.in-Ok.session.machine,
+      c.watch_record.new.watched.session.machine,
       booted-first _ (machine_of c.boot.result) _ c.in-Ok.session.machine c.boot.ensures.boots (ap machine_of c.in-Ok.is),
-      subst (λ (s : Recorded). TellsReplay c.watch_record.result (events_in c.args.kept.now) s.machine before after) c.new-watched.ensures (c.watch_record.ensures other),
+      subst (λ (s : Recorded). TellsReplay c.watch_record.result (events_in c.args.kept.now) s.machine c.watch_record.new.watched.session.machine before after) c.new-watched.ensures
+          (c.watch_record.ensures other),
     )
 
 pub returns-in-Err : goal.returns-in-Err

@@ -27,9 +27,10 @@ returns-in-Ok g c = λ other.
     let before : Screen = record { sink = g.W.ByteSink.sink c.args.sink.now; failed_writes = g.W.ByteSink.failures c.args.sink.now } in
     let after : Screen = record { sink = g.W.ByteSink.sink c.play_record-played.new.sink; failed_writes = g.W.ByteSink.failures c.play_record-played.new.sink } in
     let lines = c.as_slice.result.now in
+    let ended = c.play_record-played.new.player.session.machine in
     rw c.say_record_end.ensures.status
-    (subst (λ (xs : List Line). TellsReplay (status_of c.in-Ok.end) (events_of_lines xs) c.args.watched.now.session.machine before after) c.as_slice.ensures.value
-    (tells-end (events_of_lines lines) c.args.watched.now.session.machine c.play_record-played.new.player.session.machine before after c.in-Ok.end
+    (subst (λ (xs : List Line). TellsReplay (status_of c.in-Ok.end) (events_of_lines xs) c.args.watched.now.session.machine ended before after) c.as_slice.ensures.value
+    (tells-end (events_of_lines lines) c.args.watched.now.session.machine ended before after c.in-Ok.end
     c.in-Ok.ensures.played c.in-Ok.ensures.end c.in-Ok.ensures.broke c.in-Ok.ensures.failures))
 
 pub returns-in-Err : goal.returns-in-Err
@@ -37,7 +38,8 @@ returns-in-Err g c =
     let before : Screen = record { sink = g.W.ByteSink.sink c.args.sink.now; failed_writes = g.W.ByteSink.failures c.args.sink.now } in
     let after : Screen = record { sink = g.W.ByteSink.sink c.play_record-played.new.sink; failed_writes = g.W.ByteSink.failures c.play_record-played.new.sink } in
     let lines = c.as_slice.result.now in
+    let ended = c.play_record-played.new.player.session.machine in
     rw c.say_stop.ensures.status (λ other.
-    subst (λ (xs : List Line). TellsReplay (stop_status c.in-Err.stop) (events_of_lines xs) c.args.watched.now.session.machine before after) c.as_slice.ensures.value
-    (stopped-replay c.in-Err.stop (events_of_lines lines) c.args.watched.now.session.machine c.play_record-played.new.player.session.machine before after
+    subst (λ (xs : List Line). TellsReplay (stop_status c.in-Err.stop) (events_of_lines xs) c.args.watched.now.session.machine ended before after) c.as_slice.ensures.value
+    (stopped-replay c.in-Err.stop (events_of_lines lines) c.args.watched.now.session.machine ended before after
     c.in-Err.ensures.refused c.in-Err.ensures.none_failed other))

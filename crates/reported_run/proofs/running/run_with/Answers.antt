@@ -23,8 +23,9 @@ returns-in-Ok g c = λ other.
       failed_writes = g.W.ByteSink.failures c.watch_to_end.new.sink;
     } in (
       c.in-Ok.session.machine,
+      c.watch_to_end.new.watched.session.machine,
       booted-first _ (machine_of c.boot.result) _ c.in-Ok.session.machine c.boot.ensures.boots (ap machine_of c.in-Ok.is),
-      subst (λ (s : Recorded). EndsSo c.watch_to_end.result c.args.plan s.machine before after) c.new-watched.ensures (c.watch_to_end.ensures other),
+      subst (λ (s : Recorded). EndsSo c.watch_to_end.result c.args.plan s.machine c.watch_to_end.new.watched.session.machine before after) c.new-watched.ensures (c.watch_to_end.ensures other),
     )
 
 pub returns-in-Err : goal.returns-in-Err

@@ -1,7 +1,6 @@
 use Rattle.std.proofs.Common.{◌≡◌, ◌∙◌, true, subst, sym}
 use Rattle.std.proofs.Math.Logic.{∥∥₁_map}
 use Rattle.program_files.specs.Statuses.{Devices}
-use Rattle.program_files.proofs.Statuses.{tells}
 use Rattle.run_work.proofs.Ended.{ended-driven}
 use Rattle.reported_run.specs.Known.{IsKnown, known_of}
 use Rattle.reported_run.specs.declared.ends.Ends.{Ends}
@@ -34,10 +33,8 @@ returns-in-Ok g c = λ other.
       sink = g.W.ByteSink.sink c.play_rounds-played.new.sink;
       failed_writes = g.W.ByteSink.failures c.play_rounds-played.new.sink;
     } in
-    let old = c.args.watched.now.session.machine in
-    rw c.say_end.ensures.status (ended-driven c.args.plan old before after _
-    (tells c.args.plan old c.play_rounds-played.new.player.session.machine before after
-    c.in-Ok.end c.in-Ok.ensures.done c.in-Ok.ensures.end c.in-Ok.ensures.read_failed c.in-Ok.ensures.write_failed))
+    rw c.say_end.ensures.status (ended-driven c.args.plan c.args.watched.now.session.machine c.play_rounds-played.new.player.session.machine before after c.in-Ok.end
+    c.in-Ok.ensures.done c.in-Ok.ensures.end c.in-Ok.ensures.read c.in-Ok.ensures.read_failed c.in-Ok.ensures.write c.in-Ok.ensures.write_failed)
 
 pub returns-in-Err : goal.returns-in-Err
 returns-in-Err g c =
@@ -53,8 +50,8 @@ returns-in-Err g c =
       sink = g.W.ByteSink.sink c.play_rounds-played.new.sink;
       failed_writes = g.W.ByteSink.failures c.play_rounds-played.new.sink;
     } in
-    rw c.say_stop.ensures.status (stopped c.in-Err.stop c.args.plan c.args.watched.now.session.machine before after (record {
-      ended = c.play_rounds-played.new.player.session.machine;
+    let ended = c.play_rounds-played.new.player.session.machine in
+    rw c.say_stop.ensures.status (stopped c.in-Err.stop c.args.plan c.args.watched.now.session.machine ended before after (record {
       stopped = c.in-Err.ensures.refused;
       reads = c.in-Err.ensures.refused_failures.0;
       writes = c.in-Err.ensures.refused_failures.1;

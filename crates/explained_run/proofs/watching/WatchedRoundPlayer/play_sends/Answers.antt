@@ -1,4 +1,4 @@
-use Rattle.std.proofs.Common.{string_bytes}
+use Rattle.std.proofs.Common.{◌∙◌, string_bytes}
 use Rattle.std.proofs.Math.Logic.{∥∥₁_map}
 use Rattle.xv_machine.specs.Events.{outcome_of}
 use Rattle.explained_run.proofs.Ends.{handed-same}
@@ -11,6 +11,9 @@ returns-clause-made g c =
 
 pub invariant_of-self : goal.invariant_of-self
 invariant_of-self g c = record {
-  handed = ∥∥₁_map c.args.self.now.handed (λ h. handed-same (g.L.Lines.handed c.args.self.now.lines) c.args.self.now.explained.complete c.send-outcome.new.self.complete
-      (string_bytes c.args.self.now.explained.text) (string_bytes c.send-outcome.new.self.text) c.send-outcome.ensures.complete c.send-outcome.ensures.text h);
+  handed = ∥∥₁_map c.args.self.now.handed (λ h. (
+    c.send-outcome.ensures.choice ∙ h.0,
+    handed-same (g.L.Lines.handed c.args.self.now.lines) c.args.self.now.explained.complete c.send-outcome.new.self.complete
+        (string_bytes c.args.self.now.explained.text) (string_bytes c.send-outcome.new.self.text) c.send-outcome.ensures.complete c.send-outcome.ensures.text h.1,
+  ));
 }
