@@ -1,4 +1,6 @@
-pub mod Steps
+pub mod Entries
+mod Passes
+mod Steps
 pub mod Whole
 pub mod WorkedFacts
 pub mod WorkedFrames

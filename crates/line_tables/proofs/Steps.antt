@@ -2,7 +2,8 @@
 use Rattle.std.proofs.Common.{◌≡◌, ℕ, zero, suc, ◌*◌, ◌≤◌, ◌∙◌, Bool, List, ap, arith}
 use Rattle.elf_symbols.specs.declared.symbol.Symbol.{Symbol}
 use Rattle.elf_symbols.specs.Symbols.{symbol_at}
-use Rattle.line_tables.specs.Names.{Entries, put_symbol, put_symbols}
+use Rattle.line_tables.specs.Names.{Entries}
+use Rattle.line_tables.specs.Passes.{put_symbol, put_symbols}
 
 pub one_symbol : (functions : Bool) (symbols : List ℕ) (n : ℕ) (symbol : Symbol) (old new total : Entries) → symbol ≡ symbol_at symbols (24 * n) → new ≡ put_symbol functions symbol old
     → put_symbols functions symbols (suc n) old ≡ total → put_symbols functions symbols n new ≡ total

@@ -3,7 +3,7 @@ use Rattle.std.proofs.Common.{◌≡◌, ℕ, List, [], ◌∷◌, ◌++◌, tru
 use Rattle.elf_symbols.specs.declared.symbol.Symbol.{Symbol}
 use Rattle.elf_symbols.specs.Symbols.{symbol_at}
 use Rattle.line_tables.specs.declared.names.Named.{Named}
-use Rattle.line_tables.specs.Names.{named_by, names_of, put_symbols, size_at}
+use Rattle.line_tables.specs.Names.{named_by, names_of, size_at}
 
 abbrev symbol : ℕ → ℕ → ℕ → Symbol
 symbol info section size = record { name = 5; info = info; section = section; value = 16; size = size }
@@ -48,7 +48,7 @@ bytes name info address size =
 -- in the order of addresses; at 8 the first function counts, not the label before it and not the function after it
 pub in_order : names_of (bytes 1 0x12 20 4 ++ bytes 2 0x10 8 0 ++ bytes 3 0x12 8 4 ++ bytes 4 0x12 8 12 ++ bytes 5 0x10 4 0 ++ bytes 6 0x10 4 0)
     ≡ (4, label 5) ∷ (8, function 4 3) ∷ (20, function 4 1) ∷ []
-unfolding put_symbols symbol_at
+unfolding names_of symbol_at
 in_order = refl
 
 -- a label goes up to what comes next, a function has its own bytes

@@ -1,9 +1,9 @@
 -- What is known from an address on, and what counts of the rows of a table.
-use Rattle.std.specs.Prelude.{ℕ, Bool, true, false, not, ◌&&◌, ◌==◌, if◌then◌else◌, List, [], ◌∷◌, ◌++◌}
-use Rattle.std.specs.BTreeMap.{insert_entry}
-use Rattle.std.specs.Ordering.{nat_cmp}
+use Rattle.std.specs.Prelude.{ℕ, Bool, true, false, not, ◌&&◌, ◌==◌, if◌then◌else◌, List, [], ◌∷◌, ◌++◌, map, Option, Some, None}
+use Rattle.std.specs.Option.{option_or}
 use Rattle.dwarf.specs.declared.entry.Text.{Text}
 use Rattle.dwarf.specs.declared.entry.Text.TheVariants.{Here, LineStrings, Strings}
+use Rattle.line_tables.specs.Entries.{entries_of}
 use Rattle.line_tables.specs.declared.fact.FrameBase.{FrameBase}
 use Rattle.line_tables.specs.declared.fact.FrameBase.TheVariants.{Sp, S0}
 use Rattle.line_tables.specs.declared.fact.Frame.{Frame}
@@ -43,18 +43,21 @@ Entries = List (ℕ × Fact)
 abbrev pub is_wanted : Bool → Told → Bool
 is_wanted ends t = if t.is_end then ends else not ends
 
--- with what a row tells at its address, in place of what stands there
-abbrev pub put_row : Bool → Told → Entries → Entries
-put_row ends t es = if is_wanted ends t then insert_entry nat_cmp es t.address t.fact else es
+abbrev pub fact_if : (ends : Bool) → (address : ℕ) → Told → Option Fact
+fact_if ends address t = if is_wanted ends t && (t.address == address) then Some t.fact else None
 
--- row by row: a later one takes the place of an earlier one
-abbrev pub put_rows : Bool → List Told → Entries → Entries
-put_rows ends [] es = es
-put_rows ends (t ∷ ts) es = put_rows ends ts (put_row ends t es)
+-- what the last of those that are wanted tells at an address: a later one counts before an earlier one
+abbrev pub last_fact : (ends : Bool) → (address : ℕ) → List Told → Option Fact
+last_fact ends address [] = None
+last_fact ends address (t ∷ ts) = option_or (last_fact ends address ts) (fact_if ends address t)
 
--- the last row of an address counts, and an end only at an address that no other row has
+-- what counts at an address: the last row there that is no end, or else the last end
+abbrev pub fact_at : List Told → (address : ℕ) → Option Fact
+fact_at rows address = option_or (last_fact false address rows) (last_fact true address rows)
+
+-- what counts at each address that a row has
 abbrev pub by_address : List Told → Entries
-by_address rows = put_rows false rows (put_rows true rows [])
+by_address rows = entries_of (fact_at rows) (map (λ t. t.address) rows)
 
 -- a fact, if the last one tells something else
 abbrev pub change_from : Fact → ℕ → Fact → Entries

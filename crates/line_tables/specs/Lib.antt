@@ -1,9 +1,10 @@
+pub mod Entries
 pub mod Facts
 pub mod FactsText
 pub mod Frames
 pub mod Lines
 pub mod Names
+pub mod Passes
 pub mod NamesText
-pub mod Sections
 pub mod Table
 pub mod Texts

@@ -1,9 +1,10 @@
 -- The functions and labels of a program (ELF-64 Object File Format, "Symbol Table").
-use Rattle.std.specs.Prelude.{ℕ, zero, suc, ◌-◌, ◌*◌, ◌/◌, ◌==◌, Bool, true, false, not, ◌||◌, if◌then◌else◌, List, [], ◌∷◌, length, slice_get, Option, Some, None}
-use Rattle.std.specs.BTreeMap.{insert_entry}
-use Rattle.std.specs.Ordering.{nat_cmp}
+use Rattle.std.specs.Prelude.{ℕ, ◌-◌, ◌*◌, ◌/◌, ◌==◌, Bool, true, false, not, ◌||◌, if◌then◌else◌, List, [], ◌∷◌, length, map, slice_get, Option, Some, None}
+use Rattle.std.specs.List.{range_with_len}
+use Rattle.std.specs.Option.{option_or}
 use Rattle.elf_symbols.specs.declared.symbol.Symbol.{Symbol}
 use Rattle.elf_symbols.specs.Symbols.{symbol_at, is_function, is_untyped, is_local}
+use Rattle.line_tables.specs.Entries.{entries_of}
 use Rattle.line_tables.specs.declared.names.Named.{Named}
 
 -- a function that has bytes
@@ -22,24 +23,30 @@ named_by s = if is_function s then function_named s else label_named s
 abbrev pub Entries : Type 0
 Entries = List (ℕ × Named)
 
--- with a name at its address, in place of what stands there, if it is one of those that are wanted: of functions, or of labels
-abbrev pub put_named : Bool → ℕ → Option Named → Entries → Entries
-put_named functions address (Some n) es =
-    if (if n.is_function then functions else not functions) then insert_entry nat_cmp es address n else es
-put_named functions address None es = es
+-- the name is one of those that are wanted: of functions, or of labels
+abbrev pub if_wanted : (functions : Bool) → Option Named → Option Named
+if_wanted functions None = None
+if_wanted functions (Some n) = if (if n.is_function then functions else not functions) then Some n else None
 
-abbrev pub put_symbol : Bool → Symbol → Entries → Entries
-put_symbol functions s es = put_named functions s.value (named_by s) es
+abbrev pub named_at : (functions : Bool) → (address : ℕ) → Symbol → Option Named
+named_at functions address s = if s.value == address then if_wanted functions (named_by s) else None
 
--- the first n symbols of a table, the last of them first: an earlier one takes the place of a later one
-unfoldable pub put_symbols : Bool → List ℕ → ℕ → Entries → Entries
-put_symbols functions symbols zero es = es
-put_symbols functions symbols (suc n) es = put_symbols functions symbols n (put_symbol functions (symbol_at symbols (24 * n)) es)
+-- the first of them at an address
+abbrev pub first_named : (functions : Bool) → (address : ℕ) → List Symbol → Option Named
+first_named functions address [] = None
+first_named functions address (s ∷ ss) = option_or (named_at functions address s) (first_named functions address ss)
 
--- at an address the first function of the table counts, or else the first label
-abbrev pub names_of : List ℕ → Entries
-names_of symbols =
-    let count = length symbols / 24 in put_symbols true symbols count (put_symbols false symbols count [])
+-- what counts at an address: the first function there, or else the first label
+abbrev pub name_at : List Symbol → (address : ℕ) → Option Named
+name_at symbols address = option_or (first_named true address symbols) (first_named false address symbols)
+
+-- the symbols of a table, of 24 bytes each
+abbrev pub symbols_in : (table : List ℕ) → List Symbol
+symbols_in table = map (λ place. symbol_at table (24 * place)) (range_with_len 0 (length table / 24))
+
+-- what counts at each address that a symbol has
+unfoldable pub names_of : (table : List ℕ) → Entries
+names_of table = entries_of (name_at (symbols_in table)) (map (λ s. s.value) (symbols_in table))
 
 abbrev pub size_up_to : ℕ → Option (ℕ × Named) → ℕ
 size_up_to address (Some next) = next.0 - address

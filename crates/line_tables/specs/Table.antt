@@ -13,7 +13,7 @@ use Rattle.line_tables.specs.Lines.{section_lines}
 use Rattle.line_tables.specs.Names as labels
 use Rattle.line_tables.specs.Names.{names_of}
 use Rattle.line_tables.specs.NamesText.{with_names}
-use Rattle.line_tables.specs.Sections.{bytes_of}
+use Rattle.elf_symbols.specs.Sections.{section_bytes}
 use Rattle.line_tables.specs.Texts.{◌>>=◌}
 
 -- a fault of a table, with the table's name
@@ -34,6 +34,6 @@ written section reads names lines frames =
 
 unfoldable pub table_text : List ℕ → Result (List ℕ) TableError
 table_text file =
-    let reads = source_name (bytes_of file (codes ".debug_line")) (bytes_of file (codes ".debug_line_str")) (bytes_of file (codes ".debug_str")) in
-    lines_in (bytes_of file (codes ".debug_line")) >>= λ lines. frames_in (bytes_of file (codes ".debug_frame")) >>= λ frames.
-    written (bytes_of file (codes ".strtab")) reads (names_of (bytes_of file (codes ".symtab"))) (facts_of NoLine lines) (facts_of NoFrame frames)
+    let reads = source_name (section_bytes file (codes ".debug_line")) (section_bytes file (codes ".debug_line_str")) (section_bytes file (codes ".debug_str")) in
+    lines_in (section_bytes file (codes ".debug_line")) >>= λ lines. frames_in (section_bytes file (codes ".debug_frame")) >>= λ frames.
+    written (section_bytes file (codes ".strtab")) reads (names_of (section_bytes file (codes ".symtab"))) (facts_of NoLine lines) (facts_of NoFrame frames)

@@ -1,6 +1,7 @@
 //! What counts of the rows of a table: one fact for an address, in the order of addresses.
 ghost use Rattle.std.specs.Prelude.{◌≡◌, ◌++◌, IfOk, OnOk};
 ghost use Rattle.line_tables.specs.Facts as meant;
+ghost use Rattle.line_tables.specs.Passes as passes;
 
 use crate::fact::{Fact, Told, is_same_fact};
 use std::alloc::{AllocError, Global};
@@ -8,7 +9,7 @@ use std::collections::BTreeMap;
 
 /// Puts a row into a map by addresses, in place of what stands at its address, if it is of the kind that is wanted.
 fn put_row(map: &mut BTreeMap<u64, Fact>, row: Told, are_ends: bool) -> Result<(), AllocError>
-    ensures { OnOk result (map.new.entries ≡ meant.put_row are_ends row map.old.entries) }
+    ensures { OnOk result (map.new.entries ≡ passes.put_row are_ends row map.old.entries) }
 {
     if row.is_end == are_ends {
         map.insert(row.address, row.fact)?;
@@ -18,7 +19,7 @@ fn put_row(map: &mut BTreeMap<u64, Fact>, row: Told, are_ends: bool) -> Result<(
 
 /// Puts rows into a map by addresses: those that only end what was told, or all others.
 fn put_rows(map: &mut BTreeMap<u64, Fact>, rows: &[Told], are_ends: bool) -> Result<(), AllocError>
-    ensures { OnOk result (map.new.entries ≡ meant.put_rows are_ends rows.now map.old.entries) }
+    ensures { OnOk result (map.new.entries ≡ passes.put_rows are_ends rows.now map.old.entries) }
 {
     for row in rows {
         put_row(map, *row, are_ends)?;

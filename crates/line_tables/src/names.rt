@@ -1,6 +1,7 @@
 //! The functions and labels of a program (ELF-64 Object File Format, "Symbol Table").
 ghost use Rattle.std.specs.Prelude.{◌≡◌, ◌/◌, length, IfOk, OnOk};
 ghost use Rattle.line_tables.specs.Names as meant;
+ghost use Rattle.line_tables.specs.Passes as passes;
 
 use elf_symbols::{SYMBOL_BYTES, Symbol, symbol_at};
 use std::alloc::{AllocError, Global};
@@ -51,7 +52,7 @@ fn put_symbol(
     symbol: &Symbol,
     are_functions: bool,
 ) -> Result<(), AllocError>
-    ensures { OnOk result (map.new.entries ≡ meant.put_symbol are_functions symbol.now map.old.entries) }
+    ensures { OnOk result (map.new.entries ≡ passes.put_symbol are_functions symbol.now map.old.entries) }
 {
     let Some(named) = named_by(symbol) else {
         return Ok(());
@@ -69,7 +70,7 @@ fn put_symbols(
     are_functions: bool,
 ) -> Result<(), AllocError>
     ensures { OnOk result (map.new.entries
-        ≡ meant.put_symbols are_functions symbols.now (length symbols.now / 24) map.old.entries) }
+        ≡ passes.put_symbols are_functions symbols.now (length symbols.now / 24) map.old.entries) }
 {
     let mut left = symbols.len() / SYMBOL_BYTES;
     'symbols: while left > 0 {

@@ -1,5 +1,5 @@
 -- What is drawn of a trace.
-use Rattle.std.specs.Prelude.{◌≡◌, ℕ, List, length, All, ⊤, Option, None, Some}
+use Rattle.std.specs.Prelude.{◌≡◌, ◌++◌, ℕ, List, All, ⊤, Option, None, Some}
 use Rattle.std.specs.Io.KnownBytes.{Appends}
 use Rattle.std.specs.Str.Lines.{lines}
 use Rattle.trace_picture.specs.Remarks.{IsToldBy}
@@ -13,7 +13,7 @@ use Rattle.trace_picture.specs.declared.line.Told.{Told}
 pub record IsPictureOf (text picture : List ℕ) : Type 0 where
   pub told : Told
   pub chart : Chart
-  pub lines : IsToldBy (length (lines text)) told
+  pub lines : IsToldBy (lines text) told
   pub notes : chart.notes.items ≡ told.notes.items
   pub rows : All (λ (row : Row). IsRowOf row told.notes.items) chart.rows.items
   pub named : AreNamed told.notes.items (pids_of chart.rows.items)
@@ -23,3 +23,7 @@ pub record IsPictureOf (text picture : List ℕ) : Type 0 where
 abbrev pub Draws : (trace before after : Option (List ℕ)) → Type 0
 Draws None before after = ⊤
 Draws (Some text) before after = (picture : List ℕ) × IsPictureOf text picture × Appends before after picture
+
+-- of a text of which some is not yet written, a part from the front was written, and this is left
+abbrev pub Moves : (before after : Option (List ℕ)) → (old new : List ℕ) → Type 0
+Moves before after old new = (part : List ℕ) × Appends before after part × (part ++ new ≡ old)

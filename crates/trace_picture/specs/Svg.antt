@@ -1,8 +1,8 @@
 -- The text of a picture, in SVG 1.1 (Scalable Vector Graphics).
-use Rattle.std.specs.Prelude.{ℕ, ℤ, pos, ◌+◌, ◌*◌, ◌/◌, ◌%◌, ◌-◌, ◌^◌, ◌==◌, nat_le, nat_lt, min, max, if◌then◌else◌, List, [], ◌∷◌, ◌++◌, length, flat_map, codes, decimal, Option, None, Some, option_map}
+use Rattle.std.specs.Prelude.{ℕ, ℤ, pos, ◌+◌, ◌*◌, ◌/◌, ◌%◌, ◌-◌, ◌^◌, ◌==◌, nat_le, nat_lt, min, max, if◌then◌else◌, List, [], ◌∷◌, ◌++◌, length, take, slice_get, flat_map, codes, decimal, Option, None, Some, option_map}
 use Rattle.std.specs.Char.{encode_utf8}
 use Rattle.std.specs.Fmt.{signed_decimal}
-use Rattle.std.specs.List.{concat}
+use Rattle.std.specs.List.{concat, range_with_len}
 use Rattle.kernel_calls.specs.Table.{call_at, entry_of}
 use Rattle.kernel_calls.specs.declared.call.KernelCall.{KernelCall}
 use Rattle.trace_picture.specs.Names.{letter_text, names_room, row_name, who_text, xml_text}
@@ -227,28 +227,54 @@ console_letter x base letter = concat (codes "<text x=\"" ∷ pixels x ∷ codes
 abbrev pub byte_text : (x base byte : ℕ) → List ℕ
 byte_text x base byte = console_letter x base (letter_of byte)
 
--- where a byte stands: at its event, or, if there is no room, right of the one before it
+-- a byte of the console, and the number of the event that shows it
+pub record Letter : Type 0 where
+  pub event : ℕ
+  pub byte : ℕ
+
+abbrev pub letter_of_event : (event : ℕ) → Option ℕ → List Letter
+letter_of_event event None = []
+letter_of_event event (Some byte) = record { event = event; byte = byte } ∷ []
+
+-- the bytes that events show, the first of which has this number
+abbrev pub letters : Console → (event : ℕ) → List Note → List Letter
+letters line event [] = []
+letters line event (note ∷ notes) = letter_of_event event (byte_in line note) ++ letters line (event + 1) notes
+
+-- from where on there is room behind letters: each takes seven pixels, from its event on or from the end of the one before it
+abbrev pub room_behind : (left events : ℕ) → List Letter → ℕ
+room_behind left events [] = 0
+room_behind left events (letter ∷ list) = max (across left events letter.event + 700 * (length list + 1)) (room_behind left events list)
+
+-- where a byte stands: at its event, or, if there is no room, right of those before it
 abbrev pub byte_place : (left events event free : ℕ) → ℕ
 byte_place left events event free = max (across left events event) free
-
--- from where on there is room after an event, if there was from `free` on: each letter takes seven pixels
-abbrev pub free_after : (left events event free : ℕ) → Option ℕ → ℕ
-free_after left events event free None = free
-free_after left events event free (Some byte) = capped (byte_place left events event free + 700)
 
 abbrev pub byte_shown : (left events base event free : ℕ) → Option ℕ → List ℕ
 byte_shown left events base event free None = []
 byte_shown left events base event free (Some byte) = byte_text (byte_place left events event free) base byte
 
--- the bytes of these events, the first of which has this number; those right of the picture's edge are left out
-abbrev pub bytes_from : Console → (left events base event free : ℕ) → List Note → List ℕ
-bytes_from line left events base event free [] = []
-bytes_from line left events base event free (note ∷ rest) =
-    if nat_lt (capped (capped (left + 1200) * 100)) free then []
-    else byte_shown left events base event free (byte_in line note) ++ bytes_from line left events base (event + 1) (free_after left events event free (byte_in line note)) rest
+-- a letter behind those before it, whose room ends at `free`; it is left out if that is right of the picture's edge
+abbrev pub letter_shown : (left events base free : ℕ) → Option Letter → List ℕ
+letter_shown left events base free None = []
+letter_shown left events base free (Some letter) =
+    if nat_lt (capped (capped (left + 1200) * 100)) free then [] else byte_shown left events base letter.event free (Some letter.byte)
+
+-- all letters: each behind those before it
+abbrev pub letters_shown : (left events base : ℕ) → List Letter → List ℕ
+letters_shown left events base list =
+    flat_map (λ place. letter_shown left events base (capped (room_behind left events (take place list))) (slice_get list place)) (range_with_len 0 (length list))
+
+abbrev pub bytes_shown : Console → (left events base : ℕ) → List Note → List ℕ
+bytes_shown line left events base notes = letters_shown left events base (letters line 0 notes)
 
 abbrev pub bytes_text : Console → Chart → (left base : ℕ) → List ℕ
-bytes_text line chart left base = text_at (decimal 8) base (console_name line) ++ bytes_from line left (length chart.notes.items) base 0 0 chart.notes.items
+bytes_text line chart left base = text_at (decimal 8) base (console_name line) ++ bytes_shown line left (length chart.notes.items) base chart.notes.items
+
+-- from where on there is room after an event, if there was from `free` on
+abbrev pub free_after : (left events event free : ℕ) → Option ℕ → ℕ
+free_after left events event free None = free
+free_after left events event free (Some byte) = capped (byte_place left events event free + 700)
 
 abbrev pub number_text : (left events base quarter : ℕ) → List ℕ
 number_text left events base quarter =

@@ -5,10 +5,8 @@
 //! give the rows the names of programs, and the bars of sleepers what they wait for.
 #![tactic(auto)]
 
-ghost use Rattle.std.specs.Prelude.{IfOk, OnOk};
-ghost use Rattle.std.specs.Io.KnownBytes.{Appends};
-ghost use Rattle.std.specs.String.{string_bytes};
-ghost use Rattle.trace_picture.specs.Drawing.{Draws, IsPictureOf};
+ghost use Rattle.std.specs.Prelude.{OnOk, Some};
+ghost use Rattle.trace_picture.specs.Drawing.{Draws};
 
 mod chart;
 mod label;
@@ -21,32 +19,25 @@ mod shape;
 
 use crate::chart::Chart;
 use crate::line::{Told, lines_of};
-use crate::picture::picture_text;
+use crate::picture::write_picture;
 use std::alloc::Global;
 use std::io::{self, Read, Write};
 
-// Writes a text, all of it.
-fn write_text<W: Write>(output: &mut W, text: &str) -> io::Result<()>
-    ensures { OnOk result (Appends (W.contents output.old) (W.contents output.new) text.now) }
-{
-    output.write_all(text.as_bytes())?;
-    output.flush()
-}
-
-// The picture of a text.
-fn picture_of(alloc: Global, text: &str) -> io::Result<String>
-    ensures { IfOk result (λ picture. IsPictureOf text.now (string_bytes picture)) }
+// Writes the picture of a text.
+fn draw_text<W: Write>(alloc: Global, text: &str, output: &mut W) -> io::Result<()>
+    ensures { OnOk result (Draws (Some text.now) (W.contents output.old) (W.contents output.new)) }
 {
     let Told { notes, remarks } = lines_of(alloc, text)?;
     let chart = Chart::of(alloc, notes)?;
-    picture_text(alloc, &chart, &remarks)
+    write_picture(alloc, &chart, &remarks, output)
 }
 
 /// Reads a trace, and writes a picture of it, in SVG.
 ///
 /// # Errors
 ///
-/// Those of the two streams, and that the host has too little memory.
+/// Those of the two streams, and that the host has too little memory. The picture is written as it is made, so some of it
+/// may be written then.
 pub fn draw_trace<R: Read + Drop, W: Write>(
     alloc: Global,
     trace: R,
@@ -55,6 +46,6 @@ pub fn draw_trace<R: Read + Drop, W: Write>(
     ensures { OnOk result (Draws (R.remaining trace) (W.contents output.old) (W.contents output.new)) }
 {
     let text = io::read_to_string(alloc, trace)?;
-    let picture = picture_of(alloc, text.as_str())?;
-    write_text(output, picture.as_str())
+    draw_text(alloc, text.as_str(), output)?;
+    output.flush()
 }

@@ -1,9 +1,9 @@
 //! The lines of a trace, and those that tell more of a run than its trace.
-ghost use Rattle.std.specs.Prelude.{◌≡◌, ◌++◌, IfOk, OnOk, [], length};
+ghost use Rattle.std.specs.Prelude.{◌≡◌, ◌++◌, IfOk, OnOk, [], length, option_map};
 ghost use Rattle.std.specs.Str.Lines.{lines};
-ghost use Rattle.trace_picture.specs.Remarks.{IsToldBy, events_of, names_of, waits_of};
+ghost use Rattle.trace_picture.specs.Remarks.{IsOf, IsRemark, IsToldBy, Tells, about_process, at_blank, events_of, names_of, waits_of};
 
-use crate::note::{Note, note_of_line};
+use crate::note::{Note, note_of_line, number_of};
 use crate::remark::{Remark, Remarks};
 use std::alloc::{AllocError, Global};
 
@@ -27,14 +27,25 @@ pub struct Told {
     pub remarks: Remarks,
 }
 
-// A line about a process: a word, its pid, and a text.
-fn line_of_process(alloc: Global, kind: &str, rest: &str) -> Result<Line, AllocError> {
-    let Some((pid, text)) = rest.split_once(' ') else {
-        return Ok(Line::Other);
-    };
-    let Ok(pid) = pid.parse() else {
-        return Ok(Line::Other);
-    };
+// What stands before the first blank of a text, and what stands behind it.
+fn at_blank(text: &str) -> Option<(&str, &str)>
+    ensures { option_map (λ parts. (parts.0.now, parts.1.now)) result ≡ at_blank text.now }
+{
+    text.split_once(' ')
+}
+
+// A pid, and the text behind it.
+fn about_process(text: &str) -> Option<(u32, &str)>
+    ensures { option_map (λ parts. (parts.0, parts.1.now)) result ≡ about_process text.now }
+{
+    let (pid, rest) = at_blank(text)?;
+    Some((number_of(pid)?, rest))
+}
+
+// What a line tells of a process, by its first word, and by the pid and the text behind it.
+fn line_of_process(alloc: Global, kind: &str, pid: u32, text: &str) -> Result<Line, AllocError>
+    ensures { IfOk result (IsOf kind.now pid text.now) }
+{
     match kind {
         "name" => Ok(Line::Name(pid, String::from_str(alloc, text)?)),
         "waits" => Ok(Line::Waits(pid, String::from_str(alloc, text)?)),
@@ -42,18 +53,30 @@ fn line_of_process(alloc: Global, kind: &str, rest: &str) -> Result<Line, AllocE
     }
 }
 
+// What a line tells that is none of a trace.
+fn remark_of(alloc: Global, line: &str) -> Result<Line, AllocError>
+    ensures { IfOk result (IsRemark line.now) }
+{
+    let Some((kind, rest)) = at_blank(line) else {
+        return Ok(Line::Other);
+    };
+    let Some((pid, text)) = about_process(rest) else {
+        return Ok(Line::Other);
+    };
+    line_of_process(alloc, kind, pid, text)
+}
+
 /// What a line tells. One that is none of a trace, as the closing line, tells nothing, nor do `sent none` and `halted`.
 ///
 /// # Errors
 ///
 /// [`AllocError`] where the host has too little memory.
-pub fn line_of(alloc: Global, line: &str) -> Result<Line, AllocError> {
-    if let Some(note) = note_of_line(line) {
-        return Ok(Line::Event(note));
-    }
-    match line.split_once(' ') {
-        Some((kind, rest)) => line_of_process(alloc, kind, rest),
-        None => Ok(Line::Other),
+pub fn line_of(alloc: Global, line: &str) -> Result<Line, AllocError>
+    ensures { IfOk result (Tells line.now) }
+{
+    match note_of_line(alloc, line)? {
+        Some(note) => Ok(Line::Event(note)),
+        None => remark_of(alloc, line),
     }
 }
 
@@ -96,7 +119,7 @@ impl Told {
 ///
 /// [`AllocError`] where the host has too little memory.
 pub fn lines_of(alloc: Global, text: &str) -> Result<Told, AllocError>
-    ensures { IfOk result (IsToldBy (length (lines text.now))) }
+    ensures { IfOk result (IsToldBy (lines text.now)) }
 {
     let mut told = Told::new(alloc);
     for line in text.lines() {

@@ -1,8 +1,10 @@
 //! The picture of a chart, in SVG (Scalable Vector Graphics 1.1). Its whole text stands in `specs/Svg.antt`.
 ghost use Rattle.std.specs.Prelude.{◌≡◌, ◌++◌, ◌-◌, ◌∷◌, [], codes, length, map, IfOk, OnOk, Some, option_map, flat_map};
 ghost use Rattle.std.specs.Fmt.{WritesOnOk, signed_decimal};
+ghost use Rattle.std.specs.Io.KnownBytes.{Appends};
 ghost use Rattle.std.specs.String.{string_bytes};
 ghost use Rattle.kernel_calls.specs.Table.{call_at};
+ghost use Rattle.trace_picture.specs.Drawing.{Moves};
 ghost use Rattle.trace_picture.specs.Remarks.{program_at};
 ghost use Rattle.trace_picture.specs.Shapes.{Draws, shapes_of};
 ghost use Rattle.trace_picture.specs.Svg as meant;
@@ -38,6 +40,9 @@ const BAR: u64 = 12;
 
 /// How much room a letter of the console takes, in hundredths of a pixel.
 const LETTER: u64 = 700;
+
+/// How many bytes of a picture are made at least before they are written.
+const PART: usize = 65_536;
 
 /// How far the meanings of two colours stand from one another, in pixels.
 const MEANING: u64 = 90;
@@ -425,16 +430,6 @@ fn push_shape(text: &mut String, plan: &Plan, shape: Shape) -> Result<(), AllocE
     }
 }
 
-// The parts of a picture, in this order.
-fn push_shapes(text: &mut String, plan: &Plan, shapes: &[Shape]) -> Result<(), AllocError>
-    ensures { OnOk result (string_bytes text.new ≡ string_bytes text.old ++ flat_map (meant.shape_text plan.now.remarks.now plan.now.axis.left plan.now.axis.events plan.now.bottom) shapes.now) }
-{
-    for shape in shapes {
-        push_shape(text, plan, *shape)?;
-    }
-    Ok(())
-}
-
 // A list of what is drawn.
 #[derive(Drop)]
 struct Drawn(Vec<Shape>);
@@ -644,7 +639,7 @@ fn push_bytes(
     base: u64,
     notes: &[Note],
 ) -> Result<(), AllocError>
-    ensures { OnOk result (string_bytes text.new ≡ string_bytes text.old ++ meant.bytes_from line axis.left axis.events base 0 0 notes.now) }
+    ensures { OnOk result (string_bytes text.new ≡ string_bytes text.old ++ meant.bytes_shown line axis.left axis.events base notes.now) }
 {
     let right = axis.left.saturating_add(WIDTH).saturating_mul(100);
     let mut free: u64 = 0;
@@ -754,31 +749,79 @@ fn shapes_of(alloc: Global, chart: &Chart) -> io::Result<Vec<Shape>>
     Ok(drawn.0)
 }
 
-// The picture of a chart, whose shapes are these.
-fn push_picture(
-    text: &mut String,
+// Writes what was made of a picture, and begins the next part.
+fn put<W: io::Write>(part: &mut String, output: &mut W) -> io::Result<()>
+    ensures written { OnOk result (Appends (W.contents output.old) (W.contents output.new) (string_bytes part.old)) }
+    ensures empty { OnOk result (string_bytes part.new ≡ []) }
+{
+    output.write_all(part.as_bytes())?;
+    part.clear();
+    Ok(())
+}
+
+// The same, if it is long enough to be written.
+fn put_if_long<W: io::Write>(part: &mut String, output: &mut W) -> io::Result<()>
+    ensures { OnOk result (Moves (W.contents output.old) (W.contents output.new) (string_bytes part.old) (string_bytes part.new)) }
+{
+    if part.len() < PART {
+        return Ok(());
+    }
+    put(part, output)
+}
+
+// Makes the parts of a picture, in this order, and writes them as they become long enough.
+fn put_shapes<W: io::Write>(
+    part: &mut String,
+    plan: &Plan,
+    shapes: &[Shape],
+    output: &mut W,
+) -> io::Result<()>
+    ensures { OnOk result (Moves (W.contents output.old) (W.contents output.new)
+        (string_bytes part.old ++ flat_map (meant.shape_text plan.now.remarks.now plan.now.axis.left plan.now.axis.events plan.now.bottom) shapes.now)
+        (string_bytes part.new)) }
+{
+    for shape in shapes {
+        push_shape(part, plan, *shape)?;
+        put_if_long(part, output)?;
+    }
+    Ok(())
+}
+
+// Writes the picture of a chart, whose shapes are these.
+fn put_picture<W: io::Write>(
+    alloc: Global,
     plan: &Plan,
     chart: &Chart,
     shapes: &[Shape],
-) -> Result<(), AllocError>
+    output: &mut W,
+) -> io::Result<()>
     requires { plan.now.axis.events ≡ length chart.now.notes.items }
-    ensures { OnOk result (string_bytes text.new ≡ string_bytes text.old ++ meant.picture_by chart.now plan.now.remarks.now plan.now.axis.left plan.now.axis.events plan.now.bottom shapes.now) }
+    ensures { OnOk result (Appends (W.contents output.old) (W.contents output.new)
+        (meant.picture_by chart.now plan.now.remarks.now plan.now.axis.left plan.now.axis.events plan.now.bottom shapes.now)) }
 {
-    push_begin(text, plan.axis, plan.bottom)?;
-    push_shapes(text, plan, shapes)?;
-    push_end(text, chart, plan.axis, plan.bottom)
+    let mut part = String::new(alloc);
+    push_begin(&mut part, plan.axis, plan.bottom)?;
+    put_shapes(&mut part, plan, shapes, output)?;
+    push_end(&mut part, chart, plan.axis, plan.bottom)?;
+    put(&mut part, output)
 }
 
-/// The text of the picture of a chart: a row for each process, in the order of their pids, with its bar and its
+/// Writes the picture of a chart: a row for each process, in the order of their pids, with its bar and its
 /// marks; below them the bytes that were sent and typed, and the numbers of events. A row has the name of its
-/// process's last program, and a sleeper's bar what it waits for, if `remarks` tell them.
+/// process's last program, and a sleeper's bar what it waits for, if `remarks` tell them. The text isn't kept: it is
+/// written in parts of some 64 KiB.
 ///
 /// # Errors
 ///
-/// The host has too little memory.
+/// The host has too little memory, or the output takes no more. Some of the picture may be written then.
 #[tactic(auto, unfolding(crate::specs::Svg::picture_of))]
-pub fn picture_text(alloc: Global, chart: &Chart, remarks: &Remarks) -> io::Result<String>
-    ensures { IfOk result (λ text. string_bytes text ≡ meant.picture_of chart.now remarks.now) }
+pub fn write_picture<W: io::Write>(
+    alloc: Global,
+    chart: &Chart,
+    remarks: &Remarks,
+    output: &mut W,
+) -> io::Result<()>
+    ensures { OnOk result (Appends (W.contents output.old) (W.contents output.new) (meant.picture_of chart.now remarks.now)) }
 {
     let shapes = shapes_of(alloc, chart)?;
     let axis = Axis {
@@ -790,7 +833,5 @@ pub fn picture_text(alloc: Global, chart: &Chart, remarks: &Remarks) -> io::Resu
         axis,
         bottom: row_top(chart.rows.len()),
     };
-    let mut text = String::new(alloc);
-    push_picture(&mut text, &plan, chart, shapes.as_slice())?;
-    Ok(text)
+    put_picture(alloc, &plan, chart, shapes.as_slice(), output)
 }

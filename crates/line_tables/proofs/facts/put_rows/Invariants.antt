@@ -1,5 +1,5 @@
 use Rattle.std.proofs.Common.{◌≡◌, drop}
-use Rattle.line_tables.specs.Facts.{put_rows}
+use Rattle.line_tables.specs.Passes.{put_rows}
 use Rattle.line_tables.proofs.facts.put_rows.Given as goal
 
 abbrev pub invariant-loop-row : goal.invariant-loop-row

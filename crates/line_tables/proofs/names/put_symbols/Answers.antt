@@ -1,5 +1,5 @@
 use Rattle.std.proofs.Common.{◌≡◌, ℕ, ◌-◌, ◌/◌, length, suc, subst, arith}
-use Rattle.line_tables.specs.Names.{put_symbols}
+use Rattle.line_tables.specs.Passes.{put_symbols}
 use Rattle.line_tables.proofs.Steps.{one_symbol, no_symbol_left}
 use Rattle.line_tables.proofs.names.put_symbols.Goals as goal
 

@@ -1,5 +1,5 @@
 use Rattle.std.proofs.Common.{◌≡◌, ◌≤◌, ◌/◌, length}
-use Rattle.line_tables.specs.Names.{put_symbols}
+use Rattle.line_tables.specs.Passes.{put_symbols}
 use Rattle.line_tables.proofs.names.put_symbols.Given as goal
 
 abbrev pub invariant-symbols : goal.invariant-symbols

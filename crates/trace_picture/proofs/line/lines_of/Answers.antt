@@ -1,5 +1,5 @@
-use Rattle.std.proofs.Common.{rules, ◌≡◌, ℕ, length, sym, subst}
-use Rattle.std.proofs.lemmas.List.{length_push}
+use Rattle.std.proofs.Common.{rules, ◌≡◌, List, ℕ, Bor, map, sym, subst}
+use Rattle.std.proofs.lemmas.List.{map-append}
 use Rattle.std.proofs.lemmas.Iterator.Consumers.{YieldsList-end}
 use Rattle.std.proofs.lemmas.Iterator.Splits.{YieldsList-from_lines}
 use Rattle.std.specs.Str.Iter.{lines_rest}
@@ -12,11 +12,11 @@ loop-line-init c = none_told _ c.new-told.ensures.notes c.new-told.ensures.names
 
 pub loop-line-preserved : goal.loop-line-preserved
 loop-line-preserved c =
-    subst (λ (n : ℕ). IsToldBy n c.add.new.self) (sym (length_push c.loop-line.yielded c.in-Some.line))
-    (more_told _ _ _ _ c.loop-line.invariant c.in_ok-add.ensures.events c.in_ok-add.ensures.names c.in_ok-add.ensures.waits)
+    subst (λ (texts : List (List ℕ)). IsToldBy texts c.add.new.self) (sym (map-append (λ (line : Bor (List ℕ)). line.now) c.loop-line.yielded _))
+    (more_told _ _ _ _ _ c.loop-line.invariant (search rules) c.in_ok-add.ensures.events c.in_ok-add.ensures.names c.in_ok-add.ensures.waits)
 
 pub returns : goal.returns
 returns c =
     let rest : lines_rest c.into_iter-line-iterator.result ≡ c.args.text.now = search rules in
     let t = YieldsList-end (YieldsList-from_lines {s = c.into_iter-line-iterator.result} c.args.text.now rest) c.loop-line.yielded _ c.loop-line.yielded_by _ _ c.in-None.is c.next.ensures.steps in
-    subst (λ (n : ℕ). IsToldBy n c.loop-line.told) t.1 c.loop-line.invariant
+    subst (λ (texts : List (List ℕ)). IsToldBy texts c.loop-line.told) t.0 c.loop-line.invariant

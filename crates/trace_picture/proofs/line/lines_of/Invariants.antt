@@ -1,6 +1,6 @@
-use Rattle.std.proofs.Common.{length}
+use Rattle.std.proofs.Common.{Bor, List, ℕ, map}
 use Rattle.trace_picture.specs.Remarks.{IsToldBy}
 use Rattle.trace_picture.proofs.line.lines_of.Given as goal
 
 abbrev pub invariant-loop-line : goal.invariant-loop-line
-invariant-loop-line l = IsToldBy (length l.yielded) l.told
+invariant-loop-line l = IsToldBy (map (λ line. line.now) l.yielded) l.told

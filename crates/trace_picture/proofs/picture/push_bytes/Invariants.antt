@@ -1,6 +1,6 @@
 use Rattle.std.proofs.Common.{◌≡◌, ◌++◌, drop}
 use Rattle.std.specs.String.{string_bytes}
-use Rattle.trace_picture.specs.Svg.{bytes_from}
+use Rattle.trace_picture.proofs.Letters.{bytes_from}
 use Rattle.trace_picture.proofs.picture.push_bytes.Given as goal
 
 abbrev pub invariant-loop-event : goal.invariant-loop-event
