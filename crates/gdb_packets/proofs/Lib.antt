@@ -3,4 +3,5 @@ pub mod Pieces
 pub mod SixteenDigits
 pub mod Framed
 pub mod NumbersBack
+mod WorkedAnswers
 mod WorkedCommands

@@ -1,8 +1,9 @@
--- Worked cases: whom vCont, c and s let run, and what monitor asks for.
+-- Worked cases: whom vCont, c and s let run, at what points it stops, and what monitor asks for.
 use Rattle.std.proofs.Common.{◌≡◌, refl}
 use Rattle.std.specs.Prelude.{codes}
 use Rattle.gdb_packets.specs.Commands.{asked}
 use Rattle.gdb_packets.specs.declared.command.Command.TheVariants as on
+use Rattle.gdb_packets.specs.declared.command.Point.TheVariants.{Watchpoint, ReadWatchpoint, AccessWatchpoint}
 use Rattle.gdb_packets.specs.declared.command.Resume.TheVariants.{Continue, Step}
 use Rattle.gdb_packets.specs.declared.command.Thread.TheVariants.{All, Any, One}
 use Rattle.gdb_packets.specs.declared.query.View.TheVariants.{Pages, Help}
@@ -25,6 +26,21 @@ as_was_chosen = refl
 
 a_step_as_was_chosen : asked (codes "s") ≡ on.Resume (Step Any) Any
 a_step_as_was_chosen = refl
+
+watched_for_changes : asked (codes "Z2,1000,8") ≡ on.Insert Watchpoint 0x1000 8
+watched_for_changes = refl
+
+watched_for_reads : asked (codes "Z3,1000,8") ≡ on.Insert ReadWatchpoint 0x1000 8
+watched_for_reads = refl
+
+watched_for_both : asked (codes "Z4,1008,4") ≡ on.Insert AccessWatchpoint 0x1008 4
+watched_for_both = refl
+
+no_more_for_reads : asked (codes "z3,1000,8") ≡ on.Remove ReadWatchpoint 0x1000 8
+no_more_for_reads = refl
+
+no_other_kind : asked (codes "Z5,1000,8") ≡ on.Unknown
+no_other_kind = refl
 
 monitor_pages : asked (codes "qRcmd,7061676573") ≡ on.Monitor Pages
 monitor_pages = refl

@@ -7,7 +7,7 @@ use Rattle.gdb_packets.specs.Digits.{byte_digits}
 use Rattle.gdb_packets.specs.Numbers.{digits}
 use Rattle.gdb_packets.specs.declared.answers.Stop.{Stop}
 use Rattle.gdb_packets.specs.declared.answers.StopReason.{StopReason}
-use Rattle.gdb_packets.specs.declared.answers.StopReason.TheVariants.{Trap, Watch, Interrupt, Illegal, Segmentation, Misaligned, Begin, End}
+use Rattle.gdb_packets.specs.declared.answers.StopReason.TheVariants.{Trap, Watch, ReadWatch, AccessWatch, Interrupt, Illegal, Segmentation, Misaligned, Begin, End}
 
 -- a part of a document, so many bytes from an offset on at most: m before a part that more follow, l before the last
 abbrev pub part_of : List ℕ → ℕ → ℕ → List ℕ
@@ -42,6 +42,8 @@ thread_list (first ∷ others) = 109 ∷ digits first ++ flat_map one_more other
 abbrev pub signal_number : StopReason → ℕ
 signal_number Trap = 5
 signal_number (Watch address) = 5
+signal_number (ReadWatch address) = 5
+signal_number (AccessWatch address) = 5
 signal_number Interrupt = 2
 signal_number Illegal = 4
 signal_number Segmentation = 11
@@ -49,9 +51,15 @@ signal_number Misaligned = 10
 signal_number Begin = 5
 signal_number End = 5
 
+-- a word for watched bytes, and the address from which on they are watched
+abbrev pub watch_note : List ℕ → ℕ → List ℕ
+watch_note word address = word ++ digits address ++ codes ";"
+
 -- what tells of a reason beside its signal
 abbrev pub stop_note : StopReason → List ℕ
-stop_note (Watch address) = codes "watch:" ++ digits address ++ codes ";"
+stop_note (Watch address) = watch_note (codes "watch:") address
+stop_note (ReadWatch address) = watch_note (codes "rwatch:") address
+stop_note (AccessWatch address) = watch_note (codes "awatch:") address
 stop_note Begin = codes "replaylog:begin;"
 stop_note End = codes "replaylog:end;"
 stop_note Trap = []

@@ -9,7 +9,7 @@ use Rattle.gdb_packets.specs.declared.command.Thread.TheVariants.{All, Any, One}
 use Rattle.gdb_packets.specs.declared.command.Resume.{Resume}
 use Rattle.gdb_packets.specs.declared.command.Resume.TheVariants.{Continue, Step}
 use Rattle.gdb_packets.specs.declared.command.Point.{Point}
-use Rattle.gdb_packets.specs.declared.command.Point.TheVariants.{Breakpoint, Watchpoint}
+use Rattle.gdb_packets.specs.declared.command.Point.TheVariants.{Breakpoint, Watchpoint, ReadWatchpoint, AccessWatchpoint}
 use Rattle.gdb_packets.specs.declared.packet_text.Numbers.{Numbers}
 use Rattle.gdb_packets.specs.declared.query.Document.{Document}
 use Rattle.gdb_packets.specs.declared.query.Document.TheVariants.{Registers, File}
@@ -126,9 +126,13 @@ anew text = if begins text (codes "Kill;") then on.EndProgram else (if begins te
 abbrev pub long_named : List ℕ → Command
 long_named text = if is_text text (codes "Cont?") then on.ResumeKinds else (if begins text (codes "Cont;") then action (drop 5 text) else anew text)
 
--- Z and z: types 0 and 1 are breakpoints, type 2 is bytes that are watched
+-- Z and z: types 0 and 1 are breakpoints; types 2, 3 and 4 are bytes that are watched for changes, for reads, and for both
 abbrev pub point_of : List ℕ → Option Point
-point_of kind = if is_text kind (codes "0") || is_text kind (codes "1") then Some Breakpoint else (if is_text kind (codes "2") then Some Watchpoint else None)
+point_of kind =
+    if is_text kind (codes "0") || is_text kind (codes "1") then Some Breakpoint
+    else (if is_text kind (codes "2") then Some Watchpoint
+    else (if is_text kind (codes "3") then Some ReadWatchpoint
+    else (if is_text kind (codes "4") then Some AccessWatchpoint else None)))
 
 abbrev pub placed : (inserts : Bool) → Option Point → Option Numbers → Command
 placed inserts point None = on.Malformed

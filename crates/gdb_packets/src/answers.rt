@@ -14,6 +14,10 @@ pub enum StopReason {
     Trap,
     /// Bytes that are watched became others; the first of them has this address.
     Watch(u64),
+    /// One of the bytes was read that are watched for reads, from this address on.
+    ReadWatch(u64),
+    /// One of the bytes was read or written that are watched for both, from this address on.
+    AccessWatch(u64),
     /// It was interrupted, or went on for long enough.
     Interrupt,
     /// Its next instruction is none.
@@ -160,8 +164,22 @@ fn signal_number(reason: StopReason) -> u8
         StopReason::Illegal => 4,
         StopReason::Misaligned => 10,
         StopReason::Segmentation => 11,
-        StopReason::Trap | StopReason::Watch(_) | StopReason::Begin | StopReason::End => 5,
+        StopReason::Trap
+        | StopReason::Watch(_)
+        | StopReason::ReadWatch(_)
+        | StopReason::AccessWatch(_)
+        | StopReason::Begin
+        | StopReason::End => 5,
     }
+}
+
+/// Adds the word that tells of watched bytes, with the address from which on they are watched.
+fn push_watch(text: &mut Vec<u8>, word: &[u8], address: u64) -> Result<(), AllocError>
+    ensures { OnOk result (text.new.items ≡ text.old.items ++ meant.watch_note word.now address) }
+{
+    text.extend_from_slice(word)?;
+    push_number(text, address)?;
+    text.extend_from_slice(b";")
 }
 
 /// Adds what tells of a stop beside its signal and its thread.
@@ -169,11 +187,9 @@ fn push_note(text: &mut Vec<u8>, reason: StopReason) -> Result<(), AllocError>
     ensures { OnOk result (text.new.items ≡ text.old.items ++ meant.stop_note reason) }
 {
     match reason {
-        StopReason::Watch(address) => {
-            text.extend_from_slice(b"watch:")?;
-            push_number(text, address)?;
-            text.extend_from_slice(b";")
-        }
+        StopReason::Watch(address) => push_watch(text, b"watch:", address),
+        StopReason::ReadWatch(address) => push_watch(text, b"rwatch:", address),
+        StopReason::AccessWatch(address) => push_watch(text, b"awatch:", address),
         StopReason::Begin => text.extend_from_slice(b"replaylog:begin;"),
         StopReason::End => text.extend_from_slice(b"replaylog:end;"),
         StopReason::Trap

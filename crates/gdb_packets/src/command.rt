@@ -33,6 +33,10 @@ pub enum Point {
     Breakpoint,
     /// Bytes that became others (type 2).
     Watchpoint,
+    /// Bytes of which one was read (type 3).
+    ReadWatchpoint,
+    /// Bytes of which one was read or written (type 4).
+    AccessWatchpoint,
 }
 
 /// What is asked for.
@@ -303,6 +307,10 @@ fn point_of(kind: &[u8]) -> Option<Point>
         Some(Point::Breakpoint)
     } else if is_text(kind, b"2") {
         Some(Point::Watchpoint)
+    } else if is_text(kind, b"3") {
+        Some(Point::ReadWatchpoint)
+    } else if is_text(kind, b"4") {
+        Some(Point::AccessWatchpoint)
     } else {
         None
     }

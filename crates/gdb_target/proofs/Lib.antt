@@ -14,6 +14,7 @@ pub mod Sending
 pub mod Serving
 pub mod Shows
 pub mod Stood
+pub mod Using
 pub mod Watching
 mod WorkedBefore
 mod WorkedBeginning
@@ -21,3 +22,4 @@ mod WorkedEnds
 mod WorkedLetRun
 mod WorkedRecord
 mod WorkedRows
+mod WorkedTouches

@@ -1,29 +1,32 @@
 -- Runs that lead to no stop are so many stretches, at none of whose ends a process of the program stands at a breakpoint.
 use Rattle.std.proofs.Common.{◌≡◌, ◌∙◌, ℕ, zero, suc, ◌+◌, ◌<◌, ◌≤◌, inl, Bool, true, false, List, [], ◌∷◌, ◌++◌, refl, sym, ap, subst, arith, length, length-append, Option, None, Some}
-use Rattle.std.specs.Prelude.{replicate, ◌&&◌, not, is_some}
-use Rattle.std.proofs.lemmas.Bool.{and_parts, false≢true, or_parts, not-true}
-use Rattle.std.proofs.lemmas.List.{length-replicate}
+use Rattle.std.specs.Prelude.{replicate, ◌&&◌, ◌==◌, if◌then◌else◌, not, is_none, is_some}
+use Rattle.std.proofs.lemmas.Bool.{and_parts, eqb-true, false≢true, or_parts, not-false, not-true}
+use Rattle.std.proofs.lemmas.List.{length-replicate, nil_from_length}
 use Rattle.kernel_spec.specs.runs.Run.{Run, Outcome, Step_of, Turn, Idle, Ticked, Typed, Sent, Halted}
 use Rattle.kernel_spec.specs.steps.Own.{Stepped, Called, Blocked, Exited, Faulted}
-use Rattle.kcall_core.specs.Observers.{registers_of}
+use Rattle.kcall_core.specs.Observers.{process_at, registers_of}
 use Rattle.rv64i_core.specs.Registers.{Registers}
 use Rattle.xv_machine.specs.Meaning.{Meaning}
 use Rattle.xv_machine.specs.Drives.{Goes}
 use Rattle.xv_machine.proofs.Joins.{goes-one}
 use Rattle.xv_session.specs.Answers.{Stopped}
+use Rattle.xv_session.specs.Looking.{next_step_of}
 use Rattle.xv_session.specs.Names.{place_in}
 use Rattle.xv_session.specs.Recorded.{Recorded, running_of}
 use Rattle.xv_session.specs.Steps.{Advances}
 use Rattle.xv_session.specs.Stops.{Unstopped, WentOn, is_before_stop, is_at_one, pc_is_one, stores_to_one, stops_for}
 use Rattle.xv_session.specs.Until as until
+use Rattle.xv_session.specs.declared.looking.NextStep.{NextStep}
 use Rattle.xv_session.specs.declared.running.Running.{Running}
 use Rattle.gdb_target.specs.Came.{Comes}
 use Rattle.gdb_target.specs.Forth.{Passed, Stretch, current_of, ends_alone, is_bare, is_done, is_step, is_reached, standing}
 use Rattle.gdb_target.specs.LastHit.{GoesForth, Looked, let_run_of}
 use Rattle.gdb_target.specs.LetRun.{if_let}
 use Rattle.gdb_target.specs.PlayedBy.{is_run}
-use Rattle.gdb_target.specs.Rows.{RunsToStop, watched_addresses, is_free, looks_at_row, starts_row}
-use Rattle.gdb_target.specs.Standing.{NextIsRun, stander, stander_of, starter_of, if_so, begins, is_among, is_place}
+use Rattle.gdb_target.specs.Rows.{RunsToStop, is_free, looks_at_row, starts_row}
+use Rattle.gdb_target.specs.Standing.{NextIsRun, does_instruction, stander, stander_of, starter, starter_of, if_so, begins, is_among, is_place}
+use Rattle.gdb_target.specs.Touches.{access_by, access_or, doer, first_used, if_done, of_program, read_by, touch_ahead, touch_of, touched, use_by, use_of_access, use_of_step, used_by, watched_addresses, watches_uses}
 use Rattle.gdb_target.specs.declared.let_run.LetRun.{LetRun}
 use Rattle.gdb_target.specs.declared.played.Played.{Played}
 use Rattle.gdb_target.specs.declared.points.Points.{Points}
@@ -34,6 +37,8 @@ use Rattle.gdb_target.specs.declared.target.Target.{Target}
 use Rattle.gdb_target.specs.declared.target.Until.{Until}
 use Rattle.gdb_target.specs.declared.target.Until.TheVariants.{Point, StepOf, AnyStep}
 use Rattle.gdb_target.specs.declared.target.Way.{Way}
+use Rattle.gdb_target.specs.declared.touches.Access.{Access}
+use Rattle.gdb_target.specs.declared.touches.Touch.{Touch}
 use Rattle.gdb_target.proofs.PlayedOn.{played_send, run_of_true}
 
 -- ---- a place that is before no stop
@@ -55,6 +60,58 @@ nobody-stands run program addresses bytes free = by run.session.machine.world.tu
     by (Some p) free =
         let s = run.session.machine.world.state in
         at p (begins run p) (among-none addresses (registers_of s p) (or_parts (is_at_one addresses s p) (stores_to_one bytes s p) free).0)
+
+-- ---- nothing is watched for reads
+
+use-none : (access : Access) (points : Points) → points.read.items ≡ [] → points.accessed.items ≡ [] → use_by access points ≡ None
+use-none access points no_reads none =
+    let read : read_by access points ≡ None = rw no_reads (by access.loads) in
+    let accessed : first_used access points.accessed.items ≡ None = ap (first_used access) none in
+    ap (λ (x : Option ℕ). access_or x (first_used access points.accessed.items)) read ∙ ap (access_or None) accessed
+  where
+    by : (b : Bool) → (if b then first_used access [] else None) ≡ None
+    by true = refl
+    by false = refl
+
+step-none : (points : Points) (access : Option Access) → points.read.items ≡ [] → points.accessed.items ≡ [] → use_of_access points access ≡ None
+step-none points None no_reads none = refl
+step-none points (Some access) no_reads none = use-none access points no_reads none
+
+use-of-none : (points : Points) (step : Option NextStep) → points.read.items ≡ [] → points.accessed.items ≡ [] → use_of_step points step ≡ None
+use-of-none points None no_reads none = refl
+use-of-none points (Some step) no_reads none = step-none points (access_by (until.instruction_in step.word) step.address) no_reads none
+
+touch-none : (run : Played) (points : Points) (p : Option ℕ) → points.read.items ≡ [] → points.accessed.items ≡ [] → touch_of run points p ≡ None
+touch-none run points None no_reads none = refl
+touch-none run points (Some p) no_reads none = ap (used_by p) (use-of-none points (next_step_of run.session.machine.world.state p) no_reads none)
+
+if-done-none : (touch : Option Touch) (o : Outcome) → touch ≡ None → if_done touch o ≡ None
+if-done-none touch o none = by (until.is_done o)
+  where
+    by : (b : Bool) → (if b then touch else None) ≡ None
+    by true = none
+    by false = refl
+
+-- so no use is told
+untouched : (r : LetRun) (t : Target) (o : Outcome) → watches_uses t.points ≡ false → touched r t o ≡ None
+untouched r t o spares =
+    let both = and_parts (length t.points.read.items == 0) (length t.points.accessed.items == 0) (not-false ((length t.points.read.items == 0) && (length t.points.accessed.items == 0)) spares) in
+    if-done-none (touch_ahead r t) o
+    (touch-none t.run t.points (if_let r (doer t.run t.program)) (nil_from_length t.points.read.items (eqb-true (length t.points.read.items) 0 both.0))
+    (nil_from_length t.points.accessed.items (eqb-true (length t.points.accessed.items) 0 both.1)))
+
+-- by another event than Run no instruction is done
+starter-none : (run : Played) → is_run (planned_at run.plan (length run.session.events)) ≡ false → starter run ≡ None
+starter-none run other = by run.session.machine.world.turns.current
+  where
+    by : (current : Option ℕ) → starter_of run current ≡ None
+    by None = refl
+    by (Some p) =
+        ap (λ (b : Bool). if_so ((b && is_none run.session.machine.world.turns.halted) && does_instruction (process_at run.session.machine.world p)) p) other
+
+pub untouched-by-other : (r : LetRun) (t : Target) (o : Outcome) → is_run (planned_at t.run.plan (length t.run.session.events)) ≡ false → touched r t o ≡ None
+untouched-by-other r t o other =
+    if-done-none (touch_ahead r t) o (ap (λ (p : Option ℕ). touch_of t.run t.points (if_let r (of_program t.run t.program p))) (starter-none t.run other))
 
 -- up to a point
 abbrev pub to_point : LetRun → Way
@@ -137,9 +194,11 @@ pub record IsRow (r : LetRun) (t : Target) (o : Outcome) (to : Target) : Type 0 
   pub looked : (q : LetRun) → Looked (back.Point q) stretches t last None
   pub stretch : Stretch Point last to o
   pub nobody : stander last.run last.program last.points.breakpoints.items ≡ None
+  pub untouched : (q : LetRun) → touched q last o ≡ None
   pub single : length to.run.session.events ≡ length last.run.session.events + 1
 
 module _ (r : LetRun) (t : Target) (bytes : List ℕ) (count : ℕ) (free : is_before_stop t.points.breakpoints.items bytes t.run.session.machine.world ≡ false)
+    (spares : watches_uses t.points ≡ false)
     (each : (k : ℕ) → k < count → planned_at t.run.plan (length t.run.session.events + k) ≡ Run) where
   abbrev addresses : List ℕ
   addresses = t.points.breakpoints.items
@@ -165,7 +224,8 @@ module _ (r : LetRun) (t : Target) (bytes : List ℕ) (count : ℕ) (free : is_b
       subst (λ (points : Points). is_before_stop points.breakpoints.items bytes new.machine.world ≡ false) (sym is.points) free_now in
       let here : stander last.run last.program last.points.breakpoints.items ≡ None = nobody-stands last.run last.program last.points.breakpoints.items bytes is.free in
       let nobody : standing r next ≡ None = ap (if_let r) (nobody-stands run last.program last.points.breakpoints.items bytes its_free) in
-      let forth : GoesForth last next = record { more = omega (arith, long); single = inl long } in (
+      let spared : watches_uses last.points ≡ false = subst (λ (points : Points). watches_uses points ≡ false) (sym is.points) spares in
+      let forth : GoesForth last o next = record { came = came; more = omega (arith, long); single = inl long } in (
         next,
         record {
           passed = (
@@ -174,12 +234,13 @@ module _ (r : LetRun) (t : Target) (bytes : List ℕ) (count : ℕ) (free : is_b
             record {
               outcome = o;
               stretch = record { came = came; single = inl long };
+              untouched = untouched r last o spared;
               no_step = ap (λ (b : Bool). is_reached b next) (no-step o);
               nobody = nobody;
               there = ap (λ (b : Bool). is_reached b next) (nobody-ends r o done);
             },
           );
-          looked = λ q. (last, None, None, is.looked q, record { told = ap (if_let q) here; forth = forth }, refl);
+          looked = λ q. (last, None, None, is.looked q, record { outcome = o; told = (ap (if_let q) here, untouched q last o spared); forth = forth }, refl);
           free = its_free;
           machine = refl;
           points = is.points;
@@ -221,6 +282,7 @@ module _ (r : LetRun) (t : Target) (bytes : List ℕ) (count : ℕ) (free : is_b
         looked = at.looked;
         stretch = record { came = comes-one last.run to.run o mid new at.machine refl (subst (λ y. Advances mid Run y new) same one) long; single = inl long };
         nobody = nobody-stands last.run last.program last.points.breakpoints.items bytes at.free;
+        untouched = λ q. untouched q last o (subst (λ (points : Points). watches_uses points ≡ false) (sym at.points) spares);
         single = long;
       }
 
@@ -229,8 +291,11 @@ module _ (r : LetRun) (t : Target) (bytes : List ℕ) (count : ℕ) (free : is_b
 row-free : (r : LetRun) (t to : Target) (bytes : List ℕ) (o : Outcome) → is_free bytes t ≡ true → RunsToStop t.points.breakpoints.items bytes t.run o to.run → IsRow r t o to
 row-free r t to bytes o starts ran =
     let at = is_before_stop t.points.breakpoints.items bytes t.run.session.machine.world in
-    let free : at ≡ false = not-true at (and_parts (is_some (current_of t)) (not at) starts).1 in
-    row r t bytes ran.sent free ran.runs to o ran.most ran.sent ran.met (omega arith) ran.stopped
+    let uses = watches_uses t.points in
+    let both = and_parts (is_some (current_of t) && not uses) (not at) starts in
+    let free : at ≡ false = not-true at both.1 in
+    let spares : uses ≡ false = not-true uses (and_parts (is_some (current_of t)) (not uses) both.0).1 in
+    row r t bytes ran.sent free spares ran.runs to o ran.most ran.sent ran.met (omega arith) ran.stopped
 
 pub row-of : (r : LetRun) (t to : Target) (bytes : List ℕ) (o : Outcome) → bytes ≡ watched_addresses t.points → is_free bytes t ≡ true
     → RunsToStop t.points.breakpoints.items (watched_addresses t.points) t.run o to.run → IsRow r t o to

@@ -22,8 +22,8 @@ module _ (old mid new : Target) (reason : StopReason) (p : ℕ) (h k : Option (L
   pub stops_told : StopsAt old reason p mid → new ≡ mid → Sends h k (stop_told mid) → StopsAt old reason p new × Sends h k (stop_told new)
   stops_told stops same sent = (subst (λ (t : Target). StopsAt old reason p t) (sym same) stops, subst (λ (t : Target). Sends h k (stop_told t)) (sym same) sent)
 
-pub reversed : (back : Back) (was old mid new : Target) (reason : StopReason) (p : ℕ) (h k : Option (List ℕ)) → GoesBackToLast back was old → StandsFor old back reason p
-    → StopsAt old reason p mid → new ≡ mid → Sends h k (stop_told mid) → IsReversed back was new h k
+pub reversed : (back : Back) (was old mid new : Target) (reason : StopReason) (p : ℕ) (h k : Option (List ℕ)) → GoesBackToLast back was old (record { reason = reason; pid = p })
+    → StandsFor old back reason p → StopsAt old reason p mid → new ≡ mid → Sends h k (stop_told mid) → IsReversed back was new h k
 reversed back was old mid new reason p h k last stands stops same sent =
     let told = stops_told old mid new reason p h k stops same sent in
     record { to = old; last = last; reason = reason; pid = p; stands = stands; stops = told.0; sent = told.1 }

@@ -1,7 +1,7 @@
 -- The addresses of bytes that are watched, one more.
 use Rattle.std.proofs.Common.{◌≡◌, ◌∙◌, ℕ, ◌+◌, ◌%◌, ◌^◌, List, [], ◌∷◌, ◌++◌, ap, append_assoc, arith, sym}
 use Rattle.std.proofs.lemmas.List.FromFn.{map-range_with_len_more}
-use Rattle.gdb_target.specs.Rows.{addresses_from}
+use Rattle.gdb_target.specs.Touches.{addresses_from}
 
 pub address-more : (address n x : ℕ) (old mid new : List ℕ) → mid ≡ old ++ addresses_from address n → x ≡ (address + n) % 2 ^ 64 → new ≡ mid ++ x ∷ []
     → new ≡ old ++ addresses_from address (n + 1)

@@ -1,17 +1,16 @@
 -- Stretches and looks, one after another.
 use Rattle.std.proofs.Common.{◌≡◌, ◌⊎◌, ◌∙◌, ℕ, zero, suc, ◌+◌, ◌<◌, ◌≤◌, inl, inr, length, refl, sym, ap, subst, arith, Option, None, Some}
 use Rattle.std.proofs.lemmas.Bool.{eq-eqb}
-use Rattle.std.specs.Prelude.{Bool, IfSome, IsSome, false, true}
+use Rattle.std.specs.Prelude.{Bool, IfSome, if◌then◌else◌, false, true}
 use Rattle.kernel_spec.specs.runs.Run.{Outcome}
-use Rattle.kernel_spec.specs.views.State.{live}
+use Rattle.xv_session.specs.Until.{is_done}
 use Rattle.gdb_packets.specs.declared.answers.StopReason.{StopReason}
-use Rattle.gdb_packets.specs.declared.answers.StopReason.TheVariants.{Watch}
 use Rattle.gdb_target.specs.Before.{told_before}
-use Rattle.gdb_target.specs.Forth.{Passed, Stretch, IsJudged, IsStopFor, Goes, GoesBy, Stands, TellsIf, halted_of, or_shows}
-use Rattle.gdb_target.specs.LastHit.{IsHitBefore, IsHitOf, IsPointHit, Looked, Looks, later, step_hit}
+use Rattle.gdb_target.specs.Forth.{Passed, Stretch, IsChanged, IsJudged, IsStopFor, IsUsedOrJudged, Goes, GoesBy, Stands, TellsIf, or_shows}
+use Rattle.gdb_target.specs.LastHit.{GoesForth, IsHitBefore, IsHitFor, IsHitOf, IsPointHit, Looked, Looks, later, step_hit}
 use Rattle.gdb_target.specs.LetRun.{lets}
 use Rattle.gdb_target.specs.Standing.{stander}
-use Rattle.gdb_target.specs.Told.{state_of}
+use Rattle.gdb_target.specs.Touches.{IsByChange, IsByInstruction, if_done, reason_of_use, touched}
 use Rattle.gdb_target.specs.declared.let_run.LetRun.{LetRun}
 use Rattle.gdb_target.specs.declared.reverse.Back.{Back}
 use Rattle.gdb_target.specs.declared.reverse.Back.TheVariants as backs
@@ -21,6 +20,9 @@ use Rattle.gdb_target.specs.declared.target.Pause.TheVariants.{Shows, Stopped, G
 use Rattle.gdb_target.specs.declared.target.Stopped as stops
 use Rattle.gdb_target.specs.declared.target.Target.{Target}
 use Rattle.gdb_target.specs.declared.target.Way.{Way}
+use Rattle.gdb_target.specs.declared.touches.Touch.{Touch}
+use Rattle.gdb_target.specs.declared.touches.Use.{Use}
+use Rattle.gdb_target.specs.declared.touches.Use.TheVariants as uses
 use Rattle.gdb_target.proofs.Rows.{IsRow, to_point}
 
 -- ---- forth
@@ -38,29 +40,38 @@ module _ (way : Way) where
   told-goes from mid new o p (Some s) stretch is told = subst (λ (q : Option Pause). Goes way from q new) (sym told.pause_is)
       (inl (record { happened = mid; outcome = o; stretch = stretch; told = is; back = told.back }))
 
-  stands-goes : (from mid new : Target) (o : Outcome) (p : Option Pause) → Stretch way.until from mid o → new ≡ mid → Stands way o new p → Goes way from p new
-  stands-goes from mid new o None stretch same stands =
-      record { outcome = o; stretch = subst (λ (t : Target). Stretch way.until from t o) (sym same) stretch; no_step = stands.0; nobody = stands.1; there = stands.2 }
-  stands-goes from mid new o (Some Shows) stretch same stands = absurd stands
-  stands-goes from mid new o (Some (Stopped s)) stretch same (why, trap, lets_it) = inr (record {
+  -- by a stretch after which no use of watched bytes is told
+  stands-goes : (from mid new : Target) (o : Outcome) (p : Option Pause) → Stretch way.until from mid o → touched way.let_run from o ≡ None → new ≡ mid → Stands way o new p → Goes way from p new
+  stands-goes from mid new o None stretch spared same stands = record {
     outcome = o;
     stretch = subst (λ (t : Target). Stretch way.until from t o) (sym same) stretch;
-    is = subst (λ (r : StopReason). IsStopFor way o r s.pid new) (sym why) trap;
+    untouched = spared;
+    no_step = stands.0;
+    nobody = stands.1;
+    there = stands.2;
+  }
+  stands-goes from mid new o (Some Shows) stretch spared same stands = absurd stands
+  stands-goes from mid new o (Some (Stopped s)) stretch spared same (why, trap, lets_it) = inr (record {
+    outcome = o;
+    stretch = subst (λ (t : Target). Stretch way.until from t o) (sym same) stretch;
+    is = subst (λ (r : StopReason). IsStopFor way from o r s.pid new) (sym why) trap;
     let_run = lets_it;
   })
-  stands-goes from mid new o (Some Gone) stretch same gone =
+  stands-goes from mid new o (Some Gone) stretch spared same gone =
       record { outcome = o; stretch = subst (λ (t : Target). Stretch way.until from t o) (sym same) stretch; gone = gone }
-  stands-goes from mid new o (Some (Ended status)) stretch same stands = absurd stands
+  stands-goes from mid new o (Some (Ended status)) stretch spared same stands = absurd stands
 
   -- what stands here after a stretch, or else what the console shows
-  pub shown-goes : (from new : Target) (o : Outcome) (p : Option Pause) (b : Bool) → Stretch way.until from new o → Stands way o new p → Goes way from (or_shows p b) new
-  shown-goes from new o None true stretch stands = stands-goes from new new o None stretch refl stands
-  shown-goes from new o None false stretch stands = stands-goes from new new o None stretch refl stands
-  shown-goes from new o (Some pause) b stretch stands = stands-goes from new new o (Some pause) stretch refl stands
+  pub shown-goes : (from new : Target) (o : Outcome) (p : Option Pause) (b : Bool) → Stretch way.until from new o → touched way.let_run from o ≡ None → Stands way o new p
+      → Goes way from (or_shows p b) new
+  shown-goes from new o None true stretch spared stands = stands-goes from new new o None stretch spared refl stands
+  shown-goes from new o None false stretch spared stands = stands-goes from new new o None stretch spared refl stands
+  shown-goes from new o (Some pause) b stretch spared stands = stands-goes from new new o (Some pause) stretch spared refl stands
 
-  pub judged-goes : (from mid new : Target) (o : Outcome) (p : Option Pause) → Stretch way.until from mid o → IsJudged way (told_before way.let_run o) o mid p new → Goes way from p new
-  judged-goes from mid new o p stretch (inl told) = told-goes from mid new o p (told_before way.let_run o) stretch refl told
-  judged-goes from mid new o p stretch (inr (same, stands)) = stands-goes from mid new o p stretch same stands
+  pub judged-goes : (from mid new : Target) (o : Outcome) (p : Option Pause) → Stretch way.until from mid o → touched way.let_run from o ≡ None
+      → IsJudged way (told_before way.let_run o) o mid p new → Goes way from p new
+  judged-goes from mid new o p stretch spared (inl told) = told-goes from mid new o p (told_before way.let_run o) stretch refl told
+  judged-goes from mid new o p stretch spared (inr (same, stands)) = stands-goes from mid new o p stretch spared same stands
 
   pub passed-join : (n m : ℕ) (a b c : Target) → Passed way n a b → Passed way m b c → (k : ℕ) × Passed way k a c
   passed-join n zero a b c p same = (n, subst (λ (t : Target). Passed way n a t) (sym same) p)
@@ -78,29 +89,59 @@ module _ (way : Way) where
   pub all-passed : (a c : Target) → GoesBy way a None c → (k : ℕ) × Passed way k a c
   all-passed a c g = (g.stretches, subst (λ (t : Target). Passed way g.stretches a t) (sym g.ends) g.passed)
 
+  changed-for : (a b : Target) (o : Outcome) (p : ℕ) (how : Use) → IsByChange how → IsChanged p b → IsStopFor way a o (reason_of_use how) p b
+  changed-for a b o p (uses.Change address) may is = is
+  changed-for a b o p (uses.Read address) may is = absurd may
+  changed-for a b o p (uses.Access address) may is = inr is
+
   -- by a stretch bytes that are watched became others
-  pub changed-goes : (a b : Target) (o : Outcome) (s : stops.Stopped) (address : ℕ) → Stretch way.until a b o → s.reason ≡ Watch address → halted_of b ≡ None
-      → IsSome (live (state_of b) s.pid) → lets way.let_run s.pid ≡ true → Goes way a (Some (Stopped s)) b
-  changed-goes a b o s address stretch why goes_on lives lets_it = inr (record {
+  pub changed-goes : (a b : Target) (o : Outcome) (s : stops.Stopped) (how : Use) → Stretch way.until a b o → s.reason ≡ reason_of_use how → IsByChange how → IsChanged s.pid b
+      → lets way.let_run s.pid ≡ true → Goes way a (Some (Stopped s)) b
+  changed-goes a b o s how stretch why may is lets_it = inr (record {
     outcome = o;
     stretch = stretch;
-    is = subst (λ (r : StopReason). IsStopFor way o r s.pid b) (sym why) (goes_on, lives);
+    is = subst (λ (r : StopReason). IsStopFor way a o r s.pid b) (sym why) (changed-for a b o s.pid how may is);
     let_run = lets_it;
   })
+
+  used-for : (a b : Target) (o : Outcome) (p : ℕ) (how : Use) → IsByInstruction how → touched way.let_run a o ≡ Some (record { pid = p; how = how }) → IsStopFor way a o (reason_of_use how) p b
+  used-for a b o p (uses.Change address) may is = absurd may
+  used-for a b o p (uses.Read address) may is = is
+  used-for a b o p (uses.Access address) may is = inl is
+
+  -- by a stretch an instruction used bytes that are watched; or it did not, and it is judged
+  pub used-goes : (a mid b : Target) (o : Outcome) (p : Option Pause) (used : Option Touch) → Stretch way.until a mid o → touched way.let_run a o ≡ used
+      → IfSome used (λ (it : Touch). IsByInstruction it.how) → IfSome used (λ (it : Touch). lets way.let_run it.pid ≡ true) → IsUsedOrJudged way used o mid p b → Goes way a p b
+  used-goes a mid b o p None stretch spared may lets_it judged = judged-goes a mid b o p stretch spared judged
+  used-goes a mid b o p (Some touch) stretch is may lets_it (paused, same) = subst (λ (q : Option Pause). Goes way a q b) (sym paused) (inr (record {
+    outcome = o;
+    stretch = subst (λ (t : Target). Stretch way.until a t o) (sym same) stretch;
+    is = used-for a b o touch.pid touch.how may is;
+    let_run = lets_it;
+  }))
+
+-- what holds of the use that is looked for holds of the one that is told
+pub if-done-keeps : (touch : Option Touch) (o : Outcome) (P : Touch → Type 0) → IfSome touch P → IfSome (if_done touch o) P
+if-done-keeps touch o P holds = by (is_done o)
+  where
+    by : (b : Bool) → IfSome (if b then touch else None) P
+    by true = holds
+    by false = tt
 
 -- a row, and what is judged of it
 pub row-goes : (r : LetRun) (a mid new : Target) (o : Outcome) (p : Option Pause) → IsRow r a o mid → IsJudged (to_point r) (told_before r o) o mid p new → GoesBy (to_point r) a p new
 row-goes r a mid new o p row judged =
-    goes-further (to_point r) row.stretches a row.last new p row.passed (goes-once (to_point r) row.last new p (judged-goes (to_point r) row.last mid new o p row.stretch judged))
+    goes-further (to_point r) row.stretches a row.last new p row.passed
+    (goes-once (to_point r) row.last new p (judged-goes (to_point r) row.last mid new o p row.stretch (row.untouched r) judged))
 
 -- by a row bytes that are watched became others
-pub row-changed : (r : LetRun) (a mid : Target) (o : Outcome) (s : stops.Stopped) (address : ℕ) → IsRow r a o mid → s.reason ≡ Watch address → halted_of mid ≡ None
-    → IsSome (live (state_of mid) s.pid) → lets r s.pid ≡ true → GoesBy (to_point r) a (Some (Stopped s)) mid
-row-changed r a mid o s address row why goes_on lives lets_it = record {
+pub row-changed : (r : LetRun) (a mid : Target) (o : Outcome) (s : stops.Stopped) (how : Use) → IsRow r a o mid → s.reason ≡ reason_of_use how → IsByChange how → IsChanged s.pid mid
+    → lets r s.pid ≡ true → GoesBy (to_point r) a (Some (Stopped s)) mid
+row-changed r a mid o s how row why may is lets_it = record {
   stretches = row.stretches;
   last = row.last;
   passed = row.passed;
-  ends = changed-goes (to_point r) row.last mid o s address row.stretch why goes_on lives lets_it;
+  ends = changed-goes (to_point r) row.last mid o s how row.stretch why may is lets_it;
 }
 
 -- ---- back
@@ -124,27 +165,41 @@ looked-join back n (suc m) a b c h k before (here, found, told, rest, looks, is)
     (suc j, (here, later h found, told, so_far, looks, ap (later h) is ∙ later-again h found told))
 
 -- a row, and what was told of its last Run
-pub row-looked : (r q : LetRun) (a to : Target) (o : Outcome) (h : Option Hit) (place : ℕ) → (row : IsRow q a o to) → length to.run.session.events ≡ place + 1 → IsPointHit r place None h
-    → (n : ℕ) × Looked (backs.Point r) n a to h
+pub row-looked : (r q : LetRun) (a to : Target) (o : Outcome) (h : Option Hit) (place : ℕ) → (row : IsRow q a o to) → length to.run.session.events ≡ place + 1
+    → IsPointHit r place None None h → (n : ℕ) × Looked (backs.Point r) n a to h
 row-looked r q a to o h place row count told =
     let same : place ≡ length row.last.run.session.events = omega (arith, count, row.single) in
-    let here : IsPointHit r (length row.last.run.session.events) (stander row.last.run row.last.program row.last.points.breakpoints.items) h =
-    subst (λ (s : Option ℕ). IsPointHit r (length row.last.run.session.events) s h) (sym row.nobody) (subst (λ (n : ℕ). IsPointHit r n None h) same told) in
-    (suc row.stretches, (row.last, None, h, row.looked r, record { told = here; forth = record { more = omega (arith, row.single); single = inl row.single } }, later-alone h))
+    let here : IsPointHit r (length row.last.run.session.events) (stander row.last.run row.last.program row.last.points.breakpoints.items) (touched r row.last o) h =
+    subst (λ (touch : Option Touch). IsPointHit r (length row.last.run.session.events) (stander row.last.run row.last.program row.last.points.breakpoints.items) touch h) (sym (row.untouched r))
+    (subst (λ (s : Option ℕ). IsPointHit r (length row.last.run.session.events) s None h) (sym row.nobody) (subst (λ (n : ℕ). IsPointHit r n None None h) same told)) in
+    let forth : GoesForth row.last o to = record { came = row.stretch.came; more = omega (arith, row.single); single = inl row.single } in
+    (suc row.stretches, (row.last, None, h, row.looked r, record { outcome = o; told = here; forth = forth }, later-alone h))
 
-pub hit-within : (b : Back) (r : LetRun) (h : Option Hit) (place end : ℕ) (stands : Option ℕ) → b ≡ backs.Point r → IsPointHit r place stands h → place < end
+pub hit-within : (b : Back) (r : LetRun) (h : Option Hit) (place end : ℕ) (stands : Option ℕ) (touch : Option Touch) → b ≡ backs.Point r → IsPointHit r place stands touch h → place < end
     → IfSome h (λ (found : Hit). IsHitBefore b end found)
-hit-within b r None place end stands is told within = tt
-hit-within b r (Some h) place end stands is told within = subst (λ (x : Back). IsHitBefore x end h) (sym is) (omega (arith, told.0, within), told.2)
+hit-within b r None place end stands touch is told within = tt
+hit-within b r (Some h) place end stands touch is told within = subst (λ (x : Back). IsHitBefore x end h) (sym is) (omega (arith, told.0, within), told.2)
 
 pub hit-of-step : (stood : Bool) (place p : ℕ) → IfSome (step_hit stood place p) (λ (found : Hit). IsHitOf (backs.StepOf p) place found)
 hit-of-step true place p = (refl, eq-eqb p p refl)
 hit-of-step false place p = tt
 
+-- why it is told
+pub hit-for-change : (stands : Option ℕ) (touch : Option Touch) (p : ℕ) (how : Use) → IsByChange how → IsHitFor stands touch p (Some how)
+hit-for-change stands touch p (uses.Change address) may = tt
+hit-for-change stands touch p (uses.Read address) may = absurd may
+hit-for-change stands touch p (uses.Access address) may = tt
+
+pub hit-for-use : (stands : Option ℕ) (p : ℕ) (how : Use) → IsHitFor stands (Some (record { pid = p; how = how })) p (Some how)
+hit-for-use stands p (uses.Change address) = tt
+hit-for-use stands p (uses.Read address) = refl
+hit-for-use stands p (uses.Access address) = tt
+
 -- what is told of a place is of a process that is let run
-pub hit-of : (r : LetRun) (h : Option Hit) (place : ℕ) (stands : Option ℕ) → IsPointHit r place stands h → IfSome h (λ (found : Hit). IsHitOf (backs.Point r) place found)
-hit-of r None place stands told = tt
-hit-of r (Some h) place stands told = (told.0, told.2)
+pub hit-of : (r : LetRun) (h : Option Hit) (place : ℕ) (stands : Option ℕ) (touch : Option Touch) → IsPointHit r place stands touch h
+    → IfSome h (λ (found : Hit). IsHitOf (backs.Point r) place found)
+hit-of r None place stands touch told = tt
+hit-of r (Some h) place stands touch told = (told.0, told.2)
 
 pub hit-here : (b : Back) (h : Option Hit) (place end : ℕ) → IfSome h (λ (found : Hit). IsHitOf b place found) → place < end → IfSome h (λ (found : Hit). IsHitBefore b end found)
 hit-here b None place end told within = tt

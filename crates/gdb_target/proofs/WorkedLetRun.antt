@@ -9,6 +9,7 @@ use Rattle.gdb_target.specs.LetRun.{if_let, lets, teller}
 use Rattle.gdb_target.specs.LastHit.{IsPointHit, let_run_of}
 use Rattle.gdb_target.specs.declared.let_run.LetRun.TheVariants.{All, Alone}
 use Rattle.gdb_target.specs.declared.reverse.Back.TheVariants.{StepOf}
+use Rattle.gdb_target.specs.declared.touches.Use.TheVariants.{Change}
 
 -- ---- whose stops are told
 
@@ -52,8 +53,8 @@ not_if_all_are_let_run = refl
 a_step_back_is_of_its_process : let_run_of (StepOf 4) ≡ Alone 4
 a_step_back_is_of_its_process = refl
 
-a_way_back_passes_another : IsPointHit (Alone 4) 7 (Some 5) None
-a_way_back_passes_another = refl
+a_way_back_passes_another : IsPointHit (Alone 4) 7 (Some 5) None None
+a_way_back_passes_another = (refl, refl)
 
-a_hit_of_another_is_none : IsPointHit (Alone 4) 7 (Some 5) (Some (record { place = 7; pid = 5; watched = Some 0x1000 })) → ⊥
+a_hit_of_another_is_none : IsPointHit (Alone 4) 7 (Some 5) None (Some (record { place = 7; pid = 5; watched = Some (Change 0x1000) })) → ⊥
 a_hit_of_another_is_none hit = cc

@@ -6,7 +6,7 @@ use Rattle.gdb_packets.specs.Answers.{refusal}
 use Rattle.gdb_packets.specs.declared.command.Command.{Command}
 use Rattle.gdb_packets.specs.declared.command.Command.TheVariants as on
 use Rattle.gdb_packets.specs.declared.command.Point.{Point}
-use Rattle.gdb_packets.specs.declared.command.Point.TheVariants.{Breakpoint, Watchpoint}
+use Rattle.gdb_packets.specs.declared.command.Point.TheVariants.{Breakpoint, Watchpoint, ReadWatchpoint, AccessWatchpoint}
 use Rattle.gdb_packets.specs.declared.command.Resume.{Resume}
 use Rattle.gdb_packets.specs.declared.command.Resume.TheVariants.{Continue, Step}
 use Rattle.gdb_packets.specs.declared.command.Thread.{Thread}
@@ -128,15 +128,23 @@ without_breakpoint address points = filter (λ a. not (a == address)) points
 abbrev pub without_watched : Watched → List Watched → List Watched
 without_watched watched points = filter (λ w. not (is_same w watched)) points
 
+-- so many bytes, from an address on
+abbrev pub bytes_at : (address length : ℕ) → Watched
+bytes_at address length = record { address = address; length = length }
+
 -- A point was put: the others are as they were
 abbrev pub IsPut : Point → (address length : ℕ) → (old new : Points) → Type 0
-IsPut Breakpoint address length old new = (new.breakpoints.items ≡ with_breakpoint address old.breakpoints.items) × (new.watched.items ≡ old.watched.items)
-IsPut Watchpoint address length old new = (new.breakpoints.items ≡ old.breakpoints.items) × (new.watched.items ≡ with_watched (record { address = address; length = length }) old.watched.items)
+IsPut Breakpoint address length old new = (new ≡ record old { breakpoints = new.breakpoints }) × (new.breakpoints.items ≡ with_breakpoint address old.breakpoints.items)
+IsPut Watchpoint address length old new = (new ≡ record old { watched = new.watched }) × (new.watched.items ≡ with_watched (bytes_at address length) old.watched.items)
+IsPut ReadWatchpoint address length old new = (new ≡ record old { read = new.read }) × (new.read.items ≡ with_watched (bytes_at address length) old.read.items)
+IsPut AccessWatchpoint address length old new = (new ≡ record old { accessed = new.accessed }) × (new.accessed.items ≡ with_watched (bytes_at address length) old.accessed.items)
 
 -- A point was taken away: the others are as they were
 abbrev pub IsTaken : Point → (address length : ℕ) → (old new : Points) → Type 0
-IsTaken Breakpoint address length old new = (new.breakpoints.items ≡ without_breakpoint address old.breakpoints.items) × (new.watched.items ≡ old.watched.items)
-IsTaken Watchpoint address length old new = (new.breakpoints.items ≡ old.breakpoints.items) × (new.watched.items ≡ without_watched (record { address = address; length = length }) old.watched.items)
+IsTaken Breakpoint address length old new = (new ≡ record old { breakpoints = new.breakpoints }) × (new.breakpoints.items ≡ without_breakpoint address old.breakpoints.items)
+IsTaken Watchpoint address length old new = (new ≡ record old { watched = new.watched }) × (new.watched.items ≡ without_watched (bytes_at address length) old.watched.items)
+IsTaken ReadWatchpoint address length old new = (new ≡ record old { read = new.read }) × (new.read.items ≡ without_watched (bytes_at address length) old.read.items)
+IsTaken AccessWatchpoint address length old new = (new ≡ record old { accessed = new.accessed }) × (new.accessed.items ≡ without_watched (bytes_at address length) old.accessed.items)
 
 -- nothing but points changed
 abbrev pub PointsAlone : (old new : Target) → Type 0
@@ -150,6 +158,8 @@ Puts point address length old new text = PointsAlone old new × IsPut point addr
 abbrev pub is_too_long : Point → (length : ℕ) → Bool
 is_too_long Breakpoint length = false
 is_too_long Watchpoint length = nat_lt WATCHED_MOST length
+is_too_long ReadWatchpoint length = nat_lt WATCHED_MOST length
+is_too_long AccessWatchpoint length = nat_lt WATCHED_MOST length
 
 -- A point that watches too many bytes is refused, and changes nothing
 abbrev pub IsInsertedIf : (too_long : Bool) → Point → (address length : ℕ) → (old new : Target) → (text : List ℕ) → Type 0

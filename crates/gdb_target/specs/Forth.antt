@@ -12,6 +12,7 @@ use Rattle.gdb_target.specs.LetRun.{if_let, lets, teller}
 use Rattle.gdb_target.specs.SameRun.{beginning}
 use Rattle.gdb_target.specs.Standing.{stander}
 use Rattle.gdb_target.specs.Told.{state_of}
+use Rattle.gdb_target.specs.Touches.{reason_of_use, touched, watches_uses}
 use Rattle.gdb_target.specs.declared.let_run.LetRun.{LetRun}
 use Rattle.gdb_target.specs.declared.let_run.LetRun.TheVariants.{All, Alone}
 use Rattle.gdb_target.specs.declared.points.Points.{Points}
@@ -22,6 +23,8 @@ use Rattle.gdb_target.specs.declared.target.Target.{Target}
 use Rattle.gdb_target.specs.declared.target.Until.{Until}
 use Rattle.gdb_target.specs.declared.target.Until.TheVariants.{Point, StepOf, AnyStep}
 use Rattle.gdb_target.specs.declared.target.Way.{Way}
+use Rattle.gdb_target.specs.declared.touches.Touch.{Touch}
+use Rattle.gdb_target.specs.declared.touches.Use.TheVariants.{Read, Access}
 
 -- ---- steps
 
@@ -84,7 +87,7 @@ standing let_run t = if_let let_run (stander t.run t.program t.points.breakpoint
 
 -- there is no point
 abbrev pub is_bare : Points → Bool
-is_bare points = (length points.breakpoints.items == 0) && (length points.watched.items == 0)
+is_bare points = ((length points.breakpoints.items == 0) && (length points.watched.items == 0)) && not (watches_uses points)
 
 -- each place at which somebody runs is looked at
 abbrev pub looks_at_each : Until → Points → Bool
@@ -119,10 +122,12 @@ is_gone way o t = is_reached (ends_alone way.let_run o) t
 
 -- ---- the way
 
--- at its end no step is done that is waited for, no process that is let run stands at a breakpoint, and the one that is let run alone isn't gone
+-- at its end no step is done that is waited for, no process that is let run stands at a breakpoint, and the one that is let run alone isn't gone; and
+-- no instruction of one that is let run read bytes that are watched for reads, or used bytes that are watched for reads and writes
 pub record IsPassed (way : Way) (from to : Target) : Type 0 where
   pub outcome : Outcome
   pub stretch : Stretch way.until from to outcome
+  pub untouched : touched way.let_run from outcome ≡ None
   pub no_step : is_step_done way outcome to ≡ false
   pub nobody : standing way.let_run to ≡ None
   pub there : is_gone way outcome to ≡ false
@@ -151,11 +156,18 @@ pub record IsStepDone (way : Way) (o : Outcome) (p : ℕ) (t : Target) : Type 0 
 abbrev pub IsTrap : Way → Outcome → (p : ℕ) → Target → Type 0
 IsTrap way o p t = (IsStepDone way o p t ⊎ (standing way.let_run t ≡ Some p)) × (is_gone way o t ≡ false)
 
--- Why it stops: at a trap; or since bytes that are watched became others, of a process that lives
-abbrev pub IsStopFor : Way → Outcome → StopReason → (p : ℕ) → Target → Type 0
-IsStopFor way o why.Trap p t = IsTrap way o p t
-IsStopFor way o (why.Watch address) p t = (halted_of t ≡ None) × IsSome (live (state_of t) p)
-IsStopFor way o _ p t = ⊥
+-- bytes that are watched became others, of a process that lives
+abbrev pub IsChanged : (p : ℕ) → Target → Type 0
+IsChanged p t = (halted_of t ≡ None) × IsSome (live (state_of t) p)
+
+-- Why it stops: at a trap; since bytes that are watched became others; since the instruction of the last event read bytes that are watched for reads; or since it used
+-- bytes that are watched for reads and writes, or these became others
+abbrev pub IsStopFor : Way → (from : Target) → Outcome → StopReason → (p : ℕ) → Target → Type 0
+IsStopFor way from o why.Trap p t = IsTrap way o p t
+IsStopFor way from o (why.Watch address) p t = IsChanged p t
+IsStopFor way from o (why.ReadWatch address) p t = touched way.let_run from o ≡ Some (record { pid = p; how = Read address })
+IsStopFor way from o (why.AccessWatch address) p t = (touched way.let_run from o ≡ Some (record { pid = p; how = Access address })) ⊎ IsChanged p t
+IsStopFor way from o _ p t = ⊥
 
 -- From the place to which the run had come it went back by one event, and notes that this place was told
 pub record IsOneBack (old new : Target) : Type 0 where
@@ -175,7 +187,7 @@ pub record IsBeforeTold (way : Way) (from : Target) (stopped : stops.Stopped) (t
 pub record IsStop (way : Way) (from : Target) (reason : StopReason) (p : ℕ) (to : Target) : Type 0 where
   pub outcome : Outcome
   pub stretch : Stretch way.until from to outcome
-  pub is : IsStopFor way outcome reason p to
+  pub is : IsStopFor way from outcome reason p to
   pub let_run : lets way.let_run p ≡ true
 
 -- The last stretch led to where the process is gone that was let run alone
@@ -240,6 +252,11 @@ TellsIf (Some stopped) old pause new = Tells stopped old pause new
 -- the stop that is told before what came, if there is one; or what stands here
 abbrev pub IsJudged : Way → (before : Option stops.Stopped) → Outcome → (old : Target) → Option Pause → (new : Target) → Type 0
 IsJudged way before o old pause new = TellsIf before old pause new ⊎ ((new ≡ old) × Stands way o new pause)
+
+-- a use of watched bytes that an instruction made is told; or, if it made none, it is judged
+abbrev pub IsUsedOrJudged : Way → (used : Option Touch) → Outcome → (old : Target) → Option Pause → (new : Target) → Type 0
+IsUsedOrJudged way None o old pause new = IsJudged way (told_before way.let_run o) o old pause new
+IsUsedOrJudged way (Some touch) o old pause new = (pause ≡ Some (Stopped (record { reason = reason_of_use touch.how; pid = touch.pid }))) × (new ≡ old)
 
 -- the console shows bytes, and then it goes on
 abbrev pub shows : Option Pause → Bool

@@ -1,16 +1,24 @@
 -- What stood last among the places that a run goes by.
 use Rattle.std.specs.Prelude.{◌≡◌, ◌⊎◌, ℕ, zero, suc, ◌+◌, ◌<◌, Bool, true, false, length, Option, None, Some}
+use Rattle.kernel_spec.specs.runs.Run.{Outcome}
 use Rattle.kernel_spec.specs.views.Words.{is_this}
+use Rattle.gdb_packets.specs.declared.answers.StopReason.TheVariants.{Begin, Trap}
+use Rattle.gdb_target.specs.Came.{Comes}
 use Rattle.gdb_target.specs.Forth.{current_of}
 use Rattle.gdb_target.specs.LetRun.{if_let, lets}
 use Rattle.gdb_target.specs.SameRun.{beginning}
 use Rattle.gdb_target.specs.Standing.{stander, starter}
+use Rattle.gdb_target.specs.Touches.{reason_of_use, touched}
 use Rattle.gdb_target.specs.declared.let_run.LetRun.{LetRun}
 use Rattle.gdb_target.specs.declared.let_run.LetRun.TheVariants.{Alone}
 use Rattle.gdb_target.specs.declared.reverse.Back.{Back}
 use Rattle.gdb_target.specs.declared.reverse.Back.TheVariants.{StepOf, Point}
 use Rattle.gdb_target.specs.declared.reverse.Hit.{Hit}
+use Rattle.gdb_target.specs.declared.target.Stopped.{Stopped}
 use Rattle.gdb_target.specs.declared.target.Target.{Target}
+use Rattle.gdb_target.specs.declared.touches.Touch.{Touch}
+use Rattle.gdb_target.specs.declared.touches.Use.{Use}
+use Rattle.gdb_target.specs.declared.touches.Use.TheVariants.{Change, Read, Access}
 
 -- process p was about to do an instruction at this place, or not
 abbrev pub step_hit : (stood : Bool) → (place p : ℕ) → Option Hit
@@ -22,16 +30,22 @@ abbrev pub let_run_of : Back → LetRun
 let_run_of (StepOf p) = Alone p
 let_run_of (Point let_run) = let_run
 
--- Nothing is told only if no process that is let run stands at a breakpoint. What is told is of this place, and of one that is let run;
--- and if it is no change of watched bytes, that process stands there
-abbrev pub IsPointHit : LetRun → (place : ℕ) → (stands : Option ℕ) → Option Hit → Type 0
-IsPointHit let_run place stands None = if_let let_run stands ≡ None
-IsPointHit let_run place stands (Some h) = (h.place ≡ place) × (h.watched ≡ None → stands ≡ Some h.pid) × (lets let_run h.pid ≡ true)
+-- Why process p is told: it stands there, and its instruction uses no watched bytes; or it uses them so; or bytes became others
+abbrev pub IsHitFor : (stands : Option ℕ) → (touch : Option Touch) → (p : ℕ) → (watched : Option Use) → Type 0
+IsHitFor stands touch p None = (stands ≡ Some p) × (touch ≡ None)
+IsHitFor stands touch p (Some (Change address)) = Unit {0}
+IsHitFor stands touch p (Some (Read address)) = touch ≡ Some (record { pid = p; how = Read address })
+IsHitFor stands touch p (Some (Access address)) = Unit {0}
 
--- What is told of a place. Of a step, it is told exactly if the process is about to do an instruction there
-abbrev pub IsHitAt : Back → (place : ℕ) → Target → Option Hit → Type 0
-IsHitAt (StepOf p) place t hit = hit ≡ step_hit (is_this p (starter t.run)) place p
-IsHitAt (Point let_run) place t hit = IsPointHit let_run place (stander t.run t.program t.points.breakpoints.items) hit
+-- Nothing is told only if no process that is let run stands at a breakpoint, and the instruction uses no watched bytes. What is told is of this place, and of one that is let run
+abbrev pub IsPointHit : LetRun → (place : ℕ) → (stands : Option ℕ) → (touch : Option Touch) → Option Hit → Type 0
+IsPointHit let_run place stands touch None = (if_let let_run stands ≡ None) × (touch ≡ None)
+IsPointHit let_run place stands touch (Some h) = (h.place ≡ place) × IsHitFor stands touch h.pid h.watched × (lets let_run h.pid ≡ true)
+
+-- What is told of a place, of whose next event this came. Of a step, it is told exactly if the process is about to do an instruction there
+abbrev pub IsHitAt : Back → (place : ℕ) → Target → Outcome → Option Hit → Type 0
+IsHitAt (StepOf p) place t o hit = hit ≡ step_hit (is_this p (starter t.run)) place p
+IsHitAt (Point let_run) place t o hit = IsPointHit let_run place (stander t.run t.program t.points.breakpoints.items) (touched let_run t o) hit
 
 -- it is of this place, or of one before a place, and of a process that is let run
 abbrev pub IsHitOf : Back → (place : ℕ) → Hit → Type 0
@@ -45,15 +59,20 @@ abbrev pub later : (first second : Option Hit) → Option Hit
 later first None = first
 later first (Some h) = Some h
 
--- The run went on: by one event, or by more if nobody ran
-pub record GoesForth (from to : Target) : Type 0 where
+-- The run went on, and this came of it: by one event, or by more if nobody ran
+pub record GoesForth (from : Target) (o : Outcome) (to : Target) : Type 0 where
+  pub came : Comes from.run to.run o
   pub more : length from.run.session.events < length to.run.session.events
   pub single : (length to.run.session.events ≡ length from.run.session.events + 1) ⊎ (current_of from ≡ None)
 
--- The run went on from here, and what stood here was told
-pub record Looks (back : Back) (here on : Target) (hit : Option Hit) : Type 0 where
-  pub told : IsHitAt back (length here.run.session.events) here hit
-  pub forth : GoesForth here on
+-- The run went on from here, and what stood at this place was told
+pub record LooksAt (back : Back) (place : ℕ) (here on : Target) (hit : Option Hit) : Type 0 where
+  pub outcome : Outcome
+  pub told : IsHitAt back place here outcome hit
+  pub forth : GoesForth here outcome on
+
+abbrev pub Looks : Back → (here on : Target) → Option Hit → Type 0
+Looks back here on hit = LooksAt back (length here.run.session.events) here on hit
 
 -- So many looks, one after another, and the last of what they told
 abbrev pub Looked : Back → (looks : ℕ) → (from to : Target) → Option Hit → Type 0
@@ -75,14 +94,24 @@ pub record IsLastOf (back : Back) (here to : Target) (hit : Option Hit) : Type 0
   pub looks : LooksFrom back begin here to hit
   pub whole : hit ≡ None → begin ≡ 0
 
+-- A use of watched bytes is told as what it is, and of its process; else a trap is told, or that it is the run's begin
+abbrev pub IsToldUse : Option Use → (p : ℕ) → Stopped → Type 0
+IsToldUse None p s = (s.reason ≡ Trap) ⊎ (s.reason ≡ Begin)
+IsToldUse (Some how) p s = (s.reason ≡ reason_of_use how) × (s.pid ≡ p)
+
+abbrev pub IsToldBy : Option Hit → Stopped → Type 0
+IsToldBy None s = s.reason ≡ Begin
+IsToldBy (Some h) s = IsToldUse h.watched h.pid s
+
 -- The way back ends there, or at the first place if nothing stood
 abbrev pub EndsAt : Option Hit → Target → Type 0
 EndsAt None t = length t.run.session.events ≡ 0
 EndsAt (Some h) t = length t.run.session.events ≡ h.place
 
--- The run went back to what stood last before here
-pub record GoesBackToLast (back : Back) (old new : Target) : Type 0 where
+-- The run went back to what stood last before here, which the stop tells
+pub record GoesBackToLast (back : Back) (old new : Target) (s : Stopped) : Type 0 where
   pub to : Target
   pub hit : Option Hit
   pub last : IsLastOf back old to hit
   pub ends : EndsAt hit new
+  pub told : IsToldBy hit s

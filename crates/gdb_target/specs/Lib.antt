@@ -23,3 +23,4 @@ pub mod Serving
 pub mod Settings
 pub mod Standing
 pub mod Told
+pub mod Touches

@@ -1,34 +1,18 @@
 -- Runs that a run got in a row.
-use Rattle.std.specs.Prelude.{◌≡◌, ℕ, ◌+◌, ◌%◌, ◌^◌, ◌<◌, ◌&&◌, not, Bool, false, List, length, map, flat_map, Some, is_some}
-use Rattle.std.specs.List.{range_with_len}
+use Rattle.std.specs.Prelude.{◌≡◌, ℕ, ◌+◌, ◌<◌, ◌&&◌, not, Bool, false, List, length, Some, is_some}
 use Rattle.kernel_spec.specs.runs.Run.{Run, Outcome}
 use Rattle.xv_session.specs.Answers.{Stopped}
 use Rattle.xv_session.specs.Stops.{is_before_stop}
 use Rattle.gdb_target.specs.Forth.{current_of, is_bare}
 use Rattle.gdb_target.specs.PlayedBy.{is_run}
 use Rattle.gdb_target.specs.Plan.{planned_at}
+use Rattle.gdb_target.specs.Touches.{watches_uses}
 use Rattle.gdb_target.specs.declared.played.Played.{Played}
-use Rattle.gdb_target.specs.declared.points.Points.{Points}
-use Rattle.gdb_target.specs.declared.points.Watched.{Watched}
 use Rattle.gdb_target.specs.declared.reverse.Back.{Back}
 use Rattle.gdb_target.specs.declared.reverse.Back.TheVariants as backs
 use Rattle.gdb_target.specs.declared.target.Target.{Target}
 use Rattle.gdb_target.specs.declared.target.Until.{Until}
 use Rattle.gdb_target.specs.declared.target.Until.TheVariants.{Point, StepOf, AnyStep}
-
--- ---- what is watched
-
--- so many addresses, from one on
-abbrev pub addresses_from : (address count : ℕ) → List ℕ
-addresses_from address count = map (λ k. (address + k) % 2 ^ 64) (range_with_len 0 count)
-
--- the addresses of bytes that are watched together
-abbrev pub addresses_of : Watched → List ℕ
-addresses_of w = addresses_from w.address w.length
-
--- the addresses of all bytes that are watched
-abbrev pub watched_addresses : Points → List ℕ
-watched_addresses points = flat_map addresses_of points.watched.items
 
 -- ---- a row
 
@@ -43,9 +27,9 @@ pub record RunsToStop (addresses bytes : List ℕ) (from : Played) (o : Outcome)
 
 -- ---- where a row may start
 
--- a process runs, and doesn't stand before a stop
+-- a process runs, and doesn't stand before a stop; and no bytes are watched for reads, of which a row tells none
 abbrev pub is_free : (bytes : List ℕ) → Target → Bool
-is_free bytes t = is_some (current_of t) && not (is_before_stop t.points.breakpoints.items bytes t.run.session.machine.world)
+is_free bytes t = (is_some (current_of t) && not (watches_uses t.points)) && not (is_before_stop t.points.breakpoints.items bytes t.run.session.machine.world)
 
 -- there are points, and it is gone on up to one
 abbrev pub starts_row : Until → (bytes : List ℕ) → Target → Bool

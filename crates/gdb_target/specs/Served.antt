@@ -38,9 +38,9 @@ use Rattle.gdb_target.specs.declared.target.Way.{Way}
 -- The run went back to what was looked for; that stop is the last one from now on, and is sent
 pub record IsReversed (back : Back) (old new : Target) (before after : Option (List ℕ)) : Type 0 where
   pub to : Target
-  pub last : GoesBackToLast back old to
   pub reason : StopReason
   pub pid : ℕ
+  pub last : GoesBackToLast back old to (record { reason = reason; pid = pid })
   pub stands : StandsFor to back reason pid
   pub stops : StopsAt to reason pid new
   pub sent : Sends before after (stop_told new)

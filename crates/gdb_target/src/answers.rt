@@ -105,7 +105,9 @@ fn is_too_long(point: Point, length: u64) -> bool
 {
     match point {
         Point::Breakpoint => false,
-        Point::Watchpoint => length > WATCHED_MOST,
+        Point::Watchpoint | Point::ReadWatchpoint | Point::AccessWatchpoint => {
+            length > WATCHED_MOST
+        }
     }
 }
 

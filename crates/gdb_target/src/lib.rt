@@ -30,6 +30,7 @@ mod rounds;
 mod service;
 mod target;
 mod threads;
+mod touches;
 mod views;
 mod words;
 

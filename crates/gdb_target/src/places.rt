@@ -6,13 +6,13 @@ ghost use Rattle.kernel_spec.specs.views.Words.{is_this};
 ghost use Rattle.gdb_target.specs.LetRun.{lets};
 ghost use Rattle.gdb_target.specs.Standing.{Starts, StandsAt, begins, does_instruction, goes_on, is_place};
 ghost use Rattle.gdb_target.specs.Standing.{stander, stands_at, starter};
+ghost use Rattle.gdb_target.specs.Touches.{IsByChange};
 
 use crate::let_run::{LetRun, lets};
 use crate::played::{Played, is_run};
 use crate::points::{Points, Watched};
-use crate::target::Stopped;
 use crate::threads::is_live;
-use gdb_packets::StopReason;
+use crate::touches::{Touch, Use};
 use kcall_core::ProcessState;
 use std::alloc::{AllocError, Global};
 use xk_base::Pid;
@@ -71,7 +71,7 @@ pub(crate) fn is_starter(run: &Played, wanted: Pid) -> bool
 }
 
 /// Whether this is the place of the program.
-fn is_place(place: Option<usize>, program: usize) -> bool
+pub(crate) fn is_place(place: Option<usize>, program: usize) -> bool
     ensures { result ≡ is_place program place }
 {
     match place {
@@ -107,11 +107,23 @@ pub(crate) fn at_breakpoint(run: &Played, points: &Points, program: usize) -> Op
 #[derive(Drop)]
 pub(crate) struct Glimpse {
     of: Option<Pid>,
+    /// In those that are watched for changes.
     bytes: Vec<Option<u8>>,
+    /// In those that are watched for reads and writes.
+    accessed: Vec<Option<u8>>,
 }
 
 impl Glimpse {
-    /// Whether each of the bytes is there.
+    /// What stood in no bytes.
+    fn nothing(alloc: Global) -> Glimpse {
+        Glimpse {
+            of: None,
+            bytes: Vec::new(alloc),
+            accessed: Vec::new(alloc),
+        }
+    }
+
+    /// Whether each of the bytes is there that are watched for changes.
     pub fn is_whole(&self) -> bool
         ensures { result ≡ list_all (λ byte. is_some byte) self.now.bytes.items }
     {
@@ -119,7 +131,7 @@ impl Glimpse {
     }
 }
 
-/// Adds what stands in the bytes that are watched.
+/// Adds what stands in bytes that are watched together.
 fn push_bytes(
     machine: &Machine,
     pid: Pid,
@@ -132,6 +144,20 @@ fn push_bytes(
     Ok(())
 }
 
+/// What stands in all of these bytes.
+fn bytes_now(
+    alloc: Global,
+    machine: &Machine,
+    pid: Pid,
+    all: &[Watched],
+) -> Result<Vec<Option<u8>>, AllocError> {
+    let mut bytes = Vec::new(alloc);
+    for watched in all {
+        push_bytes(machine, pid, watched, &mut bytes)?;
+    }
+    Ok(bytes)
+}
+
 /// What stands in the bytes that are watched, of the process that runs; nothing where none of the program runs.
 pub(crate) fn watched_now(
     alloc: Global,
@@ -139,20 +165,17 @@ pub(crate) fn watched_now(
     points: &Points,
     program: usize,
 ) -> Result<Glimpse, AllocError> {
-    let mut bytes = Vec::new(alloc);
     let machine = run.machine();
     let Some(pid) = machine.current() else {
-        return Ok(Glimpse { of: None, bytes });
+        return Ok(Glimpse::nothing(alloc));
     };
-    if points.watched().is_empty() || run.session.program_of(pid) != Some(program) {
-        return Ok(Glimpse { of: None, bytes });
-    }
-    for watched in points.watched() {
-        push_bytes(machine, pid, watched, &mut bytes)?;
+    if points.sees_no_change() || run.session.program_of(pid) != Some(program) {
+        return Ok(Glimpse::nothing(alloc));
     }
     Ok(Glimpse {
         of: Some(pid),
-        bytes,
+        bytes: bytes_now(alloc, machine, pid, points.watched())?,
+        accessed: bytes_now(alloc, machine, pid, points.accessed.as_slice())?,
     })
 }
 
@@ -166,30 +189,8 @@ fn differs(machine: &Machine, pid: Pid, address: u64, bytes: &[Option<u8>]) -> b
     false
 }
 
-/// A change of bytes that are watched.
-#[derive(Clone, Copy)]
-pub(crate) struct Change {
-    /// The process whose bytes they are.
-    pub pid: Pid,
-    /// The address from which on they are watched.
-    pub address: u64,
-}
-
-impl Change {
-    /// The stop that tells it.
-    pub fn stopped(&self) -> Stopped
-        ensures reason { result.reason ≡ StopReason.Watch self.now.address }
-        ensures pid { result.pid ≡ self.now.pid }
-    {
-        Stopped {
-            reason: StopReason::Watch(self.address),
-            pid: self.pid,
-        }
-    }
-}
-
-/// This change, if its process is let run.
-pub(crate) fn if_told(change: Option<Change>, let_run: LetRun) -> Option<Change>
+/// This use, if its process is let run.
+pub(crate) fn if_told(change: Option<Touch>, let_run: LetRun) -> Option<Touch>
     ensures same { IfSome result (λ told. change ≡ Some told) }
     ensures lets { IfSome result (λ told. lets let_run told.pid ≡ true) }
 {
@@ -200,16 +201,36 @@ pub(crate) fn if_told(change: Option<Change>, let_run: LetRun) -> Option<Change>
     None
 }
 
-/// The first change of bytes that are watched, of the process that was glimpsed, if it lives, and the machine hasn't
-/// halted.
+/// The first of these in which other bytes stand now, by the address from which on they are watched.
+fn first_changed(
+    machine: &Machine,
+    pid: Pid,
+    all: &[Watched],
+    before: &[Option<u8>],
+) -> Option<u64> {
+    let mut rest = before;
+    for watched in all {
+        let count = watched.length.min(rest.len() as u64) as usize;
+        let (bytes, others) = rest.split_at(count);
+        if differs(machine, pid, watched.address, bytes) {
+            return Some(watched.address);
+        }
+        rest = others;
+    }
+    None
+}
+
+/// The first change of bytes that are watched for changes, or else of those that are watched for reads and writes, of the
+/// process that was glimpsed, if it lives, and the machine hasn't halted.
 pub(crate) fn changed(
     run: &Played,
     points: &Points,
     program: usize,
     before: &Glimpse,
-) -> Option<Change>
+) -> Option<Touch>
     ensures goes_on { IfSome result (λ _. run.now.session.machine.world.turns.halted ≡ None) }
     ensures lives { IfSome result (λ change. IsSome (live run.now.session.machine.world.state change.pid)) }
+    ensures may { IfSome result (λ change. IsByChange change.how) }
 {
     let pid = before.of?;
     let machine = run.machine();
@@ -219,17 +240,16 @@ pub(crate) fn changed(
     if !is_live(machine, pid) || run.session.program_of(pid) != Some(program) {
         return None;
     }
-    let mut rest = before.bytes.as_slice();
-    for watched in points.watched() {
-        let count = watched.length.min(rest.len() as u64) as usize;
-        let (bytes, others) = rest.split_at(count);
-        if differs(machine, pid, watched.address, bytes) {
-            return Some(Change {
-                pid,
-                address: watched.address,
-            });
-        }
-        rest = others;
+    if let Some(address) = first_changed(machine, pid, points.watched(), before.bytes.as_slice()) {
+        return Some(Touch {
+            pid,
+            how: Use::Change(address),
+        });
     }
-    None
+    let accessed = points.accessed.as_slice();
+    let address = first_changed(machine, pid, accessed, before.accessed.as_slice())?;
+    Some(Touch {
+        pid,
+        how: Use::Access(address),
+    })
 }

@@ -3,6 +3,8 @@ ghost use Rattle.std.specs.Prelude.{◌≡◌, [], ◌==◌, ◌&&◌, OnOk, len
 ghost use Rattle.std.specs.List.{list_any};
 ghost use Rattle.gdb_target.specs.Chosen.{IsPut, IsTaken, is_same};
 ghost use Rattle.gdb_target.specs.Chosen.{with_breakpoint, with_watched, without_breakpoint, without_watched};
+ghost use Rattle.gdb_target.specs.Forth.{is_bare};
+ghost use Rattle.gdb_target.specs.Touches.{watches_uses};
 
 use gdb_packets::Point;
 use std::alloc::{AllocError, Global};
@@ -22,7 +24,37 @@ pub(crate) const WATCHED_MOST: u64 = 1024;
 pub struct Points {
     /// The addresses of instructions that are about to be done.
     pub breakpoints: Vec<u64>,
+    /// Bytes that become others.
     pub watched: Vec<Watched>,
+    /// Bytes of which one is read.
+    pub read: Vec<Watched>,
+    /// Bytes of which one is read or written.
+    pub accessed: Vec<Watched>,
+}
+
+/// Whether these bytes are among those that are watched.
+fn has_same(list: &[Watched], watched: &Watched) -> bool
+    ensures { result ≡ list_any (λ w. is_same w watched.now) list.now }
+{
+    list.contains(watched)
+}
+
+/// Adds bytes that are watched, unless they are there.
+fn insert_into(list: &mut Vec<Watched>, watched: Watched) -> Result<(), AllocError>
+    ensures { OnOk result (list.new.items ≡ with_watched watched list.old.items) }
+{
+    if has_same(list.as_slice(), &watched) {
+        return Ok(());
+    }
+    list.push(watched)?;
+    Ok(())
+}
+
+/// Takes bytes that are watched away, if they are there.
+fn remove_from(list: &mut Vec<Watched>, taken: Watched)
+    ensures { list.new.items ≡ without_watched taken list.old.items }
+{
+    list.retain(|watched| *watched != taken);
 }
 
 impl Points {
@@ -30,18 +62,29 @@ impl Points {
     pub fn new(alloc: Global) -> Points
         ensures breakpoints { result.breakpoints.items ≡ [] }
         ensures watched { result.watched.items ≡ [] }
+        ensures read { result.read.items ≡ [] }
+        ensures accessed { result.accessed.items ≡ [] }
     {
         Points {
             breakpoints: Vec::new(alloc),
             watched: Vec::new(alloc),
+            read: Vec::new(alloc),
+            accessed: Vec::new(alloc),
         }
     }
 
     /// Whether there is none.
     pub fn is_empty(&self) -> bool
-        ensures { result ≡ (length self.now.breakpoints.items == 0) && (length self.now.watched.items == 0) }
+        ensures { result ≡ is_bare self.now }
     {
-        self.breakpoints.is_empty() && self.watched.is_empty()
+        self.breakpoints.is_empty() && self.watched.is_empty() && !self.watches_uses()
+    }
+
+    /// Whether bytes are watched for reads, or for reads and writes.
+    pub fn watches_uses(&self) -> bool
+        ensures { result ≡ watches_uses self.now }
+    {
+        !(self.read.is_empty() && self.accessed.is_empty())
     }
 
     /// Whether a breakpoint is at this address.
@@ -51,42 +94,28 @@ impl Points {
         self.breakpoints.as_slice().contains(&pc)
     }
 
-    /// The bytes that are watched.
+    /// Whether no bytes are watched whose changes are told.
+    pub(crate) fn sees_no_change(&self) -> bool {
+        self.watched.is_empty() && self.accessed.is_empty()
+    }
+
+    /// The bytes that are watched for changes.
     pub fn watched(&self) -> &[Watched]
         ensures { result.now ≡ self.now.watched.items }
     {
         self.watched.as_slice()
     }
 
-    /// Whether these bytes are watched.
-    fn is_watched(&self, watched: &Watched) -> bool
-        ensures { result ≡ list_any (λ w. is_same w watched.now) self.now.watched.items }
-    {
-        self.watched.as_slice().contains(watched)
-    }
-
     /// Adds a breakpoint, unless it is there.
     fn insert_breakpoint(&mut self, address: u64) -> Result<(), AllocError>
         ensures put { OnOk result
             (self.new.breakpoints.items ≡ with_breakpoint address self.old.breakpoints.items) }
-        ensures others { self.new.watched ≡ self.old.watched }
+        ensures others { self.new ≡ record self.old { breakpoints = self.new.breakpoints } }
     {
         if self.is_breakpoint(address) {
             return Ok(());
         }
         self.breakpoints.push(address)?;
-        Ok(())
-    }
-
-    /// Adds bytes that are watched, unless they are there.
-    fn insert_watched(&mut self, watched: Watched) -> Result<(), AllocError>
-        ensures put { OnOk result (self.new.watched.items ≡ with_watched watched self.old.watched.items) }
-        ensures others { self.new.breakpoints ≡ self.old.breakpoints }
-    {
-        if self.is_watched(&watched) {
-            return Ok(());
-        }
-        self.watched.push(watched)?;
         Ok(())
     }
 
@@ -100,24 +129,18 @@ impl Points {
     {
         match point {
             Point::Breakpoint => self.insert_breakpoint(address),
-            Point::Watchpoint => self.insert_watched(Watched { address, length }),
+            Point::Watchpoint => insert_into(&mut self.watched, Watched { address, length }),
+            Point::ReadWatchpoint => insert_into(&mut self.read, Watched { address, length }),
+            Point::AccessWatchpoint => insert_into(&mut self.accessed, Watched { address, length }),
         }
     }
 
     /// Takes a breakpoint away, if it is there.
     fn remove_breakpoint(&mut self, address: u64)
         ensures taken { self.new.breakpoints.items ≡ without_breakpoint address self.old.breakpoints.items }
-        ensures others { self.new.watched ≡ self.old.watched }
+        ensures others { self.new ≡ record self.old { breakpoints = self.new.breakpoints } }
     {
         self.breakpoints.retain(|at| *at != address);
-    }
-
-    /// Takes bytes that are watched away, if they are there.
-    fn remove_watched(&mut self, taken: Watched)
-        ensures taken { self.new.watched.items ≡ without_watched taken self.old.watched.items }
-        ensures others { self.new.breakpoints ≡ self.old.breakpoints }
-    {
-        self.watched.retain(|watched| *watched != taken);
     }
 
     /// Takes a point away, if it is there.
@@ -126,7 +149,9 @@ impl Points {
     {
         match point {
             Point::Breakpoint => self.remove_breakpoint(address),
-            Point::Watchpoint => self.remove_watched(Watched { address, length }),
+            Point::Watchpoint => remove_from(&mut self.watched, Watched { address, length }),
+            Point::ReadWatchpoint => remove_from(&mut self.read, Watched { address, length }),
+            Point::AccessWatchpoint => remove_from(&mut self.accessed, Watched { address, length }),
         }
     }
 }

@@ -1,22 +1,25 @@
 //! Going back.
-ghost use Rattle.std.specs.Prelude.{◌≡◌, ℕ, ◌≤◌, ◌<◌, true, IfOk, IfSome, length};
+ghost use Rattle.std.specs.Prelude.{◌≡◌, ℕ, ◌≤◌, ◌<◌, true, None, Some, IfOk, IfSome, length};
+ghost use Rattle.xv_machine.specs.Events.{outcome_of};
 ghost use Rattle.gdb_target.specs.Found.{IsBefore, StandsFor, trapped};
 ghost use Rattle.gdb_target.specs.Choices.{choices};
-ghost use Rattle.gdb_target.specs.LastHit.{GoesBackToLast, GoesForth, IsHitAt, IsHitBefore, IsHitOf, IsLastOf, IsPointHit};
-ghost use Rattle.gdb_target.specs.LastHit.{Looked, LooksFrom, later, let_run_of, step_hit};
+ghost use Rattle.gdb_target.specs.LastHit.{GoesBackToLast, GoesForth, IsHitBefore, IsHitOf, IsLastOf, IsPointHit, IsToldBy};
+ghost use Rattle.gdb_target.specs.LastHit.{Looked, LooksAt, LooksFrom, later, let_run_of, step_hit};
 ghost use Rattle.gdb_target.specs.LetRun.{lets};
-ghost use Rattle.gdb_target.specs.Rows.{watched_addresses};
+ghost use Rattle.gdb_target.specs.Touches.{IsByChange, watched_addresses};
 ghost use Rattle.gdb_target.specs.SameRun.{beginning};
 ghost use Rattle.gdb_target.specs.Standing.{Starts};
 
 use crate::fast::rows::watched_bytes;
 use crate::let_run::{LetRun, if_let};
-use crate::places::{Change, at_breakpoint, changed, if_told, is_starter, starts, watched_now};
+use crate::places::{at_breakpoint, changed, if_told, is_starter, starts, watched_now};
 use crate::played::is_run;
 use crate::target::{Stopped, Target};
+use crate::touches::{Touch, Use, if_done};
 use gdb_packets::StopReason;
 use std::alloc::Global;
 use xk_base::Pid;
+use xv_machine::Outcome;
 use xv_session::SessionError;
 
 /// How far back is looked first, in events.
@@ -34,7 +37,7 @@ pub enum Back {
     /// The last place before here at which the process was about to do an instruction.
     StepOf(Pid),
     /// The last place before here at which a process of the program, if it is let run, stood at a breakpoint, or was
-    /// about to change bytes that are watched.
+    /// about to change, to read or to use bytes that are watched.
     Point(LetRun),
 }
 
@@ -55,8 +58,8 @@ impl Back {
 pub(crate) struct Hit {
     place: u64,
     pid: Pid,
-    /// The address of watched bytes that it changes by the next event, if that is why it stops.
-    watched: Option<u64>,
+    /// How it uses watched bytes by the next event, if that is why it stops.
+    watched: Option<Use>,
 }
 
 /// What stood at a place, if the process was about to do an instruction there.
@@ -74,27 +77,53 @@ fn step_hit(stood: bool, place: u64, pid: Pid) -> Option<Hit>
     })
 }
 
-/// What is told of a place: a change of watched bytes by the next event, or else the process that stood at a breakpoint.
-/// Of processes that aren't let run nothing is told.
+/// What is told of a place at which no watched bytes are used: the process that stood at a breakpoint, if it is let run.
+fn stand_hit(let_run: &LetRun, place: u64, stood: Option<Pid>) -> Option<Hit>
+    ensures { IsPointHit let_run.now place stood None result }
+{
+    let Some(pid) = if_let(*let_run, stood) else {
+        return None;
+    };
+    step_hit(true, place, pid)
+}
+
+/// What is told of a place: the use that the next event's instruction makes of watched bytes, or else the process that
+/// stood at a breakpoint.
+fn use_hit(let_run: &LetRun, place: u64, stood: Option<Pid>, touch: Option<Touch>) -> Option<Hit>
+    requires { IfSome touch (λ it. lets let_run.now it.pid ≡ true) }
+    ensures { IsPointHit let_run.now place stood touch result }
+{
+    match touch {
+        Some(touch) => Some(Hit {
+            place,
+            pid: touch.pid,
+            watched: Some(touch.how),
+        }),
+        None => stand_hit(let_run, place, stood),
+    }
+}
+
+/// What is told of a place: a change of watched bytes by the next event, or the use that its instruction makes of them,
+/// or else the process that stood at a breakpoint. Of processes that aren't let run nothing is told.
 pub(crate) fn point_hit(
     let_run: &LetRun,
     place: u64,
     stood: Option<Pid>,
-    change: Option<Change>,
+    change: Option<Touch>,
+    touch: Option<Touch>,
 ) -> Option<Hit>
-    ensures { IsPointHit let_run.now place stood result }
+    requires change { IfSome change (λ it. IsByChange it.how) }
+    requires touch { IfSome touch (λ it. lets let_run.now it.pid ≡ true) }
+    ensures { IsPointHit let_run.now place stood touch result }
 {
     if let Some(change) = if_told(change, *let_run) {
         return Some(Hit {
             place,
             pid: change.pid,
-            watched: Some(change.address),
+            watched: Some(change.how),
         });
     }
-    let Some(pid) = if_let(*let_run, stood) else {
-        return None;
-    };
-    step_hit(true, place, pid)
+    use_hit(let_run, place, stood, touch)
 }
 
 /// The later of two: the second, if there is one.
@@ -108,42 +137,43 @@ fn later(first: Option<Hit>, second: Option<Hit>) -> Option<Hit>
 }
 
 impl Target {
-    /// Sends the next event; so many Runs at once, if nobody runs, as lie before the place `end`.
-    fn send_one(&mut self, end: u64) -> Result<(), SessionError>
+    /// Sends the next event, and tells what came of it; so many Runs at once, if nobody runs, as lie before the place
+    /// `end`.
+    fn send_one(&mut self, end: u64) -> Result<Outcome, SessionError>
         requires { length self.old.run.session.events < end }
-        ensures forth { IfOk result (λ _. GoesForth self.old self.new) }
+        ensures forth { IfOk result (λ o. GoesForth self.old (outcome_of o) self.new) }
         ensures within { length self.new.run.session.events ≤ end }
         ensures same { beginning self.new.run ≡ beginning self.old.run }
         ensures choices { choices self.new ≡ choices self.old }
     {
         let next = self.run.next();
         if !is_run(next.event) {
-            let _outcome = self.run.send()?;
-            return Ok(());
+            let outcome = self.run.send()?;
+            return Ok(outcome);
         }
         let most = self.runs_before(next.count, end);
-        let Some(_outcome) = self.run.run(most)? else {
+        let Some(outcome) = self.run.run(most)? else {
             unreachable!();
         };
-        Ok(())
+        Ok(outcome)
     }
 
     /// Sends the next event, and tells whether the process was about to do an instruction.
     fn look_for_step(&mut self, pid: Pid, place: u64, end: u64) -> Result<Option<Hit>, SessionError>
         requires { length self.old.run.session.events < end }
-        ensures forth { IfOk result (λ _. GoesForth self.old self.new) }
         ensures within { length self.new.run.session.events ≤ end }
         ensures hit { IfOk result (λ h. IfSome h (λ found. IsHitOf (Back.StepOf pid) place found)) }
-        ensures told { IfOk result (λ h. IsHitAt (Back.StepOf pid) place self.old h) }
+        ensures looks { IfOk result (λ h. LooksAt (Back.StepOf pid) place self.old self.new h) }
         ensures same { beginning self.new.run ≡ beginning self.old.run }
         ensures choices { choices self.new ≡ choices self.old }
     {
         let stood = is_starter(&self.run, pid);
-        self.send_one(end)?;
+        let _outcome = self.send_one(end)?;
         Ok(step_hit(stood, place, pid))
     }
 
-    /// Sends the next event, and tells whether a process stood at a breakpoint before it, or changed watched bytes.
+    /// Sends the next event, and tells whether a process stood at a breakpoint before it, or by it changed or used watched
+    /// bytes.
     fn look_for_point(
         &mut self,
         alloc: Global,
@@ -152,10 +182,9 @@ impl Target {
         end: u64,
     ) -> Result<Option<Hit>, SessionError>
         requires { length self.old.run.session.events < end }
-        ensures forth { IfOk result (λ _. GoesForth self.old self.new) }
         ensures within { length self.new.run.session.events ≤ end }
         ensures hit { IfOk result (λ h. IfSome h (λ found. IsHitOf (Back.Point let_run) place found)) }
-        ensures told { IfOk result (λ h. IsHitAt (Back.Point let_run) place self.old h) }
+        ensures looks { IfOk result (λ h. LooksAt (Back.Point let_run) place self.old self.new h) }
         ensures same { beginning self.new.run ≡ beginning self.old.run }
         ensures choices { choices self.new ≡ choices self.old }
     {
@@ -163,9 +192,11 @@ impl Target {
         let Ok(before) = watched_now(alloc, &self.run, &self.points, self.program) else {
             return Err(SessionError::Memory);
         };
-        self.send_one(end)?;
+        let ahead = self.touch_ahead(let_run);
+        let outcome = self.send_one(end)?;
         let change = changed(&self.run, &self.points, self.program, &before);
-        Ok(point_hit(&let_run, place, stood, change))
+        let touch = if_done(ahead, &outcome);
+        Ok(point_hit(&let_run, place, stood, change, touch))
     }
 
     /// Sends the next event, and tells whether what is looked for stood before it, at this place.
@@ -177,10 +208,9 @@ impl Target {
         end: u64,
     ) -> Result<Option<Hit>, SessionError>
         requires { length self.old.run.session.events < end }
-        ensures forth { IfOk result (λ _. GoesForth self.old self.new) }
         ensures within { length self.new.run.session.events ≤ end }
         ensures hit { IfOk result (λ h. IfSome h (λ found. IsHitOf back.now place found)) }
-        ensures told { IfOk result (λ h. IsHitAt back.now place self.old h) }
+        ensures looks { IfOk result (λ h. LooksAt back.now place self.old self.new h) }
         ensures same { beginning self.new.run ≡ beginning self.old.run }
         ensures choices { choices self.new ≡ choices self.old }
     {
@@ -312,11 +342,12 @@ impl Target {
     /// What stands here of what was looked for, and was found here; the begin of the run, where nothing does.
     fn found(&self, back: &Back, hit: &Hit) -> Stopped
         requires { lets (let_run_of back.now) hit.now.pid ≡ true }
-        ensures { StandsFor self.now back.now result.reason result.pid }
+        ensures stands { StandsFor self.now back.now result.reason result.pid }
+        ensures told { IsToldBy (Some hit.now) result }
     {
-        if let Some(address) = hit.watched {
+        if let Some(how) = hit.watched {
             return Stopped {
-                reason: StopReason::Watch(address),
+                reason: how.reason(),
                 pid: hit.pid,
             };
         }
@@ -338,7 +369,7 @@ impl Target {
     /// any of its places up to where it was.
     pub fn go_back(&mut self, alloc: Global, back: &Back) -> Result<Stopped, SessionError>
         ensures before { IfOk result (λ _. IsBefore self.old.run self.new.run) }
-        ensures last { IfOk result (λ _. GoesBackToLast back.now self.old self.new) }
+        ensures last { IfOk result (λ s. GoesBackToLast back.now self.old self.new s) }
         ensures stands { IfOk result (λ s. StandsFor self.new back.now s.reason s.pid) }
         ensures same { beginning self.new.run ≡ beginning self.old.run }
         ensures choices { choices self.new ≡ choices self.old }

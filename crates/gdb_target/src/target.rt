@@ -5,10 +5,12 @@ ghost use Rattle.xv_machine.specs.Events.{outcome_of};
 ghost use Rattle.gdb_target.specs.Before as meant;
 ghost use Rattle.gdb_target.specs.Beginning.{IsFresh};
 ghost use Rattle.gdb_target.specs.Choices.{IsAlive, StopsAt, choices};
-ghost use Rattle.gdb_target.specs.Forth.{Goes, GoesBy, IsEndOf, IsJudged, IsStepper, IsUnseen, Stands};
+ghost use Rattle.gdb_target.specs.Forth.{Goes, GoesBy, IsEndOf, IsJudged, IsStepper, IsUnseen, IsUsedOrJudged, Stands};
 ghost use Rattle.gdb_target.specs.Forth.{current_of, end_of, goes_on, halted_of, is_reached, looks_at_each, or_shows, shows, standing};
 ghost use Rattle.gdb_target.specs.LetRun.{lets, teller};
-ghost use Rattle.gdb_target.specs.Rows.{watched_addresses};
+ghost use Rattle.gdb_target.specs.Plan.{planned_at};
+ghost use Rattle.gdb_target.specs.PlayedBy.{is_run};
+ghost use Rattle.gdb_target.specs.Touches.{watched_addresses};
 ghost use Rattle.gdb_target.specs.SameRun.{beginning};
 ghost use Rattle.gdb_target.specs.Standing.{NextIsRun, StandsAt};
 ghost use Rattle.gdb_target.specs.Told.{state_of};
@@ -20,6 +22,7 @@ use crate::places::{at_breakpoint, changed, if_told, watched_now};
 use crate::played::{Played, is_run};
 use crate::points::Points;
 use crate::threads::live_or_other;
+use crate::touches::{Touch, if_done};
 use gdb_packets::{Stop, StopReason};
 use std::alloc::Global;
 use xk_base::{Cause, Pid};
@@ -370,6 +373,7 @@ impl Target {
     /// Sends an event that isn't Run, and notes what the console shows. If process 1 is gone, it ends once no byte
     /// waits to be sent.
     fn send_other(&mut self, going: &Going) -> Result<Option<Pause>, SessionError>
+        requires { is_run (planned_at self.old.run.plan (length self.old.run.session.events)) ≡ false }
         ensures within { length self.new.run.session.events ≤ length self.old.run.session.events + 1 }
         ensures more { IfOk result (λ _. length self.old.run.session.events < length self.new.run.session.events) }
         ensures goes { IfOk result (λ p. Goes going.now.way self.old p self.new) }
@@ -402,6 +406,27 @@ impl Target {
         match told_before(going.way.let_run, outcome) {
             Some(stopped) => self.before_last(alloc, going, stopped, outcome),
             None => Ok(self.stands(going.way, outcome)),
+        }
+    }
+
+    /// What stops the program after Runs of which this came last: the use that its instruction made of watched bytes, or
+    /// else what [`Target::judged`] tells.
+    fn used_or_judged(
+        &mut self,
+        alloc: Global,
+        going: &Going,
+        used: &Option<Touch>,
+        outcome: &Outcome,
+    ) -> Result<Option<Pause>, SessionError>
+        ensures within { length self.new.run.session.events ≤ length self.old.run.session.events }
+        ensures judged { IfOk result
+            (λ p. IsUsedOrJudged going.now.way used.now (outcome_of outcome.now) self.old p self.new) }
+        ensures same { beginning self.new.run ≡ beginning self.old.run }
+        ensures choices { choices self.new ≡ choices self.old }
+    {
+        match used {
+            Some(touch) => Ok(Some(Pause::Stopped(touch.stopped()))),
+            None => self.judged(alloc, going, outcome),
         }
     }
 
@@ -525,6 +550,7 @@ impl Target {
         let Ok(before) = watched_now(alloc, &self.run, &self.points, self.program) else {
             return Err(SessionError::Memory);
         };
+        let ahead = self.touch_ahead(going.way.let_run);
         let Some(outcome) = self.run.run(most)? else {
             unreachable!();
         };
@@ -532,7 +558,7 @@ impl Target {
         if let Some(change) = if_told(change, going.way.let_run) {
             return Ok(Some(Pause::Stopped(change.stopped())));
         }
-        self.judged(alloc, going, &outcome)
+        self.used_or_judged(alloc, going, &if_done(ahead, &outcome), &outcome)
     }
 
     /// Sends the next event, or so many Runs.

@@ -6,16 +6,18 @@ ghost use Rattle.xv_machine.specs.Events.{outcome_of};
 ghost use Rattle.gdb_target.specs.Choices.{choices};
 ghost use Rattle.gdb_target.specs.Forth.{GoesBy, goes_on, halted_of};
 ghost use Rattle.gdb_target.specs.LastHit.{IsHitBefore, Looked};
-ghost use Rattle.gdb_target.specs.Rows.{RunsToStop, addresses_of, watched_addresses, is_free, looks_at_row, starts_row};
+ghost use Rattle.gdb_target.specs.Rows.{RunsToStop, is_free, looks_at_row, starts_row};
 ghost use Rattle.gdb_target.specs.SameRun.{beginning};
 ghost use Rattle.gdb_target.specs.Standing.{NextIsRun};
 ghost use Rattle.gdb_target.specs.Told.{state_of};
+ghost use Rattle.gdb_target.specs.Touches.{IsByChange, addresses_of, watched_addresses};
 
-use crate::places::{Change, Glimpse, changed, if_told, watched_now};
+use crate::places::{Glimpse, changed, if_told, watched_now};
 use crate::played::is_run;
 use crate::points::{Points, Watched};
 use crate::reverse::{Back, Hit, point_hit};
 use crate::target::{Going, Pause, Target, Until};
+use crate::touches::Touch;
 use std::alloc::{AllocError, Global};
 use xv_machine::Outcome;
 use xv_session::SessionError;
@@ -61,15 +63,17 @@ struct Row {
     /// What came of the last of them.
     outcome: Outcome,
     /// The watched bytes that it changed.
-    change: Option<Change>,
+    change: Option<Touch>,
 }
 
 impl Target {
-    /// Whether a process runs, and doesn't stand before a stop: at a breakpoint, or before a store to a watched byte.
+    /// Whether a process runs, and doesn't stand before a stop: at a breakpoint, or before a store to a watched byte; and no
+    /// bytes are watched for reads, of which a row tells none.
     fn is_free(&self, bytes: &[u64]) -> bool
         ensures { result ≡ is_free bytes.now self.now }
     {
         self.run.machine().current().is_some()
+            && !self.points.watches_uses()
             && !self
                 .run
                 .is_before_stop(self.points.breakpoints.as_slice(), bytes)
@@ -97,6 +101,7 @@ impl Target {
             (λ r. RunsToStop self.old.points.breakpoints.items (watched_addresses self.old.points) self.old.run (outcome_of r.outcome) self.new.run) }
         ensures goes_on { IfOk result (λ r. IfSome r.change (λ _. halted_of self.new ≡ None)) }
         ensures lives { IfOk result (λ r. IfSome r.change (λ change. IsSome (live (state_of self.new) change.pid))) }
+        ensures may { IfOk result (λ r. IfSome r.change (λ change. IsByChange change.how)) }
         ensures same { beginning self.new.run ≡ beginning self.old.run }
         ensures choices { choices self.new ≡ choices self.old }
     {
@@ -165,6 +170,6 @@ impl Target {
     {
         let row = self.send_to_stop(alloc, bytes, end)?;
         let place = self.run.at().saturating_sub(1);
-        Ok(point_hit(&back.let_run(), place, None, row.change))
+        Ok(point_hit(&back.let_run(), place, None, row.change, None))
     }
 }

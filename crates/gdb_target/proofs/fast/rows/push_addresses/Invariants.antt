@@ -1,5 +1,5 @@
 use Rattle.std.proofs.Common.{◌≡◌, ◌++◌}
-use Rattle.gdb_target.specs.Rows.{addresses_from}
+use Rattle.gdb_target.specs.Touches.{addresses_from}
 use Rattle.gdb_target.proofs.fast.rows.push_addresses.Given as goal
 
 abbrev pub invariant-loop-place : goal.invariant-loop-place

@@ -1,7 +1,7 @@
 use Rattle.std.proofs.Common.{◌∙◌, [], ap, arith, flat_map}
 use Rattle.std.proofs.lemmas.List.{take_all}
 use Rattle.gdb_packets.proofs.Pieces.{one_piece_more}
-use Rattle.gdb_target.specs.Rows.{addresses_of}
+use Rattle.gdb_target.specs.Touches.{addresses_of}
 use Rattle.gdb_target.specs.declared.points.Watched.{Watched}
 use Rattle.gdb_target.proofs.fast.rows.watched_bytes.Goals as goal
 

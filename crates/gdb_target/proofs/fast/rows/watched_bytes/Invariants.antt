@@ -1,5 +1,5 @@
 use Rattle.std.proofs.Common.{◌≡◌, take, flat_map}
-use Rattle.gdb_target.specs.Rows.{addresses_of}
+use Rattle.gdb_target.specs.Touches.{addresses_of}
 use Rattle.gdb_target.proofs.fast.rows.watched_bytes.Given as goal
 
 abbrev pub invariant-loop-watched : goal.invariant-loop-watched

@@ -1,7 +1,7 @@
 use Rattle.std.proofs.Common.{◌∙◌, Option, ap, arith, refl, subst, sym}
 use Rattle.gdb_target.specs.Choices.{Choices}
 use Rattle.gdb_target.specs.Forth.{GoesBy, goes_on}
-use Rattle.gdb_target.specs.Rows.{watched_addresses}
+use Rattle.gdb_target.specs.Touches.{watched_addresses}
 use Rattle.gdb_target.specs.declared.target.Pause.{Pause}
 use Rattle.gdb_target.proofs.Ways.{all-passed, goes-further, passed-join}
 use Rattle.gdb_target.proofs.target.Target.go.Goals as goal

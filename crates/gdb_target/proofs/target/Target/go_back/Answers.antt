@@ -11,6 +11,7 @@ returns-in_default-clause-last c = record {
   hit = None;
   last = subst (λ h. IsLastOf c.args.back.now c.args.self.now c.search.new.self h) c.in_default.is c.in_ok-hit.ensures.last;
   ends = omega (arith, c.in_ok-back_to.ensures.back);
+  told = c.stop_here.ensures;
 }
 
 pub returns-clause-last : goal.returns-clause-last
@@ -22,6 +23,7 @@ returns-clause-last c =
       hit = Some c.in-Some.hit;
       last = subst (λ h. IsLastOf c.args.back.now c.args.self.now c.search.new.self h) c.in-Some.is c.in_ok-hit.ensures.last;
       ends = omega (arith, c.in_ok-back_to-2.ensures.back, within, c.in_ok-hit.ensures.end, ap (λ (r : Played). length r.session.events) c.forget_told.ensures.run);
+      told = c.found.ensures.told;
     }
 
 pub found-requires : goal.found-requires

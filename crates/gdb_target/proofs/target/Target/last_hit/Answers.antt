@@ -1,7 +1,7 @@
 use Rattle.std.proofs.Common.{◌∙◌, ℕ, Option, ap, refl, rules, sym, subst}
 use Rattle.gdb_target.specs.Choices.{Choices}
 use Rattle.gdb_target.specs.LastHit.{Looked}
-use Rattle.gdb_target.specs.Rows.{watched_addresses}
+use Rattle.gdb_target.specs.Touches.{watched_addresses}
 use Rattle.gdb_target.specs.declared.reverse.Hit.{Hit}
 use Rattle.gdb_target.proofs.Ways.{looked-join}
 use Rattle.gdb_target.proofs.target.Target.last_hit.Goals as goal

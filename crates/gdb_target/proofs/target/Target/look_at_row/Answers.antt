@@ -12,9 +12,9 @@ send_to_stop-requires-clause-runs c = (looks-free c.args.back.now c.args.bytes.n
 
 pub returns-clause-hit : goal.returns-clause-hit
 returns-clause-hit c =
-    hit-within c.args.back.now (let_run_of c.args.back.now) c.point_hit.result c.saturating_sub-place.result c.args.end None
+    hit-within c.args.back.now (let_run_of c.args.back.now) c.point_hit.result c.saturating_sub-place.result c.args.end None None
     (looks-free c.args.back.now c.args.bytes.now c.args.self.now c.requires.looks).0
-    (subst (λ (r : LetRun). IsPointHit r c.saturating_sub-place.result None c.point_hit.result) c.let_run.ensures c.point_hit.ensures)
+    (subst (λ (r : LetRun). IsPointHit r c.saturating_sub-place.result None None c.point_hit.result) c.let_run.ensures c.point_hit.ensures)
     (omega (arith, c.in_ok-row.ensures.more, c.at.ensures, c.saturating_sub-place.ensures, c.send_to_stop.ensures.within))
 
 pub returns-clause-looked : goal.returns-clause-looked
@@ -26,5 +26,5 @@ returns-clause-looked c =
     let r = let_run_of c.args.back.now in
     let row = row-of r t mid c.args.bytes.now o c.requires.watched looks.1 c.in_ok-row.ensures.row in
     let count : length mid.run.session.events ≡ c.saturating_sub-place.result + 1 = omega (arith, row.single, c.at.ensures, c.saturating_sub-place.ensures) in
-    let told = subst (λ (x : LetRun). IsPointHit x c.saturating_sub-place.result None c.point_hit.result) c.let_run.ensures c.point_hit.ensures in
+    let told = subst (λ (x : LetRun). IsPointHit x c.saturating_sub-place.result None None c.point_hit.result) c.let_run.ensures c.point_hit.ensures in
     subst (λ (b : Back). (n : ℕ) × Looked b n t mid c.point_hit.result) (sym looks.0) (row-looked r r t mid o c.point_hit.result c.saturating_sub-place.result row count told)

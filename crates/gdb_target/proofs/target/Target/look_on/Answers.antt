@@ -1,5 +1,5 @@
 use Rattle.std.proofs.Common.{arith, subst}
-use Rattle.gdb_target.specs.LastHit.{IsHitAt}
+use Rattle.gdb_target.specs.LastHit.{LooksAt}
 use Rattle.gdb_target.proofs.Ways.{hit-here, looked-once}
 use Rattle.gdb_target.proofs.target.Target.look_on.Goals as goal
 
@@ -9,5 +9,5 @@ returns-clause-hit c = hit-here c.args.back.now c.in_ok-hit.hit c.at-place.resul
 pub returns-clause-looked : goal.returns-clause-looked
 returns-clause-looked c =
     let here = c.args.self.now in
-    let told = subst (λ place. IsHitAt c.args.back.now place here c.in_ok-hit.hit) c.at-place.ensures c.in_ok-hit.ensures.told in
-    (1, looked-once c.args.back.now here c.look.new.self c.in_ok-hit.hit (record { told = told; forth = c.in_ok-hit.ensures.forth }))
+    let looks = subst (λ place. LooksAt c.args.back.now place here c.look.new.self c.in_ok-hit.hit) c.at-place.ensures c.in_ok-hit.ensures.looks in
+    (1, looked-once c.args.back.now here c.look.new.self c.in_ok-hit.hit looks)

@@ -6,10 +6,11 @@ use Rattle.gdb_target.specs.Before.{told_before}
 use Rattle.gdb_target.specs.Forth.{GoesBy, IsJudged, halted_of}
 use Rattle.gdb_target.specs.LetRun.{lets}
 use Rattle.gdb_target.specs.Told.{state_of}
+use Rattle.gdb_target.specs.Touches.{IsByChange}
 use Rattle.kernel_spec.specs.views.State as state
-use Rattle.gdb_target.specs.declared.places.Change.{Change}
 use Rattle.gdb_target.specs.declared.target.Pause.TheVariants.{Stopped}
 use Rattle.gdb_target.specs.declared.target.Until.{Until}
+use Rattle.gdb_target.specs.declared.touches.Touch.{Touch}
 use Rattle.gdb_target.proofs.Rows.{row-of, starts-free}
 use Rattle.gdb_target.proofs.Ways.{row-changed, row-goes}
 use Rattle.gdb_target.proofs.target.Target.send_row.Goals as goal
@@ -24,13 +25,14 @@ returns-in-Some-clause-goes c =
     let o = outcome_of c.in_ok-row.row.outcome in
     let row = row-of r t mid c.args.bytes.now o c.requires.watched starts.1 c.in_ok-row.ensures.row in
     let told : c.in_ok-row.row.change ≡ Some c.in-Some.change =
-    subst (λ (change : Option Change). IfSome change (λ (it : Change). c.in_ok-row.row.change ≡ Some it)) c.in-Some.is c.if_told.ensures.same in
-    let live : halted_of mid ≡ None = subst (λ (change : Option Change). IfSome change (λ (_ : Change). halted_of mid ≡ None)) told c.in_ok-row.ensures.goes_on in
-    let lives = subst (λ (change : Option Change). IfSome change (λ (it : Change). IsSome (state.live (state_of mid) it.pid))) told c.in_ok-row.ensures.lives in
-    let lets_it = subst (λ (change : Option Change). IfSome change (λ (it : Change). lets r it.pid ≡ true)) c.in-Some.is c.if_told.ensures.lets in
+    subst (λ (change : Option Touch). IfSome change (λ (it : Touch). c.in_ok-row.row.change ≡ Some it)) c.in-Some.is c.if_told.ensures.same in
+    let live : halted_of mid ≡ None = subst (λ (change : Option Touch). IfSome change (λ (_ : Touch). halted_of mid ≡ None)) told c.in_ok-row.ensures.goes_on in
+    let lives = subst (λ (change : Option Touch). IfSome change (λ (it : Touch). IsSome (state.live (state_of mid) it.pid))) told c.in_ok-row.ensures.lives in
+    let may = subst (λ (change : Option Touch). IfSome change (λ (it : Touch). IsByChange it.how)) told c.in_ok-row.ensures.may in
+    let lets_it = subst (λ (change : Option Touch). IfSome change (λ (it : Touch). lets r it.pid ≡ true)) c.in-Some.is c.if_told.ensures.lets in
     let of = c.stopped.ensures.pid in
     subst (λ (u : Until). GoesBy (record { until = u; let_run = r }) t (Some (Stopped c.stopped.result)) mid) (sym starts.0)
-    (row-changed r t mid o c.stopped.result _ row c.stopped.ensures.reason live (subst (λ (p : ℕ). IsSome (state.live (state_of mid) p)) (sym of) lives)
+    (row-changed r t mid o c.stopped.result c.in-Some.change.how row c.stopped.ensures.reason may (live, subst (λ (p : ℕ). IsSome (state.live (state_of mid) p)) (sym of) lives)
     (subst (λ (p : ℕ). lets r p ≡ true) (sym of) lets_it))
 
 pub returns-clause-goes : goal.returns-clause-goes
