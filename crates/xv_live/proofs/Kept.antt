@@ -56,11 +56,12 @@ keeps-more held now head standing place stands next before more events over last
 module _ {F : Type 0} where
   -- nothing was done
   pub on_still : (r : Recorder F) → GoesOn r r
-  on_still r = record { still = λ _ is. is; well = λ w. w; head = λ _ h. h }
+  on_still r = record { off = λ none. (none, refl); still = λ _ is. is; well = λ w. w; head = λ _ h. h }
 
   -- none was kept
   pub on_off : (old new : Recorder F) → old.recording ≡ None → new.recording ≡ None → new.failure ≡ old.failure → GoesOn old new
   on_off old new none off same = record {
+    off = λ _. (off, same);
     still = λ _ is. absurd (none_has_no_value old.recording none is);
     well = λ w. sym same ∙ w;
     head = λ h _. subst (λ (o : Option (Recording F)). IfSome o (λ k. string_bytes k.head ≡ h)) (sym off) tt;
@@ -69,6 +70,7 @@ module _ {F : Type 0} where
   -- it is kept on, with its head
   pub on_kept : (old new : Recorder F) (was is : Recording F) → old.recording ≡ Some was → new.recording ≡ Some is → new.failure ≡ old.failure → is.head ≡ was.head → GoesOn old new
   on_kept old new was is before after same head = record {
+    off = λ none. absurd (none-some was (sym none ∙ before));
     still = λ _ _. subst (λ (o : Option (Recording F)). IsSome o) (sym after) refl;
     well = λ w. sym same ∙ w;
     head = λ h has.
@@ -77,8 +79,9 @@ module _ {F : Type 0} where
   }
 
   -- or it is told why it isn't
-  pub on_failed : (old new : Recorder F) (why : GrowError) → new.recording ≡ None → new.failure ≡ Some why → GoesOn old new
-  on_failed old new why none failed = record {
+  pub on_failed : (old new : Recorder F) (was : Recording F) (why : GrowError) → old.recording ≡ Some was → new.recording ≡ None → new.failure ≡ Some why → GoesOn old new
+  on_failed old new was why before none failed = record {
+    off = λ none_kept. absurd (none-some was (sym none_kept ∙ before));
     still = λ w _. absurd (none-some why (sym w ∙ failed));
     well = λ w. absurd (none-some why (sym w ∙ failed));
     head = λ h _. subst (λ (o : Option (Recording F)). IfSome o (λ k. string_bytes k.head ≡ h)) (sym none) tt;
@@ -86,6 +89,7 @@ module _ {F : Type 0} where
 
   pub on_join : (a b c : Recorder F) → GoesOn a b → GoesOn b c → GoesOn a c
   on_join a b c p q = record {
+    off = λ none. ((q.off (p.off none).0).0, (q.off (p.off none).0).1 ∙ (p.off none).1);
     still = λ w is. q.still w (p.still (q.well w) is);
     well = λ w. p.well (q.well w);
     head = λ h has. q.head h (p.head h has);

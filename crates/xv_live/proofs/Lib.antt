@@ -1,3 +1,4 @@
+pub mod Broke
 pub mod Joined
 pub mod Kept
 pub mod Led
@@ -5,4 +6,5 @@ pub mod Lines
 pub mod Played
 pub mod Typed
 pub mod Waits
+mod WorkedBreaks
 mod WorkedKeeps

@@ -31,8 +31,9 @@ module _ {F : Type 0} where
   abbrev pub HasHead : Recorder F → (head : List ℕ) → Type 0
   HasHead r head = IfSome r.recording (λ k. string_bytes k.head ≡ head)
 
-  -- A record that is kept is kept on with its head, unless it is told why not; and what was told stays
+  -- A record that is kept is kept on with its head, unless it is told why not; and what was told stays. If none is kept, none is begun, and nothing more is told
   pub record GoesOn (old new : Recorder F) : Type 0 where
+    pub off : old.recording ≡ None → (new.recording ≡ None) × (new.failure ≡ old.failure)
     pub still : new.failure ≡ None → IsSome old.recording → IsSome new.recording
     pub well : new.failure ≡ None → old.failure ≡ None
     pub head : (head : List ℕ) → HasHead old head → HasHead new head

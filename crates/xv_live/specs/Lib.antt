@@ -1,5 +1,6 @@
 pub mod Asks
 pub mod Attends
+pub mod Breaks
 pub mod Keeps
 pub mod Keys
 pub mod Pauses

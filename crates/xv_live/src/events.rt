@@ -1,8 +1,9 @@
 //! Events that a session is sent, and what they show on the screen.
-ghost use Rattle.std.specs.Prelude.{◌≡◌, ◌<◌, ◌≤◌, [], ◌∷◌, replicate, OnOk, IfOk};
+ghost use Rattle.std.specs.Prelude.{◌≡◌, ◌<◌, ◌≤◌, [], ◌∷◌, replicate, IfErr, IfOk, OnErr, OnOk};
 ghost use Rattle.kernel_spec.specs.runs.Run as runs;
 ghost use Rattle.xv_machine.specs.Events.{event_of};
 ghost use Rattle.xv_live.specs.Attends.{Types};
+ghost use Rattle.xv_live.specs.Breaks.{Begins, BeginsWithoutKeys, IsBreak};
 ghost use Rattle.xv_live.specs.Plays.{Plays};
 
 use crate::screen::{FaultNote, Screen, Teller};
@@ -16,13 +17,16 @@ use xv_session::Session;
 /// # Errors
 ///
 /// [`Failure::OutOfMemory`] and [`Failure::TooManyEvents`] if the session can't keep it: then it isn't sent.
-/// [`Failure::Write`] if its bytes can't be written.
+/// [`Failure::Write`] if its bytes can't be written: the session has it then.
+#[tactic(auto, using(crate::proofs::Broke::session_breaks))]
 pub fn send<W: ByteSink, T: Teller>(
     session: &mut Session,
     event: Event,
     screen: &mut Screen<W, T>,
 ) -> Result<(), Failure<'static>>
-    ensures { OnOk result (Plays (event_of event ∷ []) session.old session.new (W.sink screen.old.sink).held (W.sink screen.new.sink).held) }
+    ensures plays { OnOk result (Plays (event_of event ∷ []) session.old session.new (W.sink screen.old.sink).held (W.sink screen.new.sink).held) }
+    ensures begins { OnErr result (Begins (event_of event ∷ []) session.old session.new) }
+    ensures why { IfErr result IsBreak }
 {
     let outcome = session.send(event)?;
     screen.show(outcome.shown())
@@ -37,7 +41,9 @@ pub fn drain<W: ByteSink, T: Teller>(
     session: &mut Session,
     screen: &mut Screen<W, T>,
 ) -> Result<(), Failure<'static>>
-    ensures { OnOk result (Types [] session.old session.new (W.sink screen.old.sink).held (W.sink screen.new.sink).held) }
+    ensures types { OnOk result (Types [] session.old session.new (W.sink screen.old.sink).held (W.sink screen.new.sink).held) }
+    ensures begins { OnErr result (BeginsWithoutKeys session.old session.new) }
+    ensures why { IfErr result IsBreak }
 {
     'sends: for _ in 0..SEND_BYTES {
         if session
@@ -79,7 +85,8 @@ fn tell_last<T: Teller>(
 ///
 /// # Errors
 ///
-/// As [`send`].
+/// [`Failure::OutOfMemory`] and [`Failure::TooManyEvents`] if the session can't keep them: then none is sent.
+#[tactic(auto, using(crate::proofs::Broke::session_breaks))]
 pub fn some_runs<W: ByteSink, T: Teller>(
     session: &mut Session,
     most: u32,
@@ -88,6 +95,8 @@ pub fn some_runs<W: ByteSink, T: Teller>(
     ensures plays { IfOk result (λ sent. Plays (replicate sent runs.Run) session.old session.new (W.sink screen.old.sink).held (W.sink screen.new.sink).held) }
     ensures within { IfOk result (λ sent. sent ≤ most) }
     ensures some { IfOk result (λ sent. 0 < most → 0 < sent) }
+    ensures still { OnErr result (session.new ≡ session.old) }
+    ensures why { IfErr result IsBreak }
 {
     let program = program_now(session);
     let runs = session.run(most)?;

@@ -1,7 +1,8 @@
 //! A record that is played.
-ghost use Rattle.std.specs.Prelude.{replicate, OnOk};
+ghost use Rattle.std.specs.Prelude.{replicate, IfErr, OnErr, OnOk};
 ghost use Rattle.kernel_spec.specs.runs.Run as runs;
 ghost use Rattle.xv_machine.specs.Events.{event_of};
+ghost use Rattle.xv_live.specs.Breaks.{Begins, IsBreak};
 ghost use Rattle.xv_live.specs.Plays.{Plays, events_of_line, events_of_lines};
 
 use crate::events::{send, some_runs};
@@ -17,7 +18,9 @@ fn play_runs<W: ByteSink, T: Teller>(
     count: u64,
     screen: &mut Screen<W, T>,
 ) -> Result<(), Failure<'static>>
-    ensures { OnOk result (Plays (replicate count runs.Run) session.old session.new (W.sink screen.old.sink).held (W.sink screen.new.sink).held) }
+    ensures plays { OnOk result (Plays (replicate count runs.Run) session.old session.new (W.sink screen.old.sink).held (W.sink screen.new.sink).held) }
+    ensures begins { OnErr result (Begins (replicate count runs.Run) session.old session.new) }
+    ensures why { IfErr result IsBreak }
 {
     let mut left = count;
     'runs: while left > 0 {
@@ -35,7 +38,9 @@ fn play_often<W: ByteSink, T: Teller>(
     count: u64,
     screen: &mut Screen<W, T>,
 ) -> Result<(), Failure<'static>>
-    ensures { OnOk result (Plays (replicate count (event_of event)) session.old session.new (W.sink screen.old.sink).held (W.sink screen.new.sink).held) }
+    ensures plays { OnOk result (Plays (replicate count (event_of event)) session.old session.new (W.sink screen.old.sink).held (W.sink screen.new.sink).held) }
+    ensures begins { OnErr result (Begins (replicate count (event_of event)) session.old session.new) }
+    ensures why { IfErr result IsBreak }
 {
     let mut left = count;
     'sends: while left > 0 {
@@ -51,7 +56,9 @@ fn play_line<W: ByteSink, T: Teller>(
     line: &Line,
     screen: &mut Screen<W, T>,
 ) -> Result<(), Failure<'static>>
-    ensures { OnOk result (Plays (events_of_line line.now) session.old session.new (W.sink screen.old.sink).held (W.sink screen.new.sink).held) }
+    ensures plays { OnOk result (Plays (events_of_line line.now) session.old session.new (W.sink screen.old.sink).held (W.sink screen.new.sink).held) }
+    ensures begins { OnErr result (Begins (events_of_line line.now) session.old session.new) }
+    ensures why { IfErr result IsBreak }
 {
     match line {
         Line::Run(count) => play_runs(session, *count, screen),
@@ -65,13 +72,15 @@ fn play_line<W: ByteSink, T: Teller>(
 ///
 /// # Errors
 ///
-/// As [`send`](crate::events::send).
+/// As [`send`](crate::events::send): the session has the events before, and no other.
 pub fn play<W: ByteSink, T: Teller>(
     session: &mut Session,
     lines: &[Line],
     screen: &mut Screen<W, T>,
 ) -> Result<(), Failure<'static>>
-    ensures { OnOk result (Plays (events_of_lines lines.now) session.old session.new (W.sink screen.old.sink).held (W.sink screen.new.sink).held) }
+    ensures plays { OnOk result (Plays (events_of_lines lines.now) session.old session.new (W.sink screen.old.sink).held (W.sink screen.new.sink).held) }
+    ensures begins { OnErr result (Begins (events_of_lines lines.now) session.old session.new) }
+    ensures why { IfErr result IsBreak }
 {
     for line in lines {
         play_line(session, line, screen)?;

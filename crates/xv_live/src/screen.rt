@@ -1,5 +1,6 @@
 //! The screen, and who is told what isn't the machine's own.
-ghost use Rattle.std.specs.Prelude.{◌≡◌, OnOk};
+ghost use Rattle.std.specs.Prelude.{◌≡◌, IfErr, OnOk};
+ghost use Rattle.program_files.specs.declared.failure.Failure.TheVariants as failures;
 ghost use Rattle.std.specs.Io.KnownBytes.{Appends};
 
 use program_files::Failure;
@@ -47,7 +48,8 @@ impl<W: ByteSink, T: Teller> Screen<W, T> {
     ///
     /// [`Failure::Write`] if they can't be written.
     pub fn show(&mut self, bytes: &[u8]) -> Result<(), Failure<'static>>
-        ensures { OnOk result (Appends (W.sink self.old.sink).held (W.sink self.new.sink).held bytes.now) }
+        ensures shown { OnOk result (Appends (W.sink self.old.sink).held (W.sink self.new.sink).held bytes.now) }
+        ensures refused { IfErr result (λ why. why ≡ failures.Write) }
     {
         if bytes.is_empty() {
             return Ok(());

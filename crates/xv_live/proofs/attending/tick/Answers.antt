@@ -8,4 +8,4 @@ pub returns-then-not-branch-clause-types : goal.returns-then-not-branch-clause-t
 returns-then-not-branch-clause-types g c = types-none c.args.session.now _
 
 pub returns-clause-types : goal.returns-clause-types
-returns-clause-types g c = on_ok_weaker c.send.result (λ p. types-plays (Tick ∷ []) _ _ _ _ p) c.send.ensures
+returns-clause-types g c = on_ok_weaker c.send.result (λ p. types-plays (Tick ∷ []) _ _ _ _ p) c.send.ensures.plays

@@ -6,4 +6,4 @@ pub keys-init : goal.keys-init
 keys-init g c = first-none c.args.session.now _ (waiting c.args.pending.now)
 
 pub keys-preserved : goal.keys-preserved
-keys-preserved g c = first-took _ _ _ _ _ _ _ _ _ _ _ c.keys.invariant c.take.ensures c.in-Some.is c.in_ok-send.ensures
+keys-preserved g c = first-took _ _ _ _ _ _ _ _ _ _ _ c.keys.invariant c.take.ensures c.in-Some.is c.in_ok-send.ensures.plays

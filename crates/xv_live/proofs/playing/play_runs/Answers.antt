@@ -1,5 +1,6 @@
 use Rattle.std.proofs.Common.{◌≡◌, ◌≤◌, ◌-◌, sym, arith}
 use Rattle.kernel_spec.specs.runs.Run.{Run}
+use Rattle.xv_live.proofs.Broke.{begins-some, on-err}
 use Rattle.xv_live.proofs.Played.{plays-begun, plays-more, plays-same}
 use Rattle.xv_live.proofs.playing.play_runs.Goals as goal
 
@@ -16,7 +17,11 @@ runs-preserved g c =
           (plays-same c.in_ok-sent.sent c.from-left.result Run _ _ _ _ (sym same) c.in_ok-sent.ensures.plays),
     )
 
-pub returns : goal.returns
-returns g c =
+pub returns-clause-plays : goal.returns-clause-plays
+returns-clause-plays g c =
     let all : c.args.count - c.runs.left ≡ c.args.count = omega arith in
     plays-same (c.args.count - c.runs.left) c.args.count Run _ _ _ _ all c.runs.invariant.1
+
+pub returns-in_err-sent-clause-begins : goal.returns-in_err-sent-clause-begins
+returns-in_err-sent-clause-begins g c =
+    on-err c.from_residual.result (begins-some c.args.count c.runs.left Run _ _ _ _ _ c.runs.invariant.0 c.runs.invariant.1 c.in_err-sent.ensures.still)
