@@ -26,7 +26,8 @@ use Rattle.gdb_target.specs.LetRun.{if_let}
 use Rattle.gdb_target.specs.PlayedBy.{is_run}
 use Rattle.gdb_target.specs.Rows.{RunsToStop, is_free, looks_at_row, starts_row}
 use Rattle.gdb_target.specs.Standing.{NextIsRun, does_instruction, stander, stander_of, starter, starter_of, if_so, begins, is_among, is_place}
-use Rattle.gdb_target.specs.Touches.{access_by, access_or, doer, first_used, if_done, of_program, read_by, touch_ahead, touch_of, touched, use_by, use_of_access, use_of_step, used_by, watched_addresses, watches_uses}
+use Rattle.gdb_target.specs.Touches.{access_by, access_or, doer, first_used, if_done, of_program, read_by, touch_ahead, touch_of, touched}
+use Rattle.gdb_target.specs.Touches.{use_by, use_of_access, use_of_step, used_by, watched_addresses, watches_uses}
 use Rattle.gdb_target.specs.declared.let_run.LetRun.{LetRun}
 use Rattle.gdb_target.specs.declared.played.Played.{Played}
 use Rattle.gdb_target.specs.declared.points.Points.{Points}

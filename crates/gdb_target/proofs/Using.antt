@@ -19,12 +19,12 @@ module _ (p : ℕ → Bool) (address : ℕ) where
   pub none-more : (n : ℕ) → among n ≡ false → p (at n) ≡ false → among (n + 1) ≡ false
   none-more n so_far next = one-more n ∙ ap (λ (b : Bool). b || (p (at n) || false)) so_far ∙ ap (λ (b : Bool). b || false) next
 
-  or-true : (b : Bool) → (b || true) ≡ true
-  or-true true = refl
-  or-true false = refl
+  or-this : (b : Bool) → (b || (true || false)) ≡ true
+  or-this true = refl
+  or-this false = refl
 
   found-at : (n : ℕ) → p (at n) ≡ true → among (n + 1) ≡ true
-  found-at n is = one-more n ∙ ap (λ (b : Bool). among n || (b || false)) is ∙ or-true (among n)
+  found-at n is = one-more n ∙ ap (λ (b : Bool). among n || (b || false)) is ∙ or-this (among n)
 
   still : (n : ℕ) → among n ≡ true → among (n + 1) ≡ true
   still n is = one-more n ∙ ap (λ (b : Bool). b || (p (at n) || false)) is
