@@ -15,7 +15,8 @@ nobody_there w f end slot pids free = inl (free, refl)
 pub not_held : (w : World) (f : ℕ) (end : End) (slot p : ℕ) (pids : List ℕ) → HasSlot w.turns p slot → holds_end w.state p f end ≡ false → AddsHolder w f end slot pids pids
 not_held w f end slot p pids has holds = inr (p, has, sym (append-nil pids) ∙ ap (λ (b : Bool). pids ++ (if b then p ∷ [] else [])) (sym holds))
 
-pub held : (w : World) (f : ℕ) (end : End) (slot p : ℕ) (before pids : List ℕ) → HasSlot w.turns p slot → holds_end w.state p f end ≡ true → pids ≡ before ++ p ∷ [] → AddsHolder w f end slot before pids
+pub held : (w : World) (f : ℕ) (end : End) (slot p : ℕ) (before pids : List ℕ)
+    → HasSlot w.turns p slot → holds_end w.state p f end ≡ true → pids ≡ before ++ p ∷ [] → AddsHolder w f end slot before pids
 held w f end slot p before pids has holds put = inr (p, has, put ∙ ap (λ (b : Bool). before ++ (if b then p ∷ [] else [])) (sym holds))
 
 -- ---- those in the first slots

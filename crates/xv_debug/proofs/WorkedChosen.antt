@@ -1,5 +1,6 @@
 -- Worked cases of which call words look at.
 use Rattle.std.proofs.Common.{◌≡◌, ℕ, true, false, List, codes, None, Some, refl}
+use Rattle.std.specs.Fmt.{digits}
 use Rattle.kernel_spec.specs.views.State.{State}
 use Rattle.rv64i_core.specs.Registers.{Registers}
 use Rattle.dwarf.specs.Frames.{FramesOf}
@@ -88,6 +89,7 @@ itself : unreached (Frame None) 3 1 ≡ None
 itself = refl
 
 it_is_told_as_gdb_does : unreached_text (Level 4) ≡ codes "No frame at level 4.\n"
+unfolding digits
 it_is_told_as_gdb_does = refl
 
 -- ---- what is seen of it

@@ -7,4 +7,4 @@ pub returns-in_ok-show_nameless-in-Err-clause-done : goal.returns-in_ok-show_nam
 returns-in_ok-show_nameless-in-Err-clause-done g c = record { word = Nothing; in_range = tt; does = refl; behind = refl }
 
 pub returns-in_ok-show_nameless-in-Err-clause-moved : goal.returns-in_ok-show_nameless-in-Err-clause-moved
-returns-in_ok-show_nameless-in-Err-clause-moved g c = stays-left (length c.args.session.now.events) c.args.self.now.chosen
+returns-in_ok-show_nameless-in-Err-clause-moved g c = stays-left (length c.args.session.now.events) c.tells_of_calls.new.self.chosen
