@@ -5,6 +5,13 @@ continue
 #> Value = 30
 stepi
 step
+delete
+rwatch counted
+#> Hardware read watchpoint 2: counted
 set scheduler-locking on
 continue
-#> Hardware read watchpoint 1: counted
+#> Thread 3 hit Hardware read watchpoint 2: counted
+continue
+#> Thread 3 hit Hardware read watchpoint 2: counted
+reverse-continue
+#> Thread 3 hit Hardware read watchpoint 2: counted
