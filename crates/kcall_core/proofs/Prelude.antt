@@ -116,8 +116,7 @@ pub use Rattle.kernel_spec.proofs.memory.OnAbsent.{before_fault, before_same, be
 pub use Rattle.kernel_spec.proofs.memory.OnAbsent.{page_not_on_absent}
 unfoldable pub use Rattle.kernel_spec.proofs.memory.OnAbsent.{is_on_absent}
 pub use Rattle.kernel_spec.proofs.memory.UserBytes.{front-bytes, low-read, pointer-none, pointer-there, text-found, text-none}
-pub use Rattle.kernel_spec.proofs.rows.Decoding.{close_case, dup_case, is_close, is_dup, is_exec, is_exit, is_fork, is_getpid, is_kill, is_pipe, is_read, is_sbrk, is_sbrklazy, is_sleep, is_uptime}
-pub use Rattle.kernel_spec.proofs.rows.Decoding.{is_wait, is_write, lowest_free_above_is, lowest_free_is, pipe_case, read_case, write_case}
+pub use Rattle.kernel_spec.proofs.rows.Decoding.{close_case, dup_case, lowest_free_above_is, lowest_free_is, pipe_case, read_case, write_case}
 pub use Rattle.kernel_spec.proofs.rows.Resized.{at-greater, at-smaller, lazily-price, lazy-inside, lazy-outside, sbrk-outside, sbrk-resized, sbrk-too-dear}
 pub use Rattle.kernel_spec.proofs.rows.RowParts.{A_program, cannot_fork, close_at, close_number, close_on, dup_at, dup_number, dup_on, exec_loaded, exec_path, exec_program, forked, kill_pid}
 pub use Rattle.kernel_spec.proofs.rows.RowParts.{killed_by, kind_named, length_of_int, moving, Named, Nothing, open_at, open_path, opened_as, piped, program_place, read_file, read_from, reaped}

@@ -2,6 +2,7 @@ mod Prelude
 pub mod Common
 pub mod worked
 pub mod rows
+pub mod calls
 pub mod steps
 pub mod well
 pub mod waking

@@ -47,7 +47,7 @@ pub use Rattle.xk_base.specs.declared.limits.TheConstants.{ARG_BYTES, CONSOLE_BY
 pub use Rattle.xk_base.specs.declared.limits.TheConstants.{PROGRAMS_MAX, SEND_BYTES, SIZE_LIMIT, TRACE_MAX}
 pub use Rattle.rv64i_core.proofs.Aligned.{within-page}
 pub use Rattle.rv64i_core.specs.Memory.{bytes_of_width, Cell, cell_byte, Memory, or_fault, Store, written}
-unfoldable pub use Rattle.rv64i_core.specs.Memory.{bytes_at, fetched, storing}
+unfoldable pub use Rattle.rv64i_core.specs.Memory.{bytes_at, fetched}
 pub use Rattle.rv64i_core.specs.Registers.{add, after, fresh, put, reg, Registers, with_pc}
 pub use Rattle.rv64i_core.specs.Step.{data_address_of, Ecall, extended, Fault, row_of as instruction_of, is_data_page_fault, is_taken, load_step, load_width, Next, or_pc, Step, step_of_word, stop_of}
 pub use Rattle.rv64i_core.specs.Step.{store_step, store_width}
@@ -98,7 +98,8 @@ unfoldable pub use Rattle.kernel_spec.specs.others.Quiet.{seen}
 pub use Rattle.kernel_spec.specs.rows.Buffers.{grown, may_touching, pointer_at, readable, shrunk, text_from, writable, writable_now}
 unfoldable pub use Rattle.kernel_spec.specs.rows.Buffers.{no_slashes, reaches_touching, text_at, texts_at}
 pub use Rattle.kernel_spec.specs.rows.Calls.{answered, Close, done, done_at, Dup, ends_stored, Exec, Exit, exit, Fork, Getpid, getpid, gone, has_child, has_mode, Kill, least_zombie, next_bytes, Open}
-pub use Rattle.kernel_spec.specs.rows.Calls.{Pipe_row, Read, read_stored, refused, Row, Sbrk, Sbrklazy, Sleep, status_stored, table, Uptime, uptime, Wait, waits, what_is_named, with_a0, Write}
+pub use Rattle.kernel_spec.specs.rows.Calls.{Pipe_row, Read, read_stored, refused, Row, Sbrk, Sbrklazy, Sleep, status_stored, storing, table, Uptime, uptime, Wait, waits, what_is_named, with_a0}
+pub use Rattle.kernel_spec.specs.rows.Calls.{Write}
 unfoldable pub use Rattle.kernel_spec.specs.rows.Calls.{close, dup, exec, fork, kill, make_pipe, open_file, perform, read, row, row_of, sbrk, sbrklazy, sleep, wait, write}
 pub use Rattle.kernel_spec.specs.rows.Execs.{HasExeced, IsExecDone, IsExecOf}
 pub use Rattle.kernel_spec.specs.rows.Lines.{natural, result_of}
@@ -107,7 +108,7 @@ pub use Rattle.kernel_spec.specs.rows.Stores.{IsStored, IsStoredAs, Lies, next_e
 pub use Rattle.kernel_spec.specs.rows.Stores.{stored_in, unless_refused}
 pub use Rattle.kernel_spec.specs.rows.Tables.{advance, advance_shown, advanced, all_closed, change_pipe, change_pipes, change_shown, changed, doubled, ends, is_end, lowest_free, lowest_free_above}
 pub use Rattle.kernel_spec.specs.rows.Tables.{names_given_up, on_end, one_less_on, one_more_on, pipes_given_up, shown_on_end, with_copy, with_descriptor, without_descriptor}
-pub use Rattle.kernel_spec.specs.rows.Terminal.{has_committed, has_room_to_send, next_line, room_for, without_line}
+pub use Rattle.kernel_spec.specs.rows.Terminal.{has_committed, has_room_to_send, next_line, room_for, with_sent, without_line}
 pub use Rattle.kernel_spec.specs.rows.Touches.{at_price, before_instruction, before_step, has_absent, instruction_now, page_used}
 unfoldable pub use Rattle.kernel_spec.specs.rows.Touches.{touch}
 pub use Rattle.kernel_spec.specs.runs.Alike.{AreAlike, IsOrderly, meet_on_file}

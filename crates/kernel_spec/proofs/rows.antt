@@ -18,8 +18,6 @@ pub mod Falls
 pub mod Resized
 pub mod Pids
 pub mod CleanPages
-pub mod NewBytes
-pub mod Filled
 pub mod KeptBytes
 pub mod OwnBytes
 pub mod SetBytes

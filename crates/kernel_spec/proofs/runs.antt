@@ -9,4 +9,3 @@ pub mod Sharing
 pub mod Shown
 pub mod Sources
 pub mod Two
-pub mod Uses

@@ -1,6 +1,6 @@
 -- A read from a pipe, as the code goes through it.
 use Rattle.kcall_core.proofs.Prelude.{ℕ, ℤ, ◌<◌, ◌||◌, ◌∙◌, ◌≡◌, ◌≤◌, After, Alive, ap, arith, Blocked, Bool, both_ways, Call, Called, changed_state, Channel, cond, drop, each_changed, each_of}
-use Rattle.kcall_core.proofs.Prelude.{end_of, eq-eqb, eqb_tells, false, get, get_other, get_same, Hart, has_bytes, has_room, held_at, inl, inr, insert, is_for, is_read, IsRunning, IsSome, IsSound}
+use Rattle.kcall_core.proofs.Prelude.{end_of, eq-eqb, eqb_tells, false, get, get_other, get_same, Hart, has_bytes, has_room, held_at, inl, inr, insert, is_for, IsRunning, IsSome, IsSound}
 use Rattle.kcall_core.proofs.Prelude.{IsWhole, Kernel, le-ltb, length, length-drop, Live, live_now, live_part, lt-ltb, ltb-false, Makes, Memories, Moves, nat_eq, nat_lt, NOFILE, None, not, not-false}
 use Rattle.kcall_core.proofs.Prelude.{not-true, or_gone, or_new, or_parts, Own, pid_now, Pipe, PIPE_BYTES, pipe_named, pipes_of, pos, read, read_is, read_takes, read_waits, read_waits_for, ReadsPipe}
 use Rattle.kcall_core.proofs.Prelude.{ready, refl, row_of, row_waits_for, same_channel, slot_now, Some, State, state_of, subst, sym, take, target_at, target_of_open, there, true, View, view_now}
@@ -16,6 +16,7 @@ use Rattle.proc_table.specs.declared.channel.Channel.TheVariants as on
 use Rattle.kernel_spec.specs.steps.Updates as update
 use Rattle.kernel_spec.proofs.steps.AloneLawsHold as law
 use Rattle.kernel_spec.proofs.well.WellLaws as well
+use Rattle.kernel_spec.proofs.calls.read.{is_read}
 
 cond-at : {A : Type 0} (b c : Bool) (x y : A) → b ≡ c → cond b x y ≡ cond c x y
 cond-at b c x y e = ap (λ z. cond z x y) e

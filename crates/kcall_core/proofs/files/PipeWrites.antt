@@ -1,7 +1,7 @@
 -- A write to a pipe, as the code goes through it.
 use Rattle.kcall_core.proofs.Prelude.{ℕ, ℤ, ◌%◌, ◌&&◌, ◌+◌, ◌-◌, ◌<◌, ◌^◌, ◌||◌, ◌∙◌, ◌≡◌, ◌≤◌, After, Alive, ap, arith, Blocked, Bool, Call, Called, cases_lt, changed_state, Channel, cond, done}
 use Rattle.kcall_core.proofs.Prelude.{each_changed, each_of, end_of, eq-eqb, eqb_tells, false, fit, get, get_or, get_other, get_same, Hart, has_bytes, has_room, HasMemory, held_at, image_byte}
-use Rattle.kcall_core.proofs.Prelude.{image_bytes, inl, inr, insert, is_for, is_write, IsRunning, IsSome, IsSound, IsWhole, Kernel, le-leb, le-ltb, length, length-append, Live, live_now, live_part}
+use Rattle.kcall_core.proofs.Prelude.{image_bytes, inl, inr, insert, is_for, IsRunning, IsSome, IsSound, IsWhole, Kernel, le-leb, le-ltb, length, length-append, Live, live_now, live_part}
 use Rattle.kcall_core.proofs.Prelude.{lt-leb, lt-ltb, ltb-false, Makes, Memories, Moves, nat_eq, nat_le, nat_lt, NOFILE, None, now_moved, or_false, or_gone, or_new, or_nothing, or_parts, Own, pid_now}
 use Rattle.kcall_core.proofs.Prelude.{Pipe, PIPE_BYTES, pipe_cost, pipe_named, pipe_write, PipeChanges, pipes_of, pos, readable, ready, refl, refused, row_of, row_waits_for, set, set-get_or, slot_now}
 use Rattle.kcall_core.proofs.Prelude.{Some, State, state_of, subst, sym, target_at, target_of_open, the_value, true, View, view_now, view_of, waits, waits_for, wakes_readers, with_more, woken_by}
@@ -19,6 +19,7 @@ use Rattle.proc_table.specs.declared.channel.Channel.TheVariants as on
 use Rattle.kernel_spec.specs.steps.Updates as update
 use Rattle.kernel_spec.proofs.steps.AloneLawsHold as law
 use Rattle.kernel_spec.proofs.steps.PipeWriteIsItsRow as pipes
+use Rattle.kernel_spec.proofs.calls.write.{is_write}
 
 module _ {k : Kernel} {h : Hart} {c : Call} {f n : ℕ} (whole : IsWhole k h) (runs : IsRunning k) (x : WritesPipe k h c f n) where
   abbrev s : State

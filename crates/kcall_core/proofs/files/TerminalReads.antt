@@ -1,6 +1,6 @@
 -- A read from the terminal, as the code goes through it.
 use Rattle.kcall_core.proofs.Prelude.{[], ℕ, ℤ, ◌%◌, ◌+◌, ◌-◌, ◌^◌, ◌∙◌, ◌≡◌, ◌≤◌, After, Alive, ap, arith, Blocked, Bool, Call, Called, cases_lt, changed_state, cond, Console, done, each_of, end_of}
-use Rattle.kcall_core.proofs.Prelude.{false, first_bytes, free_of, get, get_same, Hart, HasMemory, held_at, Image, inl, inr, is_for, is_read, IsRunning, IsSound, IsWhole, IsWithinLimits, Kernel}
+use Rattle.kcall_core.proofs.Prelude.{false, first_bytes, free_of, get, get_same, Hart, HasMemory, held_at, Image, inl, inr, is_for, IsRunning, IsSound, IsWhole, IsWithinLimits, Kernel}
 use Rattle.kcall_core.proofs.Prelude.{le-leb, length, line_length, List, Live, live_now, live_part, lt-ltb, Makes, Memories, name_of_file, nat_eq, nat_le, nat_lt, next_line, no_bytes, NOFILE, None}
 use Rattle.kcall_core.proofs.Prelude.{numbered, Own, pid_now, pos, Pulled, pulled, read, read_case, read_from, read_waits_for, ReadsTerminal, ready, refl, rename_shown, row_of, row_waits_for, RunsIn}
 use Rattle.kcall_core.proofs.Prelude.{show, slice_get, slot_now, SlotChanges, Some, State, state_of, Store, subst, sym, target_at, target_of_open, true, up_to, View, view_now, view_of, waits}
@@ -21,6 +21,7 @@ use Rattle.proc_table.specs.declared.channel.Channel.TheVariants as on
 use Rattle.kernel_spec.specs.steps.Updates as update
 use Rattle.kernel_spec.proofs.steps.AloneLawsHold as law
 use Rattle.kernel_spec.proofs.well.WellLaws as well
+use Rattle.kernel_spec.proofs.calls.read.{is_read}
 
 -- ---- what a read takes and leaves
 

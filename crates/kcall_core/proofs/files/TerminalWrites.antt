@@ -1,6 +1,6 @@
 -- A write to the terminal, as the code goes through it.
 use Rattle.kcall_core.proofs.Prelude.{ℕ, ℤ, ◌%◌, ◌+◌, ◌-◌, ◌<◌, ◌^◌, ◌∙◌, ◌≡◌, ◌≤◌, After, Alive, ap, arith, Blocked, Call, Called, cases_lt, changed_state, cond, Console, done, each_of, end_of}
-use Rattle.kcall_core.proofs.Prelude.{false, free_of, get, get_or, get_same, Hart, HasMemory, held_at, held_cost, image_bytes, inl, inr, is_for, is_write, IsRunning, IsWhole, IsWithinLimits, Kernel}
+use Rattle.kcall_core.proofs.Prelude.{false, free_of, get, get_or, get_same, Hart, HasMemory, held_at, held_cost, image_bytes, inl, inr, is_for, IsRunning, IsWhole, IsWithinLimits, Kernel}
 use Rattle.kcall_core.proofs.Prelude.{le-leb, le-ltb, length, length-append, List, Live, live_now, live_part, lt-leb, lt-ltb, ltb-false, Makes, nat_le, NOFILE, None, numbered, or_nothing, Own}
 use Rattle.kcall_core.proofs.Prelude.{pid_now, pos, readable, ready, refl, rename_shown, room_for, row_of, row_waits_for, SEND_BYTES, set, set-get_or, show, slot_now, SlotChanges, Some, State}
 use Rattle.kcall_core.proofs.Prelude.{state_of, subst, sym, target_at, target_of_open, the_value, true, View, view_now, view_of, waits, waits_for, with_image, with_sent, write, write_case, write_to}
@@ -18,6 +18,7 @@ use Rattle.kcall_core.proofs.files.TerminalMoves.{Moving, moving-midway}
 use Rattle.proc_table.specs.declared.channel.Channel.TheVariants as on
 use Rattle.kernel_spec.specs.steps.Updates as update
 use Rattle.kernel_spec.proofs.steps.AloneLawsHold as law
+use Rattle.kernel_spec.proofs.calls.write.{is_write}
 
 module _ {k : Kernel} {h : Hart} {c : Call} {n : ℕ} (whole : IsWhole k h) (runs : IsRunning k) (x : WritesTerminal k h c n) where
   abbrev s : State

@@ -1,5 +1,5 @@
 -- A wait where all children live: the process sleeps on its children's channel.
-use Rattle.kcall_core.proofs.Prelude.{ℕ, ◌∙◌, ◌≡◌, After, Alive, ap, Blocked, Call, changed_state, eq-eqb, false, get_same, Hart, is_for, is_wait, IsRunning, IsWhole, Kernel, Live, live_now}
+use Rattle.kcall_core.proofs.Prelude.{ℕ, ◌∙◌, ◌≡◌, After, Alive, ap, Blocked, Call, changed_state, eq-eqb, false, get_same, Hart, is_for, IsRunning, IsWhole, Kernel, Live, live_now}
 use Rattle.kcall_core.proofs.Prelude.{live_part, Makes, Own, pid_now, pos, ready, refl, row_of, row_waits_for, Some, State, state_of, subst, sym, true, view_now, view_of, wait, waits, waits_for}
 use Rattle.kcall_core.proofs.turns.Turned.{live-is}
 use Rattle.kcall_core.proofs.turns.StepSlots.{KeepsAll}
@@ -9,6 +9,7 @@ use Rattle.kcall_core.proofs.making.Moved.{still, sleeps-unready}
 use Rattle.proc_table.specs.declared.channel.Channel.TheVariants as on
 use Rattle.kernel_spec.specs.steps.Updates as update
 use Rattle.kernel_spec.proofs.steps.AloneLawsHold as law
+use Rattle.kernel_spec.proofs.calls.wait.{is_wait}
 
 -- ---- it sleeps
 

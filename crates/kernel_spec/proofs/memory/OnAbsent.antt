@@ -6,9 +6,9 @@ use Rattle.kernel_spec.proofs.Prelude.{data_rights, decoded, Ebreak, Ecall, Ecal
 use Rattle.kernel_spec.proofs.Prelude.{Image, Instr, instr, instruction_of as row_of, instruction_row as row, is_absent, is_data_page_fault, is_taken, Jal, Jalr, jump, le, le_bytes, List, Load}
 use Rattle.kernel_spec.proofs.Prelude.{load_step, load_width, LoadMisaligned, LoadOp, LoadPageFault, Lui, Memory, Next, next_instruction, None, Ok, Op, OpImm, Option, OpW, or_fault, or_pc, Page}
 use Rattle.kernel_spec.proofs.Prelude.{page_used, put, refl, reg, Registers, Result, ShiftImm, ShiftImmW, slice_index, Some, Step, step_of_word, stop_of, Store, store_step, store_width, StoreInstr}
-use Rattle.kernel_spec.proofs.Prelude.{StoreMisaligned, StorePageFault, storing, subst, suc, sym, TargetMisaligned, touch, true, unwrap_or, user, View, Width, with_page, with_pc, within-page, zero}
-use Rattle.kernel_spec.proofs.Prelude.{zero_frame, zeroed}
-use Rattle.rv64i_core.specs.Memory.{loaded}
+use Rattle.kernel_spec.proofs.Prelude.{StoreMisaligned, StorePageFault, subst, suc, sym, TargetMisaligned, touch, true, unwrap_or, user, View, Width, with_page, with_pc, within-page, zero, zero_frame}
+use Rattle.kernel_spec.proofs.Prelude.{zeroed}
+use Rattle.rv64i_core.specs.Memory.{storing, loaded}
 use Rattle.rv64i_core.specs.Step.{instruction_of}
 use Rattle.rv64i_core.specs.declared.instruction.StoreOp.{StoreOp}
 use Rattle.kernel_spec.proofs.rows.Settled.{there-not-absent, brought-there, touch-none}

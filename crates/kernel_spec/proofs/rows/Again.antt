@@ -1,16 +1,16 @@
 -- A process that waits, and isn't ready, waits again and changes nothing.
-use Rattle.kernel_spec.proofs.Prelude.{[], ℕ, ℤ, ◌&&◌, ◌++◌, ◌+◌, ◌-◌, ◌<◌, ◌||◌, ◌∙◌, ◌≡◌, ◌≤◌, add-zero, advance, ap, append-nil, arith, bare, bare_shown, Blocked, Bool, c_int, Call, call_ready}
-use Rattle.kernel_spec.proofs.Prelude.{can_read, can_write, change_pipe, child_status, cond, cond-false, cond-true, Descriptor, done, done_at, drop, End, false, first_bytes, fit, goes_on, going_on}
-use Rattle.kernel_spec.proofs.Prelude.{has_bytes, has_child, has_passed, Image, in_use, inl, inr, is_some, least_zombie, leb_tells, length, length-take, line_length, List, Live, live, lt-ltb}
-use Rattle.kernel_spec.proofs.Prelude.{ltb-false, ltb-true, min, minus_one, nat_eq, nat_le, nat_lt, negsuc, next_bytes, None, not, not-false, on_shown, Option, option_map, or_parts, own, Pipe}
-use Rattle.kernel_spec.proofs.Prelude.{PIPE_BYTES, pos, program_bytes, Pulled, pulled, Read, readable, ready, refl, refused, room_for, Row, row_of, row_ready, same_Some, SameDescriptors, SameRest}
-use Rattle.kernel_spec.proofs.Prelude.{SEND_BYTES, Shown, Shown_file, Shown_pipe, Shown_terminal, Sleep, slice_get, Some, State, subst, sym, take, there as there_in, ticks_since, true, unless_killed}
-use Rattle.kernel_spec.proofs.Prelude.{UnreadyWaits, up_to, View, view, view_of, Wait, waits, with_more, without_first, writable, Write, write_image}
-use Rattle.kernel_spec.proofs.rows.Falls.{Falls, falls_done, falls_unless, falls_moving, falls_cond, own_falls}
+use Rattle.kernel_spec.proofs.Prelude.{[], ℕ, ℤ, ◌&&◌, ◌++◌, ◌+◌, ◌-◌, ◌<◌, ◌||◌, ◌∙◌, ◌≡◌, ◌≤◌, add-zero, ap, append-nil, arith, bare, bare_shown, Blocked, Bool, c_int, Call, call_ready, can_read}
+use Rattle.kernel_spec.proofs.Prelude.{can_write, change_pipe, cond, cond-false, cond-true, Descriptor, done, done_at, drop, End, false, first_bytes, fit, goes_on, going_on, has_bytes, has_child}
+use Rattle.kernel_spec.proofs.Prelude.{has_passed, Image, in_use, inl, inr, is_some, least_zombie, leb_tells, length, length-take, line_length, List, Live, live, lt-ltb, ltb-false, ltb-true, min}
+use Rattle.kernel_spec.proofs.Prelude.{nat_eq, nat_le, nat_lt, negsuc, next_bytes, None, not, not-false, on_shown, Option, option_map, or_parts, own, Pipe, PIPE_BYTES, pos, Pulled, pulled, Read}
+use Rattle.kernel_spec.proofs.Prelude.{readable, ready, refl, refused, room_for, Row, row_of, row_ready, same_Some, SameDescriptors, SameRest, SEND_BYTES, Shown, Shown_file, Shown_pipe}
+use Rattle.kernel_spec.proofs.Prelude.{Shown_terminal, Sleep, slice_get, Some, State, subst, sym, take, ticks_since, true, unless_killed, UnreadyWaits, up_to, View, view, view_of, Wait, waits}
+use Rattle.kernel_spec.proofs.Prelude.{with_more, writable, Write, write_image}
+use Rattle.kernel_spec.proofs.rows.Falls.{Falls, Sleepers, own_falls}
 use Rattle.kernel_spec.proofs.steps.OneNameOnePipe.{shown_of, unchanged_by}
 use Rattle.kernel_spec.proofs.steps.WritesKeepRights.{writable_written}
 use Rattle.kernel_spec.proofs.rows.RowParts.{IsSettled, perform_parts, perform_row, unless, reaped, wait_parts, read_parts, read_on, read_from, read_line, moving, unless_nothing, write_parts}
-use Rattle.kernel_spec.proofs.rows.RowParts.{write_on, write_to, write_terminal, write_pipe, length_of_int, sleep_parts, sleep_for, told, without_child}
+use Rattle.kernel_spec.proofs.rows.RowParts.{write_on, write_to, write_terminal, write_pipe, length_of_int, sleep_parts}
 use Rattle.kernel_spec.proofs.rows.RowsByParts.{perform_same}
 use Rattle.kernel_spec.proofs.rows.SettledWaits.{still_settled, settled_written}
 use Rattle.kernel_spec.proofs.rows.BareDescriptors.{bare_alike, bare_changed, in_use_bare}
@@ -78,21 +78,13 @@ no_zombie : (c : Call) (m : View) (o : Option ℕ) → (is_some o || not (has_ch
 no_zombie c m (Some q) e = let no : ⊥ = cc in absurd no
 no_zombie c m None e = ap (λ (b : Bool). cond b (waits c 0 m) (refused c m)) (not-false (has_child m) e)
 
-module _ (c : Call) (v : View) (alive : v.killed ≡ false) (settled : IsSettled c v) where
-  wait_by : row_of c.number ≡ Some Wait → (not (nat_eq c.a0 0) && not (writable v.image c.a0 4)) ≡ false → (o : Option ℕ) → Falls Again (reaped c v o)
-  wait_by row there (Some q) = falls_done Again c (pos q) (told c.a0 (child_status (v.children q)) (without_child q v))
-  wait_by row there None = falls_cond Again (has_child v) (waits c 0 v) (refused c v)
-      (λ _. falls_waits Wait c 0 v settled row waits_on) (λ _. falls_done Again c _ v)
-    where
-      waits_on : Waits_on Wait (record c { moved = 0 }) v
-      waits_on s p m see image same shut =
-          is_wait (record c { moved = 0 }) m
-          ∙ ap (λ (i : Image). unless (not (nat_eq c.a0 0) && not (writable i c.a0 4)) (record c { moved = 0 }) m (λ _. reaped (record c { moved = 0 }) m (least_zombie m))) image
-          ∙ ap (λ (b : Bool). unless b (record c { moved = 0 }) m (λ _. reaped (record c { moved = 0 }) m (least_zombie m))) there
-          ∙ no_zombie (record c { moved = 0 }) m (least_zombie m) shut
-
-  wait_row : row_of c.number ≡ Some Wait → Falls Again (wait_parts c v)
-  wait_row row = falls_unless Again (not (nat_eq c.a0 0) && not (writable v.image c.a0 4)) c v (λ _. reaped c v (least_zombie v)) (λ there. wait_by row there (least_zombie v))
+wait_again : (c : Call) (v : View) → IsSettled c v → row_of c.number ≡ Some Wait → (not (nat_eq c.a0 0) && not (writable v.image c.a0 4)) ≡ false → Falls Again (waits c 0 v)
+wait_again c v settled row there = falls_waits Wait c 0 v settled row (λ s p m see image same shut.
+    let now : Call = record c { moved = 0 } in
+    is_wait now m
+    ∙ ap (λ (i : Image). unless (not (nat_eq c.a0 0) && not (writable i c.a0 4)) now m (λ _. reaped now m (least_zombie m))) image
+    ∙ ap (λ (b : Bool). unless b now m (λ _. reaped now m (least_zombie m))) there
+    ∙ no_zombie now m (least_zombie m) shut)
 
 -- ---- numbers
 
@@ -195,31 +187,15 @@ module _ (c : Call) (v : View) (settled : IsSettled c v) (row : row_of c.number 
       read_again now m e n Shown_terminal here.1 (ap not here.2 ∙ reads) size some still shown
       ∙ line_waits now m n more (no_bytes m.console.committed shuts)
 
-  abbrev taken_view : Pulled → View
-  taken_view q = record v { image = write_image v.image (c.a1 + c.moved) q.taken; console = record v.console { committed = q.left } }
-
-  read_by : (x : Shown) → d.shown ≡ x → Falls Again (read_from c v n d.file x)
-  read_by Shown_terminal shows = line (pulled (nat_eq c.moved 0) (n - c.moved) v.console.committed) (pull_short (nat_eq c.moved 0) (n - c.moved) v.console.committed)
-    where
-      line : (q : Pulled) → (q.ended ≡ false → length q.taken < n - c.moved) → Falls Again (read_line c v q)
-      line q short = falls_cond Again q.ended _ _ (λ _. falls_done Again c (pos (c.moved + length q.taken)) (taken_view q))
-          (λ over. falls_waits Read c (c.moved + length q.taken) (taken_view q) (settled_written c v q.taken (c.a1 + c.moved) settled) row
-          (line_read (c.moved + length q.taken) (taken_view q) (c.a1 + c.moved) q.taken shows
-          (let t : ℕ = length q.taken in let less : t < n - c.moved = short over in let goal : 0 < n - (c.moved + t) = omega arith in goal) refl refl))
-  read_by (Shown_file program offset) shows =
-      let bytes : List ℕ = take n (drop offset (program_bytes (slice_get v.programs program))) in
-      falls_done Again c (pos (length bytes)) (record v { image = write_image v.image c.a1 bytes; descriptors = advance d.file (length bytes) v.descriptors })
-  read_by (Shown_pipe name end pipe) shows = falls_cond Again (not (has_bytes pipe)) (waits c 0 v) _ (λ _. falls_waits Read c 0 v settled row (pipe_read name end pipe shows))
-      (λ _. falls_done Again c (pos (there_in pipe n)) (record v {
-        image = write_image v.image c.a1 (take (there_in pipe n) pipe.bytes);
-        descriptors = change_pipe name (without_first (there_in pipe n) pipe) v.descriptors;
-      }))
-
-read_on_row : (c : Call) (v : View) → IsSettled c v → row_of c.number ≡ Some Read → (o : Option Descriptor) → in_use v (c_int c.a0) ≡ o → Falls Again (read_on c v o)
-read_on_row c v settled row None on = falls_done Again c _ v
-read_on_row c v settled row (Some d) on = falls_unless Again (not d.read) c v _
-    (λ reads. falls_moving Again c v (writable v.image c.a1 (length_of_int (c_int c.a2))) (c_int c.a2) (λ n. read_from c v n d.file d.shown)
-    (λ n size some there. read_by c v settled row d on reads n size some there d.shown refl))
+  line_again : d.shown ≡ Shown_terminal → let p : Pulled = pulled (nat_eq c.moved 0) (n - c.moved) v.console.committed in p.ended ≡ false
+      → Falls Again (waits c (c.moved + length p.taken) (record v { image = write_image v.image (c.a1 + c.moved) p.taken; console = record v.console { committed = p.left } }))
+  line_again shows over =
+      let p : Pulled = pulled (nat_eq c.moved 0) (n - c.moved) v.console.committed in
+      let after : View = record v { image = write_image v.image (c.a1 + c.moved) p.taken; console = record v.console { committed = p.left } } in
+      falls_waits Read c (c.moved + length p.taken) after (settled_written c v p.taken (c.a1 + c.moved) settled) row
+      (line_read (c.moved + length p.taken) after (c.a1 + c.moved) p.taken shows
+      (let t : ℕ = length p.taken in
+      let less : t < n - c.moved = pull_short (nat_eq c.moved 0) (n - c.moved) v.console.committed over in let goal : 0 < n - (c.moved + t) = omega arith in goal) refl refl)
 
 -- ---- write
 
@@ -298,47 +274,28 @@ module _ (c : Call) (v : View) (settled : IsSettled c v) (row : row_of c.number 
         write_again now m e n Shown_terminal here.1 (ap not here.3 ∙ writes) size some (ap (λ (i : Image). not (readable i c.a1 (length_of_int (c_int c.a2)))) (image ∙ image_u) ∙ there) shown
         ∙ full_console now m n more full
 
-  abbrev room : ℕ
-  room = room_for v.console (n - c.moved)
-
-  abbrev sending : View
-  sending = record v { console = record v.console { to_send = v.console.to_send ++ next_bytes c v room } }
-
-  abbrev pushed : ℕ → Pipe → View
-  pushed name pipe = record v { descriptors = change_pipe name (with_more (next_bytes c v (fit pipe (n - c.moved))) pipe) v.descriptors }
-
-  write_by : (x : Shown) → d.shown ≡ x → Falls Again (write_to c v n x)
-  write_by Shown_terminal shows = falls_cond Again (nat_le n (c.moved + room)) (done c (pos n) sending) (waits c (c.moved + room) sending) (λ _. falls_done Again c (pos n) sending)
-      (λ more. falls_waits Write c (c.moved + room) sending settled row (terminal_write (c.moved + room) more sending refl (λ x. refl) shows))
-  write_by (Shown_file program offset) shows = falls_done Again c minus_one v
-  write_by (Shown_pipe name end pipe) shows = falls_unless Again (nat_eq pipe.readers 0) c v (λ _. done_at c n (c.moved + fit pipe (n - c.moved)) (pushed name pipe))
-      (λ _. falls_cond Again (nat_le n (c.moved + fit pipe (n - c.moved))) (done c (pos n) (pushed name pipe))
-      (waits c (c.moved + fit pipe (n - c.moved)) (pushed name pipe)) (λ _. falls_done Again c (pos n) (pushed name pipe))
-      (λ more. falls_waits Write c (c.moved + fit pipe (n - c.moved)) (pushed name pipe) settled row
-      (pipe_write (c.moved + fit pipe (n - c.moved)) more (pushed name pipe) refl (λ x. bare_changed _ (v.descriptors x)) name end pipe shows)))
-
-write_on_row : (c : Call) (v : View) → IsSettled c v → row_of c.number ≡ Some Write → (o : Option Descriptor) → in_use v (c_int c.a0) ≡ o → Falls Again (write_on c v o)
-write_on_row c v settled row None on = falls_done Again c _ v
-write_on_row c v settled row (Some d) on = falls_unless Again (not d.write) c v _
-    (λ writes. falls_moving Again c v (readable v.image c.a1 (length_of_int (c_int c.a2))) (c_int c.a2) (λ n. write_to c v n d.shown)
-    (λ n size some there. write_by c v settled row d on writes n size some there d.shown refl))
-
--- ---- sleep
-
-sleep_by : (c : Call) (v : View) → IsSettled c v → row_of c.number ≡ Some Sleep → (z : ℤ) → c_int c.a0 ≡ z → Falls Again (sleep_for c v z)
-sleep_by c v settled row z is = falls_cond Again (not (has_passed (ticks_since v.clock c.clock) z)) (waits c 0 v) _ (λ _. falls_waits Sleep c 0 v settled row still) (λ _. falls_done Again c _ v)
-  where
-    still : Waits_on Sleep (record c { moved = 0 }) v
-    still s p m see image same shut =
-        let now : Call = record c { moved = 0 } in
-        is_sleep now m ∙ ap (sleep_for now m) is
-        ∙ cond-true (not (has_passed (ticks_since m.clock c.clock) z)) (waits now 0 m) (done now (pos 0) m) (ap not (sym (ap (has_passed (ticks_since m.clock c.clock)) is) ∙ shut))
-
 -- ---- every step
 
+again : (c : Call) (v : View) → IsSettled c v → Sleepers Again c v
+again c v settled = record {
+  wait_here = λ row room child none. wait_again c v settled row room;
+  sleep_here = λ row not_yet. falls_waits Sleep c 0 v settled row (λ s p m see image same shut.
+      let now : Call = record c { moved = 0 } in
+      is_sleep now m
+      ∙ cond-true (not (has_passed (ticks_since m.clock c.clock) (c_int c.a0))) (waits now 0 m) (done now (pos 0) m) (ap not shut));
+  read_line_here = λ row d n r. line_again c v settled row d r.on r.mode n r.size r.some r.room;
+  read_pipe_here = λ row d n r name end pipe shows none. falls_waits Read c 0 v settled row (pipe_read c v settled row d r.on r.mode n r.size r.some r.room name end pipe shows);
+  write_line_here = λ row d n w shows more.
+      let k = room_for v.console (n - c.moved) in
+      let after : View = record v { console = record v.console { to_send = v.console.to_send ++ next_bytes c v k } } in
+      falls_waits Write c (c.moved + k) after settled row
+      (terminal_write c v settled row d w.on w.mode n w.size w.some w.room (c.moved + k) more after refl (λ x. refl) shows);
+  write_pipe_here = λ row d n w name end pipe shows readers more.
+      let k = fit pipe (n - c.moved) in
+      let after : View = record v { descriptors = change_pipe name (with_more (next_bytes c v k) pipe) v.descriptors } in
+      falls_waits Write c (c.moved + k) after settled row
+      (pipe_write c v settled row d w.on w.mode n w.size w.some w.room (c.moved + k) more after refl (λ x. bare_changed _ (v.descriptors x)) name end pipe shows);
+}
+
 pub unready_waits : UnreadyWaits
-unready_waits s p v n m number answer next see rest same shut =
-    own_falls Again (λ c u alive settled row. wait_row c u alive settled row)
-    (λ c u alive settled row. read_on_row c u settled row (in_use u (c_int c.a0)) refl)
-    (λ c u alive settled row. write_on_row c u settled row (in_use u (c_int c.a0)) refl)
-    (λ c u alive settled row. sleep_by c u settled row (c_int c.a0) refl) v number n answer next s p m see rest same shut
+unready_waits s p v n m number answer next see rest same shut = own_falls Again (λ c u alive settled. again c u settled) v number n answer next s p m see rest same shut

@@ -1,12 +1,10 @@
 -- A process that falls asleep isn't ready.
-use Rattle.kernel_spec.proofs.Prelude.{[], ℕ, ℤ, ◌&&◌, ◌++◌, ◌+◌, ◌-◌, ◌<◌, ◌||◌, ◌∙◌, ◌∷◌, ◌≡◌, ◌≤◌, advance, ap, arith, BlocksUnready, Bool, c_int, Call, can_read, can_write, change_pipe}
-use Rattle.kernel_spec.proofs.Prelude.{change_shown, changed, child_status, cond, Descriptor, done, done_at, drop, drop_all, eq-eqb, false, first_bytes, fit, has_bytes, has_child, has_passed}
-use Rattle.kernel_spec.proofs.Prelude.{image_byte, in_use, inl, inr, is_some, le-ltb, least_zombie, leb_tells, length, length-map-range_with_len, line_length, List, min, minus_one, nat_eq, nat_le}
-use Rattle.kernel_spec.proofs.Prelude.{nat_lt, negsuc, next_bytes, None, none-some, not, not-true, on_shown, Option, Own, own, Pipe, PIPE_BYTES, pos, program_bytes, Pulled, pulled, Read, readable}
-use Rattle.kernel_spec.proofs.Prelude.{ready, refl, refused, room_for, Row, row_of, row_ready, same_Some, SEND_BYTES, Shown, Shown_file, Shown_pipe, Shown_terminal, Sleep, slice_get, slice_get_cases}
-use Rattle.kernel_spec.proofs.Prelude.{Some, subst, suc, sym, take, there, ticks_since, true, up_to, View, Wait, waits, with_more, without_first, writable, Write, write_image}
-use Rattle.kernel_spec.proofs.rows.Falls.{Falls, falls_done, falls_unless, falls_moving, falls_cond, own_falls}
-use Rattle.kernel_spec.proofs.rows.RowParts.{reaped, wait_parts, read_parts, read_on, read_from, read_line, moving, write_parts, write_on, write_to, length_of_int, sleep_for, told, without_child}
+use Rattle.kernel_spec.proofs.Prelude.{[], ℕ, ℤ, ◌&&◌, ◌++◌, ◌+◌, ◌-◌, ◌<◌, ◌||◌, ◌∙◌, ◌∷◌, ◌≡◌, ◌≤◌, ap, arith, BlocksUnready, Bool, c_int, Call, can_read, can_write, change_pipe, change_shown}
+use Rattle.kernel_spec.proofs.Prelude.{changed, cond, Descriptor, drop, drop_all, End, eq-eqb, false, first_bytes, fit, has_bytes, has_child, has_passed, image_byte, in_use, inl, inr, is_some, le-ltb}
+use Rattle.kernel_spec.proofs.Prelude.{least_zombie, leb_tells, length, length-map-range_with_len, line_length, List, live, min, nat_eq, nat_le, nat_lt, negsuc, next_bytes, None, none-some, not}
+use Rattle.kernel_spec.proofs.Prelude.{not-true, on_shown, Option, Own, own, Pipe, PIPE_BYTES, pos, Pulled, pulled, Read, ready, refl, room_for, Row, row_of, row_ready, same_Some, SEND_BYTES, Shown}
+use Rattle.kernel_spec.proofs.Prelude.{Shown_pipe, Shown_terminal, Sleep, slice_get, slice_get_cases, Some, subst, suc, sym, ticks_since, true, up_to, View, Wait, waits, with_more, Write, write_image}
+use Rattle.kernel_spec.proofs.rows.Falls.{Falls, Reads, Sleepers, Writes, own_falls}
 
 -- a step that ends in sleep ends in a view that isn't ready
 abbrev Unready : View → ℤ → Type 0
@@ -74,71 +72,31 @@ module _ (c : Call) (v : View) (alive : v.killed ≡ false) where
       → row_ready (record u { call = Some (record c { moved = moved }) }) (record c { moved = moved }) (Some r) ≡ false → Sleeps_unready (waits c moved u)
   row_waits moved u r live is shut = falls_waits c moved u live (ap (row_ready (record u { call = Some (record c { moved = moved }) }) (record c { moved = moved })) is ∙ shut)
 
-  wait_by : row_of c.number ≡ Some Wait → (o : Option ℕ) → least_zombie v ≡ o → Sleeps_unready (reaped c v o)
-  wait_by is (Some q) e = falls_done Unready c (pos q) (told c.a0 (child_status (v.children q)) (without_child q v))
-  wait_by is None e = falls_cond Unready (has_child v) (waits c 0 v) (refused c v)
-      (λ child. row_waits 0 v Wait alive is (λ i. is_some (e i) || not (child i))) (λ _. falls_done Unready c minus_one v)
+  wait_here : row_of c.number ≡ Some Wait → has_child v ≡ true → least_zombie v ≡ None → Sleeps_unready (waits c 0 v)
+  wait_here is child e = row_waits 0 v Wait alive is (λ i. is_some (e i) || not (child i))
 
-  wait_row : row_of c.number ≡ Some Wait → Sleeps_unready (wait_parts c v)
-  wait_row is = falls_unless Unready (not (nat_eq c.a0 0) && not (writable v.image c.a0 4)) c v (λ _. reaped c v (least_zombie v)) (λ _. wait_by is (least_zombie v) refl)
+  sleep_here : row_of c.number ≡ Some Sleep → not (has_passed (ticks_since v.clock c.clock) (c_int c.a0)) ≡ true → Sleeps_unready (waits c 0 v)
+  sleep_here is h = row_waits 0 v Sleep alive is (not-true (has_passed (ticks_since v.clock c.clock) (c_int c.a0)) h)
 
-  -- ---- read
+  line_here : row_of c.number ≡ Some Read → (d : Descriptor) (n : ℕ) → Reads c v d n → d.shown ≡ Shown_terminal
+      → let p : Pulled = pulled (nat_eq c.moved 0) (n - c.moved) v.console.committed in p.ended ≡ false
+      → Sleeps_unready (waits c (c.moved + length p.taken) (record v { image = write_image v.image (c.a1 + c.moved) p.taken; console = record v.console { committed = p.left } }))
+  line_here row d n r shows over =
+      let p : Pulled = pulled (nat_eq c.moved 0) (n - c.moved) v.console.committed in
+      let after : View = record v { image = write_image v.image (c.a1 + c.moved) p.taken; console = record v.console { committed = p.left } } in
+      let waiting : View = record after { call = Some (record c { moved = c.moved + length p.taken }) } in
+      row_waits (c.moved + length p.taken) after Read alive row (ap (on_shown (can_read waiting)) r.on ∙ ap (can_read waiting) shows
+      ∙ ap (λ (xs : List ℕ). nat_lt 0 (length xs)) (pull_empty (nat_eq c.moved 0) (n - c.moved) v.console.committed over))
 
-  module _ (row : row_of c.number ≡ Some Read) where
-    module _ (p : Pulled) where
-      abbrev line_read : View
-      line_read = record v { image = write_image v.image (c.a1 + c.moved) p.taken; console = record v.console { committed = p.left } }
-
-      abbrev line_waiting : View
-      line_waiting = record line_read { call = Some (record c { moved = c.moved + length p.taken }) }
-
-      line_row : (p.ended ≡ false → p.left ≡ []) → on_shown (can_read line_waiting) (in_use v (c_int c.a0)) ≡ can_read line_waiting Shown_terminal → Sleeps_unready (read_line c v p)
-      line_row empty on =
-          falls_cond Unready p.ended (done c (pos (c.moved + length p.taken)) line_read) (waits c (c.moved + length p.taken) line_read)
-          (λ _. falls_done Unready c (pos (c.moved + length p.taken)) line_read)
-          (λ over. row_waits (c.moved + length p.taken) line_read Read alive row (on ∙ ap (λ (xs : List ℕ). nat_lt 0 (length xs)) (empty over)))
-
-    abbrev waiting : View
-    waiting = record v { call = Some (record c { moved = 0 }) }
-
-    read_by : (n : ℕ) (d : Descriptor) (x : Shown) → in_use v (c_int c.a0) ≡ Some d → d.shown ≡ x → Sleeps_unready (read_from c v n d.file x)
-    read_by n d Shown_terminal on shows =
-        line_row (pulled (nat_eq c.moved 0) (n - c.moved) v.console.committed) (pull_empty (nat_eq c.moved 0) (n - c.moved) v.console.committed)
-        (ap (on_shown (can_read (line_waiting (pulled (nat_eq c.moved 0) (n - c.moved) v.console.committed)))) on
-        ∙ ap (can_read (line_waiting (pulled (nat_eq c.moved 0) (n - c.moved) v.console.committed))) shows)
-    read_by n d (Shown_file program offset) on shows =
-        falls_done Unready c (pos (length (take n (drop offset (program_bytes (slice_get v.programs program))))))
-        (record v {
-          image = write_image v.image c.a1 (take n (drop offset (program_bytes (slice_get v.programs program))));
-          descriptors = advance d.file (length (take n (drop offset (program_bytes (slice_get v.programs program))))) v.descriptors;
-        })
-    read_by n d (Shown_pipe name end pipe) on shows =
-        falls_cond Unready (not (has_bytes pipe)) (waits c 0 v)
-        (done c (pos (there pipe n)) (record v {
-          image = write_image v.image c.a1 (take (there pipe n) pipe.bytes);
-          descriptors = change_pipe name (without_first (there pipe n) pipe) v.descriptors;
-        }))
-        (λ h. row_waits 0 v Read alive row (ap (on_shown (can_read waiting)) on ∙ ap (can_read waiting) shows ∙ not-true (has_bytes pipe) h))
-        (λ _. falls_done Unready c (pos (there pipe n)) (record v {
-          image = write_image v.image c.a1 (take (there pipe n) pipe.bytes);
-          descriptors = change_pipe name (without_first (there pipe n) pipe) v.descriptors;
-        }))
-
-    read_on_row : (o : Option Descriptor) → in_use v (c_int c.a0) ≡ o → Sleeps_unready (read_on c v o)
-    read_on_row None on = falls_done Unready c minus_one v
-    read_on_row (Some d) on =
-        falls_unless Unready (not d.read) c v (λ _. moving c v (writable v.image c.a1 (length_of_int (c_int c.a2))) (c_int c.a2) (λ n. read_from c v n d.file d.shown))
-        (λ _. falls_moving Unready c v (writable v.image c.a1 (length_of_int (c_int c.a2))) (c_int c.a2) (λ n. read_from c v n d.file d.shown) (λ m _ _ _. read_by m d d.shown on refl))
-
-    read_row : Sleeps_unready (read_parts c v)
-    read_row = read_on_row (in_use v (c_int c.a0)) refl
+  pipe_here : row_of c.number ≡ Some Read → (d : Descriptor) (n : ℕ) → Reads c v d n → (name : ℕ) (end : End) (pipe : Pipe) → d.shown ≡ Shown_pipe name end pipe
+      → not (has_bytes pipe) ≡ true → Sleeps_unready (waits c 0 v)
+  pipe_here row d n r name end pipe shows none =
+      let waiting : View = record v { call = Some (record c { moved = 0 }) } in
+      row_waits 0 v Read alive row (ap (on_shown (can_read waiting)) r.on ∙ ap (can_read waiting) shows ∙ not-true (has_bytes pipe) none)
 
   -- ---- write
 
-  module _ (row : row_of c.number ≡ Some Write) where
-    abbrev n : ℕ
-    n = length_of_int (c_int c.a2)
-
+  module _ (row : row_of c.number ≡ Some Write) (n : ℕ) where
     abbrev written : View
     written = record v { console = record v.console { to_send = v.console.to_send ++ next_bytes c v (room_for v.console (n - c.moved)) } }
 
@@ -172,50 +130,37 @@ module _ (c : Call) (v : View) (alive : v.killed ≡ false) where
       in_use_changed (pos d) = refl
       in_use_changed (negsuc k) = refl
 
-    write_by : (d : Descriptor) (x : Shown) → in_use v (c_int c.a0) ≡ Some d → d.shown ≡ x → Sleeps_unready (write_to c v n x)
-    write_by d Shown_terminal on shows =
-        falls_cond Unready (nat_le n console_moved) (done c (pos n) written) (waits c console_moved written) (λ _. falls_done Unready c (pos n) written)
-        (λ h. row_waits console_moved written Write alive row
-        (ap (on_shown (can_write (record written { call = Some (record c { moved = console_moved }) }))) on
-        ∙ ap (can_write (record written { call = Some (record c { moved = console_moved }) })) shows ∙ queue_full h))
-    write_by d (Shown_file program offset) on shows = falls_done Unready c minus_one v
-    write_by d (Shown_pipe name end pipe) on shows =
-        falls_unless Unready (nat_eq pipe.readers 0) c v (λ _. done_at c n (pipe_moved name pipe) (pushed_view name pipe))
-        (λ read. falls_cond Unready (nat_le n (pipe_moved name pipe)) (done c (pos n) (pushed_view name pipe))
-        (waits c (pipe_moved name pipe) (pushed_view name pipe)) (λ _. falls_done Unready c (pos n) (pushed_view name pipe))
-        (λ h. row_waits (pipe_moved name pipe) (pushed_view name pipe) Write alive row
-        (ap (on_shown (can_write (record (pushed_view name pipe) { call = Some (record c { moved = pipe_moved name pipe }) })))
-        (in_use_changed name pipe (c_int c.a0) ∙ ap (changed (λ m x. cond (nat_eq m name) (pipe_after name pipe) x)) on)
-        ∙ ap (λ (z : Shown). can_write (record (pushed_view name pipe) { call = Some (record c { moved = pipe_moved name pipe }) })
-        (change_shown (λ m x. cond (nat_eq m name) (pipe_after name pipe) x) z)) shows
+    sends_here : (d : Descriptor) → Writes c v d n → d.shown ≡ Shown_terminal → nat_le n console_moved ≡ false → Sleeps_unready (waits c console_moved written)
+    sends_here d w shows h =
+        let waiting : View = record written { call = Some (record c { moved = console_moved }) } in
+        row_waits console_moved written Write alive row (ap (on_shown (can_write waiting)) w.on ∙ ap (can_write waiting) shows ∙ queue_full h)
+
+    pushes_here : (d : Descriptor) → Writes c v d n → (name : ℕ) (end : End) (pipe : Pipe) → d.shown ≡ Shown_pipe name end pipe → nat_eq pipe.readers 0 ≡ false
+        → nat_le n (pipe_moved name pipe) ≡ false → Sleeps_unready (waits c (pipe_moved name pipe) (pushed_view name pipe))
+    pushes_here d w name end pipe shows read h =
+        let waiting : View = record (pushed_view name pipe) { call = Some (record c { moved = pipe_moved name pipe }) } in
+        row_waits (pipe_moved name pipe) (pushed_view name pipe) Write alive row
+        (ap (on_shown (can_write waiting)) (in_use_changed name pipe (c_int c.a0) ∙ ap (changed (λ m x. cond (nat_eq m name) (pipe_after name pipe) x)) w.on)
+        ∙ ap (λ (z : Shown). can_write waiting (change_shown (λ m x. cond (nat_eq m name) (pipe_after name pipe) x) z)) shows
         ∙ (λ i. has_room_in (cond (eq-eqb name name refl i) (pipe_after name pipe) pipe))
-        ∙ (λ i. pipe_full name pipe h i || read i))))
+        ∙ (λ i. pipe_full name pipe h i || read i))
       where
         has_room_in : Pipe → Bool
         has_room_in x = nat_lt (length x.bytes) PIPE_BYTES || nat_eq x.readers 0
 
-    write_on_row : (o : Option Descriptor) → in_use v (c_int c.a0) ≡ o → Sleeps_unready (write_on c v o)
-    write_on_row None on = falls_done Unready c minus_one v
-    write_on_row (Some d) on =
-        falls_unless Unready (not d.write) c v (λ _. moving c v (readable v.image c.a1 (length_of_int (c_int c.a2))) (c_int c.a2) (λ m. write_to c v m d.shown))
-        (λ _. falls_moving Unready c v (readable v.image c.a1 (length_of_int (c_int c.a2))) (c_int c.a2) (λ m. write_to c v m d.shown)
-        (λ m e _ _. subst (λ (k : ℕ). Sleeps_unready (write_to c v k d.shown)) (ap length_of_int e) (write_by d d.shown on refl)))
-
-    write_row : Sleeps_unready (write_parts c v)
-    write_row = write_on_row (in_use v (c_int c.a0)) refl
-
-  -- ---- sleep
-
-  sleep_by : row_of c.number ≡ Some Sleep → (z : ℤ) → c_int c.a0 ≡ z → Sleeps_unready (sleep_for c v z)
-  sleep_by is z e =
-      falls_cond Unready (not (has_passed (ticks_since v.clock c.clock) z)) (waits c 0 v) (done c (pos 0) v)
-      (λ h. row_waits 0 v Sleep alive is (ap (has_passed (ticks_since v.clock c.clock)) e ∙ not-true (has_passed (ticks_since v.clock c.clock) z) h))
-      (λ _. falls_done Unready c (pos 0) v)
+  unready : Sleepers Unready c v
+  unready = record {
+    wait_here = λ row room child none. wait_here row child none;
+    sleep_here = sleep_here;
+    read_line_here = line_here;
+    read_pipe_here = pipe_here;
+    write_line_here = λ row d n. sends_here row n d;
+    write_pipe_here = λ row d n. pushes_here row n d;
+  }
 
 -- who falls asleep isn't ready
 pub own_unready : (v : View) → Sleeps_unready (own v)
-own_unready v = own_falls Unready (λ c u alive settled row. wait_row c u alive row) (λ c u alive settled row. read_row c u alive row)
-    (λ c u alive settled row. write_row c u alive row) (λ c u alive settled row. sleep_by c u alive row (c_int c.a0) refl) v
+own_unready v = own_falls Unready (λ c u alive settled. unready c u alive) v
 
 pub blocks_unready : BlocksUnready
 blocks_unready v n number a e = own_unready v number n a e

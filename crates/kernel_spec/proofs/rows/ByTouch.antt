@@ -1,41 +1,23 @@
 -- A step by its parts: once the absent pages that it touches are there, it is a step in which no page is absent that it needs. So a claim about a step
 -- is one about its refusal, and one about the parts of rows in a view that has more pages.
-use Rattle.kernel_spec.proofs.Prelude.{[], ℕ, ℤ, ◌∙◌, ◌∷◌, ◌≡◌, after_instruction, ap, Bool, Call, Called, cond, Ecall, false, going_on, has_absent, Image, inl, inr, instruction_now, List, minus_one}
-use Rattle.kernel_spec.proofs.Prelude.{Next, next_instruction, None, Option, Own, page_used, perform, refl, refused, Registers, row_of, Some, Step, Store, subst, sym, touch, true, unwrap_or, View}
+use Rattle.kernel_spec.proofs.Prelude.{[], ℕ, ◌∙◌, ◌∷◌, ◌≡◌, after_instruction, ap, Bool, brought, Call, cond, Ecall, false, going_on, Image, inl, inr, instruction_now, List, Next, next_instruction}
+use Rattle.kernel_spec.proofs.Prelude.{None, Option, Own, page_used, perform, refl, refused, Registers, Some, Step, Store, subst, sym, touch, true, unwrap_or, View}
 use Rattle.kernel_spec.proofs.memory.OnAbsent.{next_once_touched, is_on_absent, before-is}
-use Rattle.kernel_spec.proofs.rows.RowParts.{IsSettled, buffer_of, perform_parts}
-use Rattle.kernel_spec.proofs.rows.RowsByParts.{perform_same, performs_on}
+use Rattle.kernel_spec.proofs.rows.RowParts.{IsSettled, perform_parts}
+use Rattle.kernel_spec.proofs.rows.RowsByParts.{performs}
 use Rattle.kernel_spec.proofs.rows.Settled.{touch-comes}
 use Rattle.kernel_spec.proofs.rows.Touched.{IsTouched, touched_view, touched_none, touch_view, touch_touched}
 
 -- ---- a call
 
--- the call isn't refused
-abbrev pub NotRefused : Own → Type 0
-NotRefused o = (number : ℤ) → o.answer ≡ Called number minus_one → ⊥
-
-module _ (P : Own → Type 0) (c : Call) (v : View) where
-  -- of a call: of the refusal, of the row's parts, and of the row's parts once the pages of its buffer came that were absent
-  pub by_call_apart : P (refused c v) → (IsSettled c v → P (perform_parts c v))
-      → ((image : Image) (free : ℕ) → IsTouched v.image image → IsSettled c (touched_view v image free)
-      → has_absent (buffer_of c (row_of c.number)) v.image ≡ true → NotRefused (perform_parts c (touched_view v image free))
-      → P (perform_parts c (touched_view v image free)))
-      → P (perform c v)
-  by_call_apart refusal same parts = by (has_absent (buffer_of c (row_of c.number)) v.image) refl
-    where
-      by : (b : Bool) → has_absent (buffer_of c (row_of c.number)) v.image ≡ b → P (perform c v)
-      by false settled = subst P (sym (perform_same c v settled)) (same settled)
-      by true absent = elim (performs_on c v absent) [
-        | inl is ↦ subst P (sym is) refusal
-        | inr (t, brought, settled, is, goes) ↦
-            let at = touch_view brought.0 v t brought.1 in
-            let there : perform c v ≡ perform_parts c (touched_view v t.image t.free) = is ∙ ap (perform_parts c) at in
-            subst P (sym there) (parts t.image t.free (touch_touched brought.0 v t brought.1) settled absent (subst NotRefused there goes))
-      ]
-
-  -- of a call: of the refusal, and of the row's parts once the pages of its buffer are there
-  pub by_call : P (refused c v) → ((image : Image) (free : ℕ) → IsTouched v.image image → IsSettled c (touched_view v image free) → P (perform_parts c (touched_view v image free))) → P (perform c v)
-  by_call refusal parts = by_call_apart refusal (λ settled. parts v.image v.free (touched_none v.image) settled) (λ image free touched settled absent goes. parts image free touched settled)
+-- of a call: of the refusal, and of the row's parts once the pages of its buffer are there
+pub by_call : (P : Own → Type 0) (c : Call) (v : View) → P (refused c v)
+    → ((image : Image) (free : ℕ) → IsTouched v.image image → IsSettled c (touched_view v image free) → P (perform_parts c (touched_view v image free))) → P (perform c v)
+by_call P c v refusal parts = elim (performs c v) [
+  | inl is ↦ subst P (sym is) refusal
+  | inr (t, brought, settled, is) ↦
+      subst P (sym (is ∙ ap (perform_parts c) (touch_view brought.0 v t brought.1))) (parts t.image t.free (touch_touched brought.0 v t brought.1) settled)
+]
 
 -- ---- an instruction
 

@@ -1,8 +1,8 @@
--- Which case of its row a call comes to, by its number and arguments.
-use Rattle.kernel_spec.proofs.Prelude.{ℕ, ℤ, ◌&&◌, ◌<◌, ◌>>=◌, ◌or◌, ◌||◌, ◌∙◌, ◌≡◌, Alive, ap, ARG_BYTES, Bool, c_int, Call, close, Descriptor, dup, exec, exit, false, fork, get, getpid, in_use}
-use Rattle.kernel_spec.proofs.Prelude.{is_none, IsSome, kill, least_below, List, Live, live_part, loaded, lowest_free, lowest_free_above, make_pipe, MAXARG, MAXPATH, nat_eq, nat_lt, no_slashes}
-use Rattle.kernel_spec.proofs.Prelude.{NOFILE, None, not, numbered, open_file, OpenFile, Option, option_map, Own, perform, pos, program_named, ProgramFile, read, readable, refl, refused, rename, Row}
-use Rattle.kernel_spec.proofs.Prelude.{row, row_of, sbrk, sbrklazy, sleep, Some, State, text_at, texts_at, true, uptime, View, view_of, wait, WellFormed, writable, writable_now, write}
+-- Which case of its row a call comes to, by its arguments.
+use Rattle.kernel_spec.proofs.Prelude.{ℕ, ℤ, ◌&&◌, ◌<◌, ◌||◌, ◌∙◌, ◌≡◌, Alive, ap, ARG_BYTES, Bool, c_int, Call, close, Descriptor, dup, exec, false, get, in_use, is_none, IsSome, kill, least_below}
+use Rattle.kernel_spec.proofs.Prelude.{List, Live, live_part, loaded, lowest_free, lowest_free_above, make_pipe, MAXARG, MAXPATH, nat_eq, nat_lt, no_slashes, NOFILE, None, not, numbered, OpenFile}
+use Rattle.kernel_spec.proofs.Prelude.{Option, option_map, Own, pos, program_named, ProgramFile, read, readable, refl, rename, Some, State, text_at, texts_at, there, true, View, view_of, WellFormed}
+use Rattle.kernel_spec.proofs.Prelude.{writable, writable_now, write}
 use Rattle.kernel_spec.proofs.steps.SeenByParts.{file_of, descriptor_at, descriptor_on}
 use Rattle.kernel_spec.proofs.steps.LeastPasses.{least_congr}
 use Rattle.kernel_spec.proofs.steps.NamesAreChosenAgain.{named_at}
@@ -11,83 +11,7 @@ use Rattle.kernel_spec.proofs.rows.RowParts.{unless_nothing, moving, length_of_i
 use Rattle.kernel_spec.proofs.rows.Settled.{there-ready, now-writable, counted-settled}
 use Rattle.kernel_spec.proofs.rows.RowsByParts.{dup_same, close_same, read_same, write_same, pipe_same, kill_same, exec_same}
 
--- ---- which row
-
 module _ (c : Call) (v : View) where
-  by_number : (number : ℤ) → c.number ≡ number → perform c v ≡ ((row_of number or refused c v) >>= (λ r. row r c v))
-  unfolding perform
-  by_number number is = ap (λ (z : ℤ). (row_of z or refused c v) >>= (λ r. row r c v)) is
-
-  pub is_fork : c.number ≡ pos 1 → perform c v ≡ fork c v
-  unfolding row row_of ◌>>=◌ ◌or◌
-  is_fork is = by_number (pos 1) is
-
-  pub is_exit : c.number ≡ pos 2 → perform c v ≡ exit c v
-  unfolding row row_of ◌>>=◌ ◌or◌
-  is_exit is = by_number (pos 2) is
-
-  pub is_wait : c.number ≡ pos 3 → perform c v ≡ wait c v
-  unfolding row row_of ◌>>=◌ ◌or◌
-  is_wait is = by_number (pos 3) is
-
-  pub is_pipe : c.number ≡ pos 4 → perform c v ≡ make_pipe c v
-  unfolding row row_of ◌>>=◌ ◌or◌
-  is_pipe is = by_number (pos 4) is
-
-  pub is_read : c.number ≡ pos 5 → perform c v ≡ read c v
-  unfolding row row_of ◌>>=◌ ◌or◌
-  is_read is = by_number (pos 5) is
-
-  pub is_kill : c.number ≡ pos 6 → perform c v ≡ kill c v
-  unfolding row row_of ◌>>=◌ ◌or◌
-  is_kill is = by_number (pos 6) is
-
-  pub is_exec : c.number ≡ pos 7 → perform c v ≡ exec c v
-  unfolding row row_of ◌>>=◌ ◌or◌
-  is_exec is = by_number (pos 7) is
-
-  pub is_dup : c.number ≡ pos 10 → perform c v ≡ dup c v
-  unfolding row row_of ◌>>=◌ ◌or◌
-  is_dup is = by_number (pos 10) is
-
-  pub is_getpid : c.number ≡ pos 11 → perform c v ≡ getpid c v
-  unfolding row row_of ◌>>=◌ ◌or◌
-  is_getpid is = by_number (pos 11) is
-
-  pub is_sbrk : c.number ≡ pos 12 → perform c v ≡ sbrk c v
-  unfolding row row_of ◌>>=◌ ◌or◌
-  is_sbrk is = by_number (pos 12) is
-
-  pub is_sleep : c.number ≡ pos 13 → perform c v ≡ sleep c v
-  unfolding row row_of ◌>>=◌ ◌or◌
-  is_sleep is = by_number (pos 13) is
-
-  pub is_uptime : c.number ≡ pos 14 → perform c v ≡ uptime c v
-  unfolding row row_of ◌>>=◌ ◌or◌
-  is_uptime is = by_number (pos 14) is
-
-  pub is_open : c.number ≡ pos 15 → perform c v ≡ open_file c v
-  unfolding row row_of ◌>>=◌ ◌or◌
-  is_open is = by_number (pos 15) is
-
-  pub is_write : c.number ≡ pos 16 → perform c v ≡ write c v
-  unfolding row row_of ◌>>=◌ ◌or◌
-  is_write is = by_number (pos 16) is
-
-  pub is_close : c.number ≡ pos 21 → perform c v ≡ close c v
-  unfolding row row_of ◌>>=◌ ◌or◌
-  is_close is = by_number (pos 21) is
-
-  pub is_sbrklazy : c.number ≡ pos 22 → perform c v ≡ sbrklazy c v
-  unfolding row row_of ◌>>=◌ ◌or◌
-  is_sbrklazy is = by_number (pos 22) is
-
-  pub is_none_of_them : row_of c.number ≡ None → perform c v ≡ refused c v
-  unfolding perform ◌>>=◌ ◌or◌
-  is_none_of_them none = ap (λ (o : Option Row). (o or refused c v) >>= (λ r. row r c v)) none
-
-  -- ---- which case
-
   module _ (d : Descriptor) (fd : ℕ) (n : ℕ) (is_fd : c_int c.a0 ≡ pos fd) (used : v.descriptors fd ≡ Some d) where
     pub dup_case : dup c v ≡ dup_at c v fd d (lowest_free v.descriptors)
     dup_case = dup_same c v ∙ ap (dup_number c v) is_fd ∙ ap (dup_on c v fd) used

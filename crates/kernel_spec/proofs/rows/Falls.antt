@@ -1,12 +1,12 @@
 -- What stands of every step that ends in sleep, from the four rows that may wait.
-use Rattle.kernel_spec.proofs.Prelude.{ℕ, ℤ, ◌+◌, ◌-◌, ◌||◌, ◌≡◌, ◌≢◌, after_instruction, Answer, ARG_BYTES, begun, Blocked, Bool, c_int, Call, call_begun, Called, Close, cond, Descriptor, done, Dup}
-use Rattle.kernel_spec.proofs.Prelude.{Ecall, Err, Exec, ExecError, Exit, Exited, false, Fault, Faulted, Fork, Getpid, going_on, gone, grown, grown_lazily, Kill, List, list_any, Loaded, loaded}
-use Rattle.kernel_spec.proofs.Prelude.{lowest_free, lowest_free_above, MAXARG, MAXPATH, minus_one, nat_eq, nat_le, nat_lt, negsuc, Next, next_instruction, no_slashes, None, not, Ok, Open, Option, Own}
-use Rattle.kernel_spec.proofs.Prelude.{own, perform, Pipe_row, pos, price, program_named, ProgramFile, Read, refl, Result, Row, row_of, Sbrk, Sbrklazy, Shown, SIZE_LIMIT, Sleep, Some, Step, suc}
-use Rattle.kernel_spec.proofs.Prelude.{text_at, texts_at, true, unless_killed, Uptime, View, Wait, writable, Write}
-use Rattle.kernel_spec.proofs.rows.RowParts.{IsSettled, perform_parts, perform_row, unless, wait_parts, read_parts, moving, unless_nothing, write_parts, sleep_parts, forked, cannot_fork, piped}
-use Rattle.kernel_spec.proofs.rows.RowParts.{piped_from, pipe_parts, killed_by, exec_loaded, exec_program, exec_path, dup_at, dup_on, dup_number, close_at, sbrk_by, shrink_to, lazy_by, open_at}
-use Rattle.kernel_spec.proofs.rows.RowParts.{open_path, opened_as, kind_named, close_number, close_on, fork_parts, kill_pid, running}
+use Rattle.kernel_spec.proofs.Prelude.{ℕ, ℤ, ◌&&◌, ◌++◌, ◌+◌, ◌-◌, ◌∙◌, ◌≡◌, ◌≢◌, after_instruction, Answer, ap, begun, Blocked, Bool, c_int, Call, call_begun, Called, change_pipe, cond, Descriptor}
+use Rattle.kernel_spec.proofs.Prelude.{done, done_at, drop, Ecall, End, Exited, false, Fault, Faulted, fit, going_on, gone, has_bytes, has_child, has_passed, in_use, inl, inr, least_zombie, length}
+use Rattle.kernel_spec.proofs.Prelude.{may, minus_one, nat_eq, nat_le, negsuc, Next, next_bytes, next_instruction, None, none-some, not, Option, Own, own, perform, Pipe, pos, program_bytes, Pulled}
+use Rattle.kernel_spec.proofs.Prelude.{pulled, Read, readable, refl, refused, room_for, Row, row, row_of, Shown, Shown_file, Shown_pipe, Shown_terminal, Sleep, slice_get, Some, Step, sym, take, there}
+use Rattle.kernel_spec.proofs.Prelude.{ticks_since, true, unless_killed, View, Wait, waits, with_more, without_first, writable, Write, write_image}
+use Rattle.kernel_spec.proofs.calls.Facts.{Comes, may_wait}
+use Rattle.kernel_spec.proofs.calls.All.{perform_facts}
+use Rattle.kernel_spec.proofs.rows.RowParts.{IsSettled, length_of_int, perform_parts, perform_row, read_from, read_on, reaped, unless, wait_parts, moving, unless_nothing, write_on, write_to}
 use Rattle.kernel_spec.proofs.rows.Touched.{touched_view}
 use Rattle.kernel_spec.proofs.rows.ByTouch.{by_call, by_instruction}
 
@@ -14,141 +14,135 @@ use Rattle.kernel_spec.proofs.rows.ByTouch.{by_call, by_instruction}
 abbrev pub Falls : (View → ℤ → Type 0) → Own → Type 0
 Falls Q o = (k : ℤ) (n : View) → o.answer ≡ Blocked k → o.next ≡ Some n → Q n k
 
--- a row that may wait, in a view where no page of its buffer is absent
-abbrev pub Waiting : (View → ℤ → Type 0) → Row → (Call → View → Own) → Type 0
-Waiting Q r row = (c : Call) (v : View) → v.killed ≡ false → IsSettled c v → row_of c.number ≡ Some r → Falls Q (row c v)
+-- a read or a write of n bytes by the descriptor d passes its tests: its mode, and whether its buffer is there
+pub record Admitted (c : Call) (v : View) (d : Descriptor) (n : ℕ) (can buffer : Bool) : Type 0 where
+  pub on : in_use v (c_int c.a0) ≡ Some d
+  pub mode : not can ≡ false
+  pub size : c_int c.a2 ≡ pos n
+  pub some : nat_eq n 0 ≡ false
+  pub room : not buffer ≡ false
+
+abbrev pub Reads : Call → View → Descriptor → ℕ → Type 0
+Reads c v d n = Admitted c v d n d.read (writable v.image c.a1 (length_of_int (c_int c.a2)))
+
+abbrev pub Writes : Call → View → Descriptor → ℕ → Type 0
+Writes c v d n = Admitted c v d n d.write (readable v.image c.a1 (length_of_int (c_int c.a2)))
+
+-- Each end of a row in sleep is an end in a view of which Q holds, in a view v where no page of the call's buffer is absent
+pub record Sleepers (Q : View → ℤ → Type 0) (c : Call) (v : View) : Type 0 where
+  pub wait_here : row_of c.number ≡ Some Wait → (not (nat_eq c.a0 0) && not (writable v.image c.a0 4)) ≡ false → has_child v ≡ true → least_zombie v ≡ None → Falls Q (waits c 0 v)
+  pub sleep_here : row_of c.number ≡ Some Sleep → not (has_passed (ticks_since v.clock c.clock) (c_int c.a0)) ≡ true → Falls Q (waits c 0 v)
+  pub read_line_here : row_of c.number ≡ Some Read → (d : Descriptor) (n : ℕ) → Reads c v d n → d.shown ≡ Shown_terminal
+      → let p : Pulled = pulled (nat_eq c.moved 0) (n - c.moved) v.console.committed in p.ended ≡ false
+      → Falls Q (waits c (c.moved + length p.taken) (record v { image = write_image v.image (c.a1 + c.moved) p.taken; console = record v.console { committed = p.left } }))
+  pub read_pipe_here : row_of c.number ≡ Some Read → (d : Descriptor) (n : ℕ) → Reads c v d n → (name : ℕ) (end : End) (pipe : Pipe) → d.shown ≡ Shown_pipe name end pipe
+      → not (has_bytes pipe) ≡ true → Falls Q (waits c 0 v)
+  pub write_line_here : row_of c.number ≡ Some Write → (d : Descriptor) (n : ℕ) → Writes c v d n → d.shown ≡ Shown_terminal
+      → let k = room_for v.console (n - c.moved) in nat_le n (c.moved + k) ≡ false
+      → Falls Q (waits c (c.moved + k) (record v { console = record v.console { to_send = v.console.to_send ++ next_bytes c v k } }))
+  pub write_pipe_here : row_of c.number ≡ Some Write → (d : Descriptor) (n : ℕ) → Writes c v d n → (name : ℕ) (end : End) (pipe : Pipe) → d.shown ≡ Shown_pipe name end pipe
+      → nat_eq pipe.readers 0 ≡ false → let k = fit pipe (n - c.moved) in nat_le n (c.moved + k) ≡ false
+      → Falls Q (waits c (c.moved + k) (record v { descriptors = change_pipe name (with_more (next_bytes c v k) pipe) v.descriptors }))
 
 module _ (Q : View → ℤ → Type 0) where
-  pub falls_done : (c : Call) (value : ℤ) (v : View) → Falls Q (done c value v)
+  falls_done : (c : Call) (value : ℤ) (v : View) → Falls Q (done c value v)
   falls_done c value v k n a e = let no : ⊥ = cc in absurd no
 
-  pub falls_unless : (b : Bool) (c : Call) (v : View) (go : Unit {0} → Own) → (b ≡ false → Falls Q (go tt)) → Falls Q (unless b c v go)
+  falls_unless : (b : Bool) (c : Call) (v : View) (go : Unit {0} → Own) → (b ≡ false → Falls Q (go tt)) → Falls Q (unless b c v go)
   falls_unless true c v go h = falls_done c minus_one v
   falls_unless false c v go h = h refl
 
-  pub falls_nothing : (b : Bool) (c : Call) (v : View) (go : Unit {0} → Own) → (b ≡ false → Falls Q (go tt)) → Falls Q (unless_nothing b c v go)
+  falls_nothing : (b : Bool) (c : Call) (v : View) (go : Unit {0} → Own) → (b ≡ false → Falls Q (go tt)) → Falls Q (unless_nothing b c v go)
   falls_nothing true c v go h = falls_done c (pos 0) v
   falls_nothing false c v go h = h refl
 
-  pub falls_moving : (c : Call) (v : View) (r : Bool) (z : ℤ) (go : ℕ → Own) → ((n : ℕ) → z ≡ pos n → nat_eq n 0 ≡ false → not r ≡ false → Falls Q (go n)) → Falls Q (moving c v r z go)
+  falls_moving : (c : Call) (v : View) (r : Bool) (z : ℤ) (go : ℕ → Own) → ((n : ℕ) → z ≡ pos n → nat_eq n 0 ≡ false → not r ≡ false → Falls Q (go n)) → Falls Q (moving c v r z go)
   falls_moving c v r (negsuc k) go h = falls_done c minus_one v
   falls_moving c v r (pos n) go h = falls_nothing (nat_eq n 0) c v (λ _. unless (not r) c v (λ _. go n)) (λ some. falls_unless (not r) c v (λ _. go n) (λ there. h n refl some there))
 
-  pub falls_cond : (b : Bool) (x y : Own) → (b ≡ true → Falls Q x) → (b ≡ false → Falls Q y) → Falls Q (cond b x y)
+  falls_cond : (b : Bool) (x y : Own) → (b ≡ true → Falls Q x) → (b ≡ false → Falls Q y) → Falls Q (cond b x y)
   falls_cond true x y h g = h refl
   falls_cond false x y h g = g refl
 
-  -- ---- the rows that never wait
-
-  called : (o : Own) (number value : ℤ) → o.answer ≡ Called number value → Falls Q o
-  called o number value is k n a e = let no : ⊥ = cc in absurd no
+  -- a call that is done
+  ended : (o : Own) (number value : ℤ) → o.answer ≡ Called number value → Falls Q o
+  ended o number value is k n a e = let no : Called number value ≡ Blocked k = sym is ∙ a in let bad : ⊥ = cc in absurd bad
 
   gone_never : (a : Answer) (v : View) → ((k : ℤ) → a ≢ Blocked k) → Falls Q (gone a v)
   gone_never a v h k n e f = absurd (h k e)
 
-  module _ (c : Call) (v : View) where
-    fork_row : Falls Q (fork_parts c v)
-    fork_row = falls_unless (cannot_fork v) c v (λ _. forked c v) (λ _. called (forked c v) c.number (pos v.next_pid) refl)
+  -- what a step of a row that never waits comes to is no sleep
+  never_falls : (c : Call) (v : View) (o : Own) → may_wait (row_of c.number) ≡ false → Comes c v o → Falls Q o
+  never_falls c v o never (inl is) k n e f = let no : Called c.number minus_one ≡ Blocked k = sym (ap (λ (x : Own). x.answer) is) ∙ e in let bad : ⊥ = cc in absurd bad
+  never_falls c v o never (inr (inl done)) k n e f = let no : Called c.number (pos done.value) ≡ Blocked k = sym done.answer ∙ e in let bad : ⊥ = cc in absurd bad
+  never_falls c v o never (inr (inr (inl wait))) k n e f = let no : false ≡ true = sym never ∙ wait.row in let bad : ⊥ = cc in absurd bad
+  never_falls c v o never (inr (inr (inr gone))) k n e f = absurd (none-some n (sym gone.next ∙ f))
 
-    pipe_by : (r : ℕ) (o : Option ℕ) → Falls Q (piped c v r o)
-    pipe_by r None = falls_done c minus_one v
-    pipe_by r (Some w) = called (piped c v r (Some w)) c.number (pos 0) refl
+  -- ---- the rows that may wait
 
-    pipe_from : (o : Option ℕ) → Falls Q (piped_from c v o)
-    pipe_from None = falls_done c minus_one v
-    pipe_from (Some r) = pipe_by r (lowest_free_above v.descriptors r)
+  module _ (c : Call) (v : View) (s : Sleepers Q c v) where
+    wait_falls : row_of c.number ≡ Some Wait → Falls Q (wait_parts c v)
+    wait_falls row = falls_unless (not (nat_eq c.a0 0) && not (writable v.image c.a0 4)) c v (λ _. reaped c v (least_zombie v)) (λ room. by room (least_zombie v) refl)
+      where
+        by : (not (nat_eq c.a0 0) && not (writable v.image c.a0 4)) ≡ false → (o : Option ℕ) → least_zombie v ≡ o → Falls Q (reaped c v o)
+        by room (Some q) e = ended (reaped c v (Some q)) c.number (pos q) refl
+        by room None e = falls_cond (has_child v) (waits c 0 v) (refused c v) (λ child. s.wait_here row room child e) (λ _. falls_done c minus_one v)
 
-    pipe_row : Falls Q (pipe_parts c v)
-    pipe_row = falls_unless (not (writable v.image c.a0 8) || nat_eq v.free 0) c v (λ _. piped_from c v (lowest_free v.descriptors)) (λ _. pipe_from (lowest_free v.descriptors))
+    read_by : row_of c.number ≡ Some Read → (d : Descriptor) (n : ℕ) → Reads c v d n → (x : Shown) → d.shown ≡ x → Falls Q (read_from c v n d.file x)
+    read_by row d n r Shown_terminal is =
+        let p : Pulled = pulled (nat_eq c.moved 0) (n - c.moved) v.console.committed in
+        let after : View = record v { image = write_image v.image (c.a1 + c.moved) p.taken; console = record v.console { committed = p.left } } in
+        falls_cond p.ended (done c (pos (c.moved + length p.taken)) after) (waits c (c.moved + length p.taken) after)
+        (λ _. falls_done c (pos (c.moved + length p.taken)) after) (λ over. s.read_line_here row d n r is over)
+    read_by row d n r (Shown_file program offset) is =
+        ended (read_from c v n d.file (Shown_file program offset)) c.number (pos (length (take n (drop offset (program_bytes (slice_get v.programs program)))))) refl
+    read_by row d n r (Shown_pipe name end pipe) is =
+        let k = there pipe n in
+        let after : View = record v { image = write_image v.image c.a1 (take k pipe.bytes); descriptors = change_pipe name (without_first k pipe) v.descriptors } in
+        falls_cond (not (has_bytes pipe)) (waits c 0 v) (done c (pos k) after) (s.read_pipe_here row d n r name end pipe is) (λ _. falls_done c (pos k) after)
 
-    kill_by : (z : ℤ) → Falls Q (kill_pid c v z)
-    kill_by (negsuc k) = falls_done c minus_one v
-    kill_by (pos q) = falls_unless (nat_eq q 0) c v (λ _. killed_by c v q)
-        (λ _. falls_unless (not (list_any (nat_eq q) v.pids)) c v (λ _. record (done c (pos 0) (record v { killed = v.killed || nat_eq q v.pid })) { marked = Some q })
-        (λ _. called (record (done c (pos 0) (record v { killed = v.killed || nat_eq q v.pid })) { marked = Some q }) c.number (pos 0) refl))
+    read_falls : row_of c.number ≡ Some Read → (o : Option Descriptor) → in_use v (c_int c.a0) ≡ o → Falls Q (read_on c v o)
+    read_falls row None on = falls_done c minus_one v
+    read_falls row (Some d) on = falls_unless (not d.read) c v _ (λ can. falls_moving c v (writable v.image c.a1 (length_of_int (c_int c.a2))) (c_int c.a2)
+        (λ n. read_from c v n d.file d.shown) (λ n size some room. read_by row d n (record { on = on; mode = can; size = size; some = some; room = room }) d.shown refl))
 
-    loaded_by : (r : Result Loaded ExecError) → Falls Q (exec_loaded c v r)
-    loaded_by (Err e) = falls_done c minus_one v
-    loaded_by (Ok l) = falls_unless (nat_lt v.free (price l.image)) c v (λ _. done c (pos l.argc) (running l v)) (λ _. falls_done c (pos l.argc) (running l v))
+    write_by : row_of c.number ≡ Some Write → (d : Descriptor) (n : ℕ) → Writes c v d n → (x : Shown) → d.shown ≡ x → Falls Q (write_to c v n x)
+    write_by row d n w Shown_terminal is =
+        let k = room_for v.console (n - c.moved) in
+        let after : View = record v { console = record v.console { to_send = v.console.to_send ++ next_bytes c v k } } in
+        falls_cond (nat_le n (c.moved + k)) (done c (pos n) after) (waits c (c.moved + k) after) (λ _. falls_done c (pos n) after) (λ more. s.write_line_here row d n w is more)
+    write_by row d n w (Shown_file program offset) is = falls_done c minus_one v
+    write_by row d n w (Shown_pipe name end pipe) is =
+        let k = fit pipe (n - c.moved) in
+        let after : View = record v { descriptors = change_pipe name (with_more (next_bytes c v k) pipe) v.descriptors } in
+        falls_unless (nat_eq pipe.readers 0) c v (λ _. done_at c n (c.moved + k) after) (λ readers.
+        falls_cond (nat_le n (c.moved + k)) (done c (pos n) after) (waits c (c.moved + k) after) (λ _. falls_done c (pos n) after)
+        (λ more. s.write_pipe_here row d n w name end pipe is readers more))
 
-    program_by : (texts : Option (List (List ℕ))) (o : Option ProgramFile) → Falls Q (exec_program c v texts o)
-    program_by None o = falls_done c minus_one v
-    program_by (Some texts) None = falls_done c minus_one v
-    program_by (Some texts) (Some p) = loaded_by (loaded p.bytes texts)
+    write_falls : row_of c.number ≡ Some Write → (o : Option Descriptor) → in_use v (c_int c.a0) ≡ o → Falls Q (write_on c v o)
+    write_falls row None on = falls_done c minus_one v
+    write_falls row (Some d) on = falls_unless (not d.write) c v _ (λ can. falls_moving c v (readable v.image c.a1 (length_of_int (c_int c.a2))) (c_int c.a2)
+        (λ n. write_to c v n d.shown) (λ n size some room. write_by row d n (record { on = on; mode = can; size = size; some = some; room = room }) d.shown refl))
 
-    exec_by : (o : Option (List ℕ)) → Falls Q (exec_path c v o)
-    exec_by None = falls_done c minus_one v
-    exec_by (Some path) = program_by (texts_at MAXARG ARG_BYTES v.image c.a1) (program_named (no_slashes path) v.programs)
+    by_row : (r : Option Row) → row_of c.number ≡ r → may_wait r ≡ true → Falls Q (perform_row c v r)
+    unfolding perform_row
+    by_row (Some Wait) e may = wait_falls e
+    by_row (Some Read) e may = read_falls e (in_use v (c_int c.a0)) refl
+    by_row (Some Sleep) e may = falls_cond (not (has_passed (ticks_since v.clock c.clock) (c_int c.a0))) (waits c 0 v) (done c (pos 0) v) (s.sleep_here e) (λ _. falls_done c (pos 0) v)
+    by_row (Some Write) e may = write_falls e (in_use v (c_int c.a0)) refl
+    by_row _ e may = let no : ⊥ = cc in absurd no
 
-    dup_to : (j : ℕ) (d : Descriptor) (o : Option ℕ) → Falls Q (dup_at c v j d o)
-    dup_to j d None = falls_done c minus_one v
-    dup_to j d (Some k) = called (dup_at c v j d (Some k)) c.number (pos k) refl
+    parts_fall : may_wait (row_of c.number) ≡ true → Falls Q (perform_parts c v)
+    unfolding perform_parts
+    parts_fall may = by_row (row_of c.number) refl may
 
-    dup_from : (j : ℕ) (o : Option Descriptor) → Falls Q (dup_on c v j o)
-    dup_from j None = falls_done c minus_one v
-    dup_from j (Some d) = dup_to j d (lowest_free v.descriptors)
-
-    dup_by : (z : ℤ) → Falls Q (dup_number c v z)
-    dup_by (negsuc k) = falls_done c minus_one v
-    dup_by (pos j) = dup_from j (v.descriptors j)
-
-    close_from : (k : ℕ) (o : Option Descriptor) → Falls Q (close_on c v k o)
-    close_from k None = falls_done c minus_one v
-    close_from k (Some d) = called (close_at c v k d) c.number (pos 0) refl
-
-    close_by : (z : ℤ) → Falls Q (close_number c v z)
-    close_by (negsuc k) = falls_done c minus_one v
-    close_by (pos k) = close_from k (v.descriptors k)
-
-    sbrk_row : (z : ℤ) → Falls Q (sbrk_by c v z)
-    sbrk_row (pos n) = falls_unless (nat_lt SIZE_LIMIT (v.image.size + n) || nat_lt v.free (price (grown v.image (v.image.size + n)) - price v.image)) c v
-        (λ _. done c (pos v.image.size) (record v { image = grown v.image (v.image.size + n); free = v.free - (price (grown v.image (v.image.size + n)) - price v.image) }))
-        (λ _. falls_done c (pos v.image.size) (record v { image = grown v.image (v.image.size + n); free = v.free - (price (grown v.image (v.image.size + n)) - price v.image) }))
-    sbrk_row (negsuc k) = falls_unless (nat_le v.image.size k || nat_lt SIZE_LIMIT (v.image.size - suc k)) c v
-        (λ _. shrink_to c v (v.image.size - suc k)) (λ _. called (shrink_to c v (v.image.size - suc k)) c.number (pos v.image.size) refl)
-
-    sbrklazy_by : (z : ℤ) → Falls Q (lazy_by c v z)
-    sbrklazy_by (negsuc k) = falls_done c minus_one v
-    sbrklazy_by (pos n) = falls_unless (nat_lt SIZE_LIMIT (v.image.size + n)) c v (λ _. done c (pos v.image.size) (record v { image = grown_lazily v.image (v.image.size + n) }))
-        (λ _. falls_done c (pos v.image.size) (record v { image = grown_lazily v.image (v.image.size + n) }))
-
-    open_to : (o : Option ℕ) (what : Option (Bool × Bool × Shown)) → Falls Q (open_at c v o what)
-    open_to None what = falls_done c minus_one v
-    open_to (Some k) None = falls_done c minus_one v
-    open_to (Some k) (Some what) = called (open_at c v (Some k) (Some what)) c.number (pos k) refl
-
-    open_by : (o : Option (List ℕ)) → Falls Q (open_path c v o)
-    open_by None = falls_done c minus_one v
-    open_by (Some path) = open_to (lowest_free v.descriptors) (opened_as (kind_named (no_slashes path) v) (c_int c.a1))
-
-  module _ (wait_row : Waiting Q Wait wait_parts) (read_row : Waiting Q Read read_parts) (write_row : Waiting Q Write write_parts) (sleep_row : Waiting Q Sleep sleep_parts) where
-    module _ (c : Call) (v : View) (alive : v.killed ≡ false) (settled : IsSettled c v) where
-      by_row : (r : Option Row) → row_of c.number ≡ r → Falls Q (perform_row c v r)
-      unfolding perform_row
-      by_row None e = falls_done c minus_one v
-      by_row (Some Fork) e = fork_row c v
-      by_row (Some Exit) e = gone_never (Exited (c_int c.a0)) v (λ k a. let no : ⊥ = cc in no)
-      by_row (Some Wait) e = wait_row c v alive settled e
-      by_row (Some Pipe_row) e = pipe_row c v
-      by_row (Some Read) e = read_row c v alive settled e
-      by_row (Some Kill) e = kill_by c v (c_int c.a0)
-      by_row (Some Exec) e = exec_by c v (text_at MAXPATH v.image c.a0)
-      by_row (Some Dup) e = dup_by c v (c_int c.a0)
-      by_row (Some Getpid) e = falls_done c (pos v.pid) v
-      by_row (Some Sbrk) e = sbrk_row c v (c_int c.a0)
-      by_row (Some Sleep) e = sleep_row c v alive settled e
-      by_row (Some Uptime) e = falls_done c (pos v.clock) v
-      by_row (Some Open) e = open_by c v (text_at MAXPATH v.image c.a0)
-      by_row (Some Write) e = write_row c v alive settled e
-      by_row (Some Close) e = close_by c v (c_int c.a0)
-      by_row (Some Sbrklazy) e = sbrklazy_by c v (c_int c.a0)
-
-      parts_fall : Falls Q (perform_parts c v)
-      unfolding perform_parts
-      parts_fall = by_row (row_of c.number) refl
-
+  module _ (given : (c : Call) (v : View) → v.killed ≡ false → IsSettled c v → Sleepers Q c v) where
     pub perform_falls : (c : Call) (v : View) → v.killed ≡ false → Falls Q (perform c v)
-    perform_falls c v alive = by_call (Falls Q) c v (falls_done c minus_one v) (λ image free touched settled. parts_fall c (touched_view v image free) alive settled)
+    perform_falls c v alive = by (may_wait (row_of c.number)) refl
+      where
+        by : (b : Bool) → may_wait (row_of c.number) ≡ b → Falls Q (perform c v)
+        by true may = by_call (Falls Q) c v (falls_done c minus_one v) (λ image free touched settled. parts_fall c (touched_view v image free) (given c (touched_view v image free) alive settled) may)
+        by false never = never_falls c v (perform c v) never (perform_facts c v).comes
 
     -- ---- a step
 

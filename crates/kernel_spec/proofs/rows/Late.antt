@@ -4,10 +4,10 @@ use Rattle.kernel_spec.proofs.Prelude.{cond, Descriptor, done, done_at, drop, En
 use Rattle.kernel_spec.proofs.Prelude.{in_use, inl, inr, is_some, IsBrokenWrite, IsSome, IsStepOf, least_zombie, length, List, list_any, Live, live, minus_one, nat_cmp, nat_eq, nat_le, negsuc}
 use Rattle.kernel_spec.proofs.Prelude.{next_bytes, None, not, OnlyBrokenWritesFailLate, Option, option_map, option_or, or_right, Others, Outcome, Own, own, Pipe, pos, Process, program_bytes, Pulled}
 use Rattle.kernel_spec.proofs.Prelude.{pulled, Read, readable, refl, refused, room_for, Row, row_of, same_Some, SameDescriptors, SameRest, seen, seen_children, Shown, Shown_file, Shown_pipe}
-use Rattle.kernel_spec.proofs.Prelude.{Shown_terminal, Sleep, slice_get, Some, State, Status, StepOf, subst, sym, take, there, ticks_since, true, unless_killed, View, view, view_of, Wait, waits}
-use Rattle.kernel_spec.proofs.Prelude.{with_more, without_first, World, writable, Write, write_image}
+use Rattle.kernel_spec.proofs.Prelude.{Shown_terminal, Sleep, slice_get, Some, State, Status, StepOf, subst, sym, table, take, there, ticks_since, true, unless_killed, View, view, view_of, Wait}
+use Rattle.kernel_spec.proofs.Prelude.{waited, waits, with_more, without_first, World, writable, Write, write_image}
 use Rattle.kernel_spec.proofs.steps.SeenByParts.{same_child}
-use Rattle.kernel_spec.proofs.rows.Falls.{Falls, falls_done, falls_unless, falls_moving, falls_cond, own_falls}
+use Rattle.kernel_spec.proofs.rows.Falls.{Falls, Sleepers, own_falls}
 use Rattle.kernel_spec.proofs.steps.WritesKeepRights.{writable_written}
 use Rattle.kernel_spec.proofs.rows.RowNumbers.{row-number}
 use Rattle.kernel_spec.proofs.steps.ViewIsSharedAndRest.{rest}
@@ -15,8 +15,7 @@ use Rattle.kernel_spec.proofs.steps.OthersKeepTheRest.{kept, kept_others, pid_is
 use Rattle.kernel_spec.proofs.turns.KeepsSlots.{listed}
 use Rattle.kernel_spec.proofs.rows.Pids.{has}
 use Rattle.kernel_spec.proofs.runs.Cuts.{IsOutside, kind}
-use Rattle.kernel_spec.proofs.rows.RowParts.{IsSettled, perform_row, unless, reaped, read_on, read_from, moving, unless_nothing, write_on, write_to, length_of_int, sleep_for, wait_parts, told}
-use Rattle.kernel_spec.proofs.rows.RowParts.{without_child}
+use Rattle.kernel_spec.proofs.rows.RowParts.{IsSettled, perform_row, unless, reaped, read_on, read_from, moving, unless_nothing, write_on, write_to, length_of_int, sleep_for, told, without_child}
 use Rattle.kernel_spec.proofs.rows.SettledWaits.{still_settled, settled_written}
 use Rattle.kernel_spec.proofs.Common.{view_pids}
 use Rattle.kernel_spec.proofs.rows.BareDescriptors.{bare_alike, bare_changed, in_use_bare}
@@ -142,13 +141,6 @@ module _ (c : Call) (v : View) where
       by None = subst (λ (b : Bool). OnlyBroken m (record c { moved = 0 })
           (cond b (waits (record c { moved = 0 }) 0 m) (refused (record c { moved = 0 }) m))) (sym (kids some)) (fine_waits (record c { moved = 0 }) m 0 m)
 
-  wait_by : IsSettled c v → row_of c.number ≡ Some Wait → (not (nat_eq c.a0 0) && not (writable v.image c.a0 4)) ≡ false → (o : Option ℕ) → Falls Late (reaped c v o)
-  wait_by settled row there (Some q) = falls_done Late c (pos q) (told c.a0 (child_status (v.children q)) (without_child q v))
-  wait_by settled row there None = falls_cond Late (has_child v) (waits c 0 v) (refused c v) (λ some. falls_waits Wait c 0 v settled row (wait_later there some)) (λ _. falls_done Late c minus_one v)
-
-  wait_row : IsSettled c v → row_of c.number ≡ Some Wait → Falls Late (wait_parts c v)
-  wait_row settled row = falls_unless Late (not (nat_eq c.a0 0) && not (writable v.image c.a0 4)) c v (λ _. reaped c v (least_zombie v)) (λ there. wait_by settled row there (least_zombie v))
-
   sleep_later : Goes_on Sleep (record c { moved = 0 }) v
   unfolding perform_row
   sleep_later m image same kids = by (c_int c.a0)
@@ -156,10 +148,6 @@ module _ (c : Call) (v : View) where
       by : (z : ℤ) → OnlyBroken m (record c { moved = 0 }) (sleep_for (record c { moved = 0 }) m z)
       by z = fine_cond (record c { moved = 0 }) m (not (has_passed (ticks_since m.clock c.clock) z)) (waits (record c { moved = 0 }) 0 m)
           (done (record c { moved = 0 }) (pos 0) m) (fine_waits (record c { moved = 0 }) m 0 m) (fine_done (record c { moved = 0 }) m 0 m)
-
-  sleep_by : IsSettled c v → row_of c.number ≡ Some Sleep → (z : ℤ) → Falls Late (sleep_for c v z)
-  sleep_by settled row z = falls_cond Late (not (has_passed (ticks_since v.clock c.clock) z)) (waits c 0 v) (done c (pos 0) v)
-      (λ _. falls_waits Sleep c 0 v settled row sleep_later) (λ _. falls_done Late c (pos 0) v)
 
 -- ---- descriptors
 
@@ -187,29 +175,6 @@ module _ (c : Call) (v : View) (d : Descriptor) (on : in_use v (c_int c.a0) ≡ 
           (λ j. read_from (record c { moved = k }) m j e.file e.shown)) can
           (fine_moving (record c { moved = k }) m (writable m.image c.a1 (length_of_int (c_int c.a2))) (c_int c.a2)
           (λ j. read_from (record c { moved = k }) m j e.file e.shown) n size still (λ j. fine_read (record c { moved = k }) m j e.file e.shown))
-
-  module _ (settled : IsSettled c v) (row : row_of c.number ≡ Some Read) (reads : not d.read ≡ false) (room : not (writable v.image c.a1 (length_of_int (c_int c.a2))) ≡ false) where
-    read_by : (x : Shown) → Falls Late (read_from c v n d.file x)
-    read_by Shown_terminal =
-        let p : Pulled = pulled (nat_eq c.moved 0) (n - c.moved) v.console.committed in
-        let after : View = record v { image = write_image v.image (c.a1 + c.moved) p.taken; console = record v.console { committed = p.left } } in
-        falls_cond Late p.ended (done c (pos (c.moved + length p.taken)) after) (waits c (c.moved + length p.taken) after) (λ _. falls_done Late c (pos (c.moved + length p.taken)) after)
-        (λ _. falls_waits Read c (c.moved + length p.taken) after (settled_written c v p.taken (c.a1 + c.moved) settled) row
-        (read_later reads room (c.moved + length p.taken) after (writable_written p.taken v.image (c.a1 + c.moved) c.a1 (length_of_int (c_int c.a2))) refl))
-    read_by (Shown_file program offset) =
-        let bytes : List ℕ = take n (drop offset (program_bytes (slice_get v.programs program))) in
-        falls_done Late c (pos (length bytes)) (record v { image = write_image v.image c.a1 bytes; descriptors = advance d.file (length bytes) v.descriptors })
-    read_by (Shown_pipe name end pipe) =
-        let k : ℕ = there pipe n in
-        let after : View = record v { image = write_image v.image c.a1 (take k pipe.bytes); descriptors = change_pipe name (without_first k pipe) v.descriptors } in
-        falls_cond Late (not (has_bytes pipe)) (waits c 0 v) (done c (pos k) after)
-        (λ _. falls_waits Read c 0 v settled row (read_later reads room 0 v refl refl)) (λ _. falls_done Late c (pos k) after)
-
-read_on_row : (c : Call) (v : View) → IsSettled c v → row_of c.number ≡ Some Read → (o : Option Descriptor) → in_use v (c_int c.a0) ≡ o → Falls Late (read_on c v o)
-read_on_row c v settled row None on = falls_done Late c minus_one v
-read_on_row c v settled row (Some d) on = falls_unless Late (not d.read) c v _
-    (λ reads. falls_moving Late c v (writable v.image c.a1 (length_of_int (c_int c.a2))) (c_int c.a2) (λ n. read_from c v n d.file d.shown)
-    (λ n size some room. read_by c v d on n size settled row reads room d.shown))
 
 -- ---- write
 
@@ -244,32 +209,29 @@ module _ (c : Call) (v : View) (d : Descriptor) (on : in_use v (c_int c.a0) ≡ 
           (fine_moving (record c { moved = k }) m (readable m.image c.a1 (length_of_int (c_int c.a2))) (c_int c.a2) (λ j. write_to (record c { moved = k }) m j e.shown) n size still
           (λ j. fine_write (record c { moved = k }) m row x e at is j e.shown refl (λ program offset file. let no : false ≡ true = sym other ∙ ap is_file file in let bad : ⊥ = cc in bad)))
 
-  write_by : (x : Shown) → d.shown ≡ x → Falls Late (write_to c v n x)
-  write_by Shown_terminal is =
-      let k : ℕ = room_for v.console (n - c.moved) in
+late : (c : Call) (v : View) → IsSettled c v → Sleepers Late c v
+late c v settled = record {
+  wait_here = λ row room child none. falls_waits Wait c 0 v settled row (wait_later c v room child);
+  sleep_here = λ row not_yet. falls_waits Sleep c 0 v settled row (sleep_later c v);
+  read_line_here = λ row d n r shows over.
+      let p : Pulled = pulled (nat_eq c.moved 0) (n - c.moved) v.console.committed in
+      let after : View = record v { image = write_image v.image (c.a1 + c.moved) p.taken; console = record v.console { committed = p.left } } in
+      falls_waits Read c (c.moved + length p.taken) after (settled_written c v p.taken (c.a1 + c.moved) settled) row
+      (read_later c v d r.on n r.size r.mode r.room (c.moved + length p.taken) after (writable_written p.taken v.image (c.a1 + c.moved) c.a1 (length_of_int (c_int c.a2))) refl);
+  read_pipe_here = λ row d n r name end pipe shows none. falls_waits Read c 0 v settled row (read_later c v d r.on n r.size r.mode r.room 0 v refl refl);
+  write_line_here = λ row d n w shows more.
+      let k = room_for v.console (n - c.moved) in
       let after : View = record v { console = record v.console { to_send = v.console.to_send ++ next_bytes c v k } } in
-      falls_cond Late (nat_le n (c.moved + k)) (done c (pos n) after) (waits c (c.moved + k) after) (λ _. falls_done Late c (pos n) after)
-      (λ _. falls_waits Write c (c.moved + k) after settled row (write_later (ap is_file is) (c.moved + k) after refl (λ x. refl)))
-  write_by (Shown_file program offset) is = falls_done Late c minus_one v
-  write_by (Shown_pipe name end pipe) is =
-      let k : ℕ = fit pipe (n - c.moved) in
+      falls_waits Write c (c.moved + k) after settled row (write_later c v d w.on n w.size settled row w.mode w.room (ap is_file shows) (c.moved + k) after refl (λ x. refl));
+  write_pipe_here = λ row d n w name end pipe shows readers more.
+      let k = fit pipe (n - c.moved) in
       let after : View = record v { descriptors = change_pipe name (with_more (next_bytes c v k) pipe) v.descriptors } in
-      falls_unless Late (nat_eq pipe.readers 0) c v (λ _. done_at c n (c.moved + k) after)
-      (λ _. falls_cond Late (nat_le n (c.moved + k)) (done c (pos n) after) (waits c (c.moved + k) after) (λ _. falls_done Late c (pos n) after)
-      (λ _. falls_waits Write c (c.moved + k) after settled row (write_later (ap is_file is) (c.moved + k) after refl (λ x. bare_changed _ (v.descriptors x)))))
-
-write_on_row : (c : Call) (v : View) → IsSettled c v → row_of c.number ≡ Some Write → (o : Option Descriptor) → in_use v (c_int c.a0) ≡ o → Falls Late (write_on c v o)
-write_on_row c v settled row None on = falls_done Late c minus_one v
-write_on_row c v settled row (Some d) on = falls_unless Late (not d.write) c v _
-    (λ writes. falls_moving Late c v (readable v.image c.a1 (length_of_int (c_int c.a2))) (c_int c.a2) (λ n. write_to c v n d.shown)
-    (λ n size some room. write_by c v d on n size settled row writes room d.shown refl))
+      falls_waits Write c (c.moved + k) after settled row
+      (write_later c v d w.on n w.size settled row w.mode w.room (ap is_file shows) (c.moved + k) after refl (λ x. bare_changed _ (v.descriptors x)));
+}
 
 own_late : (v : View) → Falls Late (own v)
-own_late v =
-    own_falls Late (λ c u alive settled row. wait_row c u settled row)
-    (λ c u alive settled row. read_on_row c u settled row (in_use u (c_int c.a0)) refl)
-    (λ c u alive settled row. write_on_row c u settled row (in_use u (c_int c.a0)) refl)
-    (λ c u alive settled row. sleep_by c u settled row (c_int c.a0)) v
+own_late v = own_falls Late (λ c u alive settled. late c u settled) v
 
 -- ---- children stay children while others make steps
 

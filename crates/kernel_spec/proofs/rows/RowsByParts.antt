@@ -1,14 +1,13 @@
 -- Each row of the call table is what its parts say, once its buffer is touched, or it is refused.
-use Rattle.kernel_spec.proofs.Prelude.{[], ℕ, ℤ, ◌&&◌, ◌+ℤ◌, ◌+◌, ◌-◌, ◌<◌, ◌==◌, ◌>>=◌, ◌>>◌, ◌or◌, ◌when◌, ◌||◌, ◌∙◌, ◌∷◌, ◌≡◌, ◌≤◌, ◌⊎◌, advance, ap, ARG_BYTES, arith, Blocked, Bool, both_ways}
-use Rattle.kernel_spec.proofs.Prelude.{brought, bytes_eq, c_int, Call, Called, cases_lt, cast_unsigned, change_pipe, Child, child_status, Close, close, cond, console_name, Descriptor, done, done_at}
-use Rattle.kernel_spec.proofs.Prelude.{drop, Dup, dup, End, eqb_tells, Err, Exec, exec, ExecError, Exit, exit, Exited, false, false≢true, filter, find, fit, Fork, fork, Getpid, getpid, gone, grown}
-use Rattle.kernel_spec.proofs.Prelude.{grown_lazily, has_absent, has_bytes, has_child, has_mode, has_passed, has_status, if◌then◌else◌, Image, in_use, inl, inr, is_some, Kill, kill, le-leb, le-ltb}
-use Rattle.kernel_spec.proofs.Prelude.{le_bytes, least_zombie, length, List, list_any, Loaded, loaded, lowest_free, lowest_free_above, lt-leb, make_pipe, MAXARG, MAXPATH, minus_one, nat_eq, nat_le}
-use Rattle.kernel_spec.proofs.Prelude.{nat_lt, natural, negsuc, next_bytes, next_line, no_slashes, None, not, not-false, NPROC, Ok, Open, open_file, Option, option_map, or_right, or_zero, Own}
-use Rattle.kernel_spec.proofs.Prelude.{pages_at, perform, PID_MAX, Pipe, Pipe_row, place_of, pos, position_from, price, program_bytes, program_named, ProgramFile, pulled, Read, read, read_stored}
-use Rattle.kernel_spec.proofs.Prelude.{readable, refl, refused, Result, result_of, Row, row, row_of, Sbrk, sbrk, Sbrklazy, sbrklazy, Shown, Shown_file, Shown_pipe, Shown_terminal, shrunk, SIZE_LIMIT}
-use Rattle.kernel_spec.proofs.Prelude.{Sleep, sleep, slice_get, Some, status_stored, subst, suc, sym, take, text_at, texts_at, there, ticks_since, touch, true, Uptime, uptime, View, w32, Wait, wait}
-use Rattle.kernel_spec.proofs.Prelude.{waits, what_is_named, with_descriptor, with_more, with_value, without_first, without_line, writable, Write, write, write_image}
+use Rattle.kernel_spec.proofs.Prelude.{[], ℕ, ℤ, ◌&&◌, ◌+ℤ◌, ◌+◌, ◌-◌, ◌<◌, ◌>>=◌, ◌>>◌, ◌or◌, ◌when◌, ◌||◌, ◌∙◌, ◌∷◌, ◌≡◌, ◌≤◌, ◌⊎◌, ap, ARG_BYTES, arith, Bool, brought, bytes_eq, c_int, Call}
+use Rattle.kernel_spec.proofs.Prelude.{cases_lt, cast_unsigned, change_pipe, Child, child_status, Close, close, cond, console_name, Descriptor, done, done_at, Dup, dup, End, eqb_tells, Err, Exec}
+use Rattle.kernel_spec.proofs.Prelude.{exec, ExecError, Exit, false, false≢true, filter, find, fit, Fork, fork, Getpid, grown, grown_lazily, has_absent, has_bytes, has_child, has_mode, has_passed}
+use Rattle.kernel_spec.proofs.Prelude.{has_status, Image, in_use, inl, inr, is_some, Kill, kill, le-leb, le-ltb, le_bytes, least_zombie, length, List, list_any, Loaded, loaded, lowest_free}
+use Rattle.kernel_spec.proofs.Prelude.{lowest_free_above, lt-leb, make_pipe, MAXARG, MAXPATH, nat_eq, nat_le, nat_lt, natural, negsuc, next_bytes, no_slashes, None, not, not-false, NPROC, Ok, Open}
+use Rattle.kernel_spec.proofs.Prelude.{open_file, Option, option_map, or_right, or_zero, Own, pages_at, perform, PID_MAX, Pipe, Pipe_row, place_of, pos, position_from, price, program_named}
+use Rattle.kernel_spec.proofs.Prelude.{ProgramFile, Read, read, readable, refl, refused, Result, result_of, Row, row, row_of, Sbrk, sbrk, Sbrklazy, sbrklazy, Shown, Shown_file, Shown_pipe}
+use Rattle.kernel_spec.proofs.Prelude.{Shown_terminal, shrunk, SIZE_LIMIT, Sleep, sleep, Some, status_stored, storing, subst, suc, sym, text_at, texts_at, ticks_since, touch, true, Uptime, View, w32}
+use Rattle.kernel_spec.proofs.Prelude.{Wait, wait, waits, what_is_named, with_descriptor, with_more, with_value, writable, Write, write, write_image}
 use Rattle.kernel_spec.proofs.rows.Settled.{touch-none, touch-comes, touch-settles, touch-again, store-brought}
 use Rattle.kernel_spec.proofs.rows.Resized.{grown-price}
 use Rattle.std.proofs.lemmas.Bool.{lt-ltb}
@@ -17,7 +16,6 @@ use Rattle.kernel_spec.proofs.rows.RowParts.{The_console, dup_at, dup_number, du
 use Rattle.kernel_spec.proofs.rows.RowParts.{open_parts, open_path, opened_as, perform_parts, perform_row, pipe_parts, piped, piped_from, program_place, read_on, read_parts, reaped, sbrk_by}
 use Rattle.kernel_spec.proofs.rows.RowParts.{sbrk_parts, shrink_to, sleep_parts, wait_parts, write_on, write_parts, write_pipe, close_number, close_on, close_parts, fork_parts, kill_parts, kill_pid}
 use Rattle.kernel_spec.proofs.rows.RowParts.{running, told, without_child}
-use Rattle.kernel_spec.specs.rows.Calls.{storing}
 use Rattle.kernel_spec.proofs.Common.{passes, takes}
 
 -- ---- the lines of a row
@@ -144,9 +142,6 @@ module _ (c : Call) (v : View) where
   unfolding fork
   fork_same = when_three (nat_le NPROC (length v.pids)) (nat_lt PID_MAX v.next_pid) (nat_lt v.free (price v.image + 1)) _ (λ _. forked c v) refl
 
-  pub exit_same : exit c v ≡ gone (Exited (c_int c.a0)) v
-  exit_same = refl
-
   -- ---- kill
 
   pub kill_same : kill c v ≡ kill_parts c v
@@ -155,13 +150,7 @@ module _ (c : Call) (v : View) where
       (λ pid. when_unless (nat_eq pid 0) _ (λ _. killed_by c v pid)
       (when_unless (not (list_any (nat_eq pid) v.pids)) _ (λ _. record (done c (pos 0) (record v { killed = v.killed || nat_eq pid v.pid })) { marked = Some pid }) refl))
 
-  -- ---- getpid, uptime, sleep
-
-  pub getpid_same : getpid c v ≡ done c (pos v.pid) v
-  getpid_same = refl
-
-  pub uptime_same : uptime c v ≡ done c (pos v.clock) v
-  uptime_same = refl
+  -- ---- sleep
 
   pub sleep_same : sleep c v ≡ sleep_parts c v
   unfolding sleep
@@ -401,21 +390,21 @@ module _ (c : Call) (v : View) where
   by_row : (r : Row) → has_absent (buffer_of c (Some r)) v.image ≡ false → row r c v ≡ perform_row c v (Some r)
   unfolding row perform_row
   by_row Fork none = fork_same
-  by_row Exit none = exit_same
   by_row Wait none = wait_same none
   by_row Pipe_row none = pipe_same none
   by_row Read none = read_same none
   by_row Kill none = kill_same
   by_row Exec none = exec_same
   by_row Dup none = dup_same
-  by_row Getpid none = getpid_same
   by_row Sbrk none = sbrk_same
   by_row Sleep none = sleep_same
-  by_row Uptime none = uptime_same
   by_row Open none = open_same
   by_row Write none = write_same
   by_row Close none = close_same
   by_row Sbrklazy none = sbrklazy_same
+  by_row Exit none = refl
+  by_row Getpid none = refl
+  by_row Uptime none = refl
 
   refused_row : refused c v ≡ perform_row c v None
   unfolding perform_row
@@ -441,13 +430,9 @@ abbrev with_image : View → Image → ℕ → View
 with_image v image free = record v { image = image; free = free }
 
 module _ (c : Call) (v : View) where
-  -- it doesn't answer -1
-  abbrev Answers : Own → Type 0
-  Answers x = (number : ℤ) → x.answer ≡ Called number minus_one → ⊥
-
-  -- it is refused, or it is this, and doesn't answer -1
+  -- it is refused, or it is this
   abbrev Either : Own → Own → Type 0
-  Either x y = (x ≡ refused c v) ⊎ ((x ≡ y) × Answers x)
+  Either x y = (x ≡ refused c v) ⊎ (x ≡ y)
 
   or_either : {A : Type 0} (o : Option A) (e : Own) (f g : A → Own) → ((a : A) → o ≡ Some a → Either (f a) (g a)) → Either ((o or refused c v) >>= f) ((o or e) >>= g)
   unfolding ◌>>=◌ ◌>>◌ ◌when◌ ◌or◌
@@ -524,43 +509,6 @@ module _ (c : Call) (v : View) where
 
   -- ---- and else it comes to what it comes to once they are there
 
-  -- what is left of a read, once its buffer is there
-  abbrev reading : Descriptor → ℕ → View → Own
-  reading d n t =
-      let stored = read_stored c t n d.shown in
-      let u = record t { image = storing stored t.image } in
-      elim d.shown [
-        | Shown_file program offset ↦ done c (pos (length stored.bytes)) (record u { descriptors = advance d.file (length stored.bytes) t.descriptors })
-        | Shown_pipe name end pipe ↦
-            (waits c 0 t when not (has_bytes pipe))
-            >> done c (pos (there pipe n)) (record u { descriptors = change_pipe name (without_first (there pipe n) pipe) t.descriptors })
-        | Shown_terminal ↦
-            let line = next_line t.console c.moved (n - c.moved) in
-            let k = c.moved + length line.taken in
-            let after = record u { console = without_line line t.console } in
-            if line.ended then done c (pos k) after else waits c k after
-      ]
-
-  called_not : (m : ℤ) (k : ℕ) (number : ℤ) → Called m (pos k) ≡ Called number minus_one → ⊥
-  called_not m k number e = cc
-
-  blocked_not : (m number : ℤ) → Blocked m ≡ Called number minus_one → ⊥
-  blocked_not m number e = cc
-
-  either_answers : (b : Bool) (x y : Own) → Answers x → Answers y → Answers (cond b x y)
-  either_answers true x y yes-x yes-y = yes-x
-  either_answers false x y yes-x yes-y = yes-y
-
-  when_answers : (b : Bool) (x y : Own) → Answers x → Answers y → Answers ((x when b) >> y)
-  unfolding ◌>>=◌ ◌>>◌ ◌when◌ ◌or◌
-  when_answers true x y yes-x yes-y = yes-x
-  when_answers false x y yes-x yes-y = yes-y
-
-  taking_answers : (u : View) (o : Option ℕ) → Answers ((o or waits c 0 u) >>= taken c v u)
-  unfolding ◌>>=◌ ◌>>◌ ◌when◌ ◌or◌
-  taking_answers u None = blocked_not c.number
-  taking_answers u (Some q) = called_not c.number q
-
   module _ (i : Image) (free : ℕ) where
     abbrev t : View
     t = with_image v i free
@@ -577,7 +525,7 @@ module _ (c : Call) (v : View) where
         let ps = pages_at c.a0 (told_bytes c) in
         when_either (not (nat_eq c.a0 0) && not (writable v.image c.a0 4)) (not (nat_eq c.a0 0) && not (writable i c.a0 4)) (refused c t) _ _
         (room-where (not (nat_eq c.a0 0)) i ps c.a0 4 (touch-comes ps v t comes).image)
-        (when_either (not (has_child v)) (not (has_child v)) (refused c t) _ _ (λ e. e) (touch_either ps _ _ comes (inr (refl, taking_answers t (least_zombie t)))))
+        (when_either (not (has_child v)) (not (has_child v)) (refused c t) _ _ (λ e. e) (touch_either ps _ _ comes (inr refl)))
 
     pipe_either : touch (pages_at c.a0 8) v ≡ Some t → Either (make_pipe c v) (make_pipe c t)
     unfolding make_pipe
@@ -585,26 +533,7 @@ module _ (c : Call) (v : View) where
         let ps = pages_at c.a0 8 in
         when_either (not (writable v.image c.a0 8)) (not (writable i c.a0 8)) (refused c t) _ _ (room-there i ps c.a0 8 (touch-comes ps v t comes).image)
         (or_either (lowest_free v.descriptors) (refused c t) _ _ (λ r there. or_either (lowest_free_above v.descriptors r) (refused c t) _ _ (λ w above.
-        touch_either ps _ _ comes (when_either (nat_eq free 0) (nat_eq free 0) (refused c t) _ _ (λ e. e) (inr (refl, called_not c.number 0))))))
-
-    reading_answers : (n : ℕ) (d : Descriptor) → Answers (reading d n t)
-    unfolding ◌>>=◌ ◌>>◌ ◌when◌ ◌or◌
-    reading_answers n d = by d.shown
-      where
-        by : (s : Shown) → Answers (reading (record d { shown = s }) n t)
-        by (Shown_file program offset) = called_not c.number (length (take n (drop offset (program_bytes (slice_get v.programs program)))))
-        by (Shown_pipe name end pipe) =
-            when_answers (not (has_bytes pipe)) (waits c 0 t)
-            (done c (pos (there pipe n)) (record t {
-              image = write_image t.image c.a1 (take (there pipe n) pipe.bytes);
-              descriptors = change_pipe name (without_first (there pipe n) pipe) t.descriptors;
-            }))
-            (blocked_not c.number) (called_not c.number (there pipe n))
-        by Shown_terminal =
-            let line = pulled (c.moved == 0) (n - c.moved) v.console.committed in
-            let after = record t { image = write_image t.image (c.a1 + c.moved) line.taken; console = record t.console { committed = line.left } } in
-            either_answers line.ended (done c (pos (c.moved + length line.taken)) after) (waits c (c.moved + length line.taken) after)
-            (called_not c.number (c.moved + length line.taken)) (blocked_not c.number)
+        touch_either ps _ _ comes (when_either (nat_eq free 0) (nat_eq free 0) (refused c t) _ _ (λ e. e) (inr refl)))))
 
     read_either : has_absent (pages_at c.a1 (length_of_int (c_int c.a2))) v.image ≡ true → touch (pages_at c.a1 (length_of_int (c_int c.a2))) v ≡ Some t → Either (read c v) (read c t)
     unfolding read
@@ -616,7 +545,7 @@ module _ (c : Call) (v : View) where
         let at = ap (λ k. touch (pages_at c.a1 k) v) (sym length) ∙ comes in
         past_either (nat_eq n 0) _ _ _ _ (some-bytes c.a1 n (ap (λ k. has_absent (pages_at c.a1 k) v.image) (sym length) ∙ absent))
         (when_either (not (writable v.image c.a1 n)) (not (writable i c.a1 n)) (refused c t) _ _ (room-there i (pages_at c.a1 n) c.a1 n (touch-comes (pages_at c.a1 n) v t at).image)
-        (touch_either (pages_at c.a1 n) _ _ at (inr (refl, reading_answers n d)))))))
+        (touch_either (pages_at c.a1 n) _ _ at (inr refl))))))
 
   -- ---- a row, behind the tests that it passes
 
@@ -757,11 +686,11 @@ module _ (c : Call) (v : View) where
 
   -- it is refused, or is what its parts say once its buffer is there
   abbrev Performs : Own → Option Row → Type 0
-  Performs x r = (x ≡ refused c v) ⊎ ((t : View) × IsBrought v t × (has_absent (buffer_of c r) t.image ≡ false) × (x ≡ perform_row c t r) × ((t ≡ v) ⊎ Answers x))
+  Performs x r = (x ≡ refused c v) ⊎ ((t : View) × IsBrought v t × (has_absent (buffer_of c r) t.image ≡ false) × (x ≡ perform_row c t r))
 
   as-it-is : (r : Row) → has_absent (buffer_of c (Some r)) v.image ≡ false → Performs (row r c v) (Some r)
   unfolding touch
-  as-it-is r none = inr (v, ([], refl), none, by_row c v r none, inl refl)
+  as-it-is r none = inr (v, ([], refl), none, by_row c v r none)
 
   -- by what the touch comes to
   touched_row : (r : Row) → (touch (buffer_of c (Some r)) v ≡ None → row r c v ≡ refused c v)
@@ -777,13 +706,11 @@ module _ (c : Call) (v : View) where
           let settled = touch-settles ps v t e in
           elim (some t.image t.free (e ∙ ap Some comes.view)) [
             | inl refuses ↦ inl refuses
-            | inr same ↦ inr (t, (ps, e), settled, same.0 ∙ ap (row r c) (sym comes.view) ∙ by_row c t r settled, inr same.1)
+            | inr same ↦ inr (t, (ps, e), settled, same ∙ ap (row r c) (sym comes.view) ∙ by_row c t r settled)
           ]
 
   performs_row : (r : Row) → Performs (row r c v) (Some r)
   unfolding row
-  performs_row Fork = as-it-is Fork refl
-  performs_row Exit = as-it-is Exit refl
   performs_row Wait = touched_row Wait wait_none wait_either
   performs_row Pipe_row = touched_row Pipe_row pipe_none pipe_either
   performs_row Read = by (has_absent (buffer_of c (Some Read)) v.image) refl
@@ -791,41 +718,14 @@ module _ (c : Call) (v : View) where
       by : (b : Bool) → has_absent (buffer_of c (Some Read)) v.image ≡ b → Performs (row Read c v) (Some Read)
       by true absent = touched_row Read (read_none absent) (λ i free. read_either i free absent)
       by false none = as-it-is Read none
-  performs_row Kill = as-it-is Kill refl
-  performs_row Exec = as-it-is Exec refl
-  performs_row Dup = as-it-is Dup refl
-  performs_row Getpid = as-it-is Getpid refl
-  performs_row Sbrk = as-it-is Sbrk refl
-  performs_row Sleep = as-it-is Sleep refl
-  performs_row Uptime = as-it-is Uptime refl
-  performs_row Open = as-it-is Open refl
-  performs_row Write = as-it-is Write refl
-  performs_row Close = as-it-is Close refl
-  performs_row Sbrklazy = as-it-is Sbrklazy refl
+  performs_row r = as-it-is r refl
 
   by_row_of : (o : Option Row) → Performs ((o or refused c v) >>= (λ r. row r c v)) o
   unfolding ◌>>=◌ ◌>>◌ ◌when◌ ◌or◌
   by_row_of None = inl refl
   by_row_of (Some r) = performs_row r
 
-  -- each call is refused, or is what the parts of its row say once its buffer is there; where a page came, it doesn't answer -1
-  pub performs : (perform c v ≡ refused c v) ⊎ ((t : View) × IsBrought v t × IsSettled c t × (perform c v ≡ perform_parts c t) × ((t ≡ v) ⊎ Answers (perform c v)))
+  -- each call is refused, or is what the parts of its row say once its buffer is there
+  pub performs : (perform c v ≡ refused c v) ⊎ ((t : View) × IsBrought v t × IsSettled c t × (perform c v ≡ perform_parts c t))
   unfolding perform perform_parts
   performs = by_row_of (row_of c.number)
-
-  -- the same where a page of its buffer is absent
-  pub performs_on : has_absent (buffer_of c (row_of c.number)) v.image ≡ true
-      → (perform c v ≡ refused c v) ⊎ ((t : View) × IsBrought v t × IsSettled c t × (perform c v ≡ perform_parts c t) × Answers (perform c v))
-  performs_on absent = elim performs [
-    | inl refuses ↦ inl refuses
-    | inr x ↦ inr (
-      x.0,
-      x.1,
-      x.2,
-      x.3,
-      elim x.4 [
-        | inl same ↦ absurd (both_ways (has_absent (buffer_of c (row_of c.number)) v.image) (ap (λ (u : View). has_absent (buffer_of c (row_of c.number)) u.image) (sym same) ∙ x.2) absent)
-        | inr answers ↦ answers
-      ],
-    )
-  ]

@@ -1,28 +1,14 @@
 -- A call whose buffer has no absent page keeps it so while it waits.
-use Rattle.kernel_spec.proofs.Prelude.{ℕ, ◌∙◌, ◌≡◌, ap, Call, Close, Dup, Exec, Exit, Fork, Getpid, has_absent, Kill, List, None, Open, Option, Pipe_row, Read, refl, Row, row_of, Sbrk, Sbrklazy}
-use Rattle.kernel_spec.proofs.Prelude.{Sleep, Some, Uptime, View, Wait, Write, write_image}
+use Rattle.kernel_spec.proofs.Prelude.{ℕ, ◌∙◌, ◌≡◌, ap, Call, has_absent, List, Option, Pipe_row, Read, refl, Row, row_of, Some, View, Wait, write_image}
 use Rattle.kernel_spec.proofs.steps.WritesKeepRights.{absent_written}
 use Rattle.kernel_spec.proofs.rows.RowParts.{buffer_of, IsSettled}
 
 -- how much a call has moved changes nothing of its buffer
 same_buffer : (c : Call) (moved : ℕ) (r : Option Row) → buffer_of (record c { moved = moved }) r ≡ buffer_of c r
-same_buffer c moved None = refl
-same_buffer c moved (Some Fork) = refl
-same_buffer c moved (Some Exit) = refl
 same_buffer c moved (Some Wait) = refl
 same_buffer c moved (Some Pipe_row) = refl
 same_buffer c moved (Some Read) = refl
-same_buffer c moved (Some Kill) = refl
-same_buffer c moved (Some Exec) = refl
-same_buffer c moved (Some Dup) = refl
-same_buffer c moved (Some Getpid) = refl
-same_buffer c moved (Some Sbrk) = refl
-same_buffer c moved (Some Sleep) = refl
-same_buffer c moved (Some Uptime) = refl
-same_buffer c moved (Some Open) = refl
-same_buffer c moved (Some Write) = refl
-same_buffer c moved (Some Close) = refl
-same_buffer c moved (Some Sbrklazy) = refl
+same_buffer c moved _ = refl
 
 -- with the same image, and however much is moved
 pub still_settled : (c : Call) (moved : ℕ) (u m : View) → m.image ≡ u.image → IsSettled c u → IsSettled (record c { moved = moved }) m

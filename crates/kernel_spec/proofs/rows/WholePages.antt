@@ -1,9 +1,8 @@
 -- Every page of a process's memory has 4,096 bytes, after each step.
-use Rattle.kernel_spec.proofs.Prelude.{ℕ, ℤ, ◌*◌, ◌+◌, ◌∙◌, ◌≡◌, ◌⊎◌, addresses, aligned, Answer, ap, ArgsTooLong, Blocked, Bool, Call, call_in, Called, Close, cond, Decides-int_eq, Dup, end_after}
-use Rattle.kernel_spec.proofs.Prelude.{Err, Exec, ExecError, Exit, Exited, false, Faulted, Fork, gathered-get, get, Getpid, HasWholePages, if◌then◌else◌, inl, inr, int_eq, IsExecDone, Kill, length}
-use Rattle.kernel_spec.proofs.Prelude.{length-map-range_with_len, List, Loaded, loaded, nat_lt, negsuc, None, Ok, Open, Option, option_map, Own, own, Page, page_by, page_count, page_perm, Pipe_row}
-use Rattle.kernel_spec.proofs.Prelude.{pos, program_image, Read, refl, Result, Rights, Row, row_of, same_Some, Sbrk, Sbrklazy, segments_over, Sleep, Some, stack_over, stack_pointer, Stepped, subst}
-use Rattle.kernel_spec.proofs.Prelude.{sym, true, Uptime, View, Wait, with_texts, Write, zeros}
+use Rattle.kernel_spec.proofs.Prelude.{ℕ, ℤ, ◌*◌, ◌+◌, ◌∙◌, ◌≡◌, ◌⊎◌, addresses, aligned, Answer, ap, ArgsTooLong, Blocked, Bool, Call, call_in, Called, cond, Decides-int_eq, end_after, Err, Exec}
+use Rattle.kernel_spec.proofs.Prelude.{ExecError, Exited, false, Faulted, gathered-get, get, HasWholePages, if◌then◌else◌, inl, inr, int_eq, IsExecDone, length, length-map-range_with_len, List}
+use Rattle.kernel_spec.proofs.Prelude.{Loaded, loaded, nat_lt, negsuc, None, Ok, Option, option_map, Own, own, Page, page_by, page_count, page_perm, pos, program_image, refl, Result, Rights, Row}
+use Rattle.kernel_spec.proofs.Prelude.{row_of, same_Some, segments_over, Some, stack_over, stack_pointer, Stepped, subst, sym, true, View, with_texts, zeros}
 use Rattle.xk_base.specs.Loaded.{◌>>=◌}
 use Rattle.xk_base.specs.ProgramFile.{page_up, header_of, segments_of}
 use Rattle.xk_base.specs.declared.program.Header.{Header}
@@ -56,28 +55,12 @@ loaded_whole file texts l e =
 -- ---- whether a step is an exec that succeeded
 
 abbrev is_exec : Option Row → Bool
-is_exec None = false
 is_exec (Some Exec) = true
 is_exec _ = false
 
 exec_row : (r : Option Row) → (r ≡ Some Exec) ⊎ (is_exec r ≡ false)
-exec_row None = inr refl
-exec_row (Some Fork) = inr refl
-exec_row (Some Exit) = inr refl
-exec_row (Some Wait) = inr refl
-exec_row (Some Pipe_row) = inr refl
-exec_row (Some Read) = inr refl
-exec_row (Some Kill) = inr refl
 exec_row (Some Exec) = inl refl
-exec_row (Some Dup) = inr refl
-exec_row (Some Getpid) = inr refl
-exec_row (Some Sbrk) = inr refl
-exec_row (Some Sleep) = inr refl
-exec_row (Some Uptime) = inr refl
-exec_row (Some Open) = inr refl
-exec_row (Some Write) = inr refl
-exec_row (Some Close) = inr refl
-exec_row (Some Sbrklazy) = inr refl
+exec_row _ = inr refl
 
 abbrev Succeeds : ℤ → Answer → Type 0
 Succeeds number answer = (k : ℕ) × (answer ≡ Called number (pos k))

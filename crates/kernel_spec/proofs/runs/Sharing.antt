@@ -5,7 +5,8 @@ use Rattle.kernel_spec.proofs.Prelude.{live, MatchOption, meets_on_file, meets_o
 use Rattle.kernel_spec.proofs.Prelude.{shown_pipe_name, Shown_terminal, Some, State, StateAfter, subst, sym, true, View, view}
 use Rattle.kernel_spec.proofs.steps.SeenByParts.{pipe_of_file, seen_descriptor, left_at}
 use Rattle.kernel_spec.proofs.steps.OthersKeepTheRest.{pid_is}
-use Rattle.kernel_spec.proofs.runs.Uses.{Uses, is_end, own_uses}
+use Rattle.kernel_spec.proofs.calls.Tables.{Table, is_end}
+use Rattle.kernel_spec.proofs.calls.Steps.{own_facts}
 use Rattle.kernel_spec.proofs.runs.Shown.{shown_at, file_seen, pipe_seen}
 use Rattle.kernel_spec.proofs.Common.{none_from_is_some, the_value, view_low}
 
@@ -151,8 +152,8 @@ module _ (s t : State) (p : ℕ) (b : View) (was : view s p ≡ Some b) (after :
   files : FilesAfter s p x t
   files = subst (λ (n : ℕ). FilesAfter s n x t) pid after.files
 
-  uses : Uses b.descriptors x
-  uses = own_uses b (view_low s p (live s p) b was)
+  tables : (n : View) → x.next ≡ Some n → Table b.descriptors n.descriptors
+  tables = (own_facts b).table (view_low s p (live s p) b was)
 
   next : view t p ≡ x.next
   next = ap (view t) (sym pid) ∙ after.next
@@ -187,8 +188,8 @@ module _ (s t : State) (p : ℕ) (b : View) (was : view s p ≡ Some b) (after :
       by : (c : Option View) → x.child ≡ c → MatchOption c ⊥ (λ c. q ≡ c.pid) → MatchOption c (Unit {0}) (λ c. (d : ℕ) → file_at t c.pid d ≡ file_at s p d) → file_at t q d ≡ file_at t p d
       by None e is same = absurd is
       by (Some c) e is same =
-          let n = the_value x.next (uses.parent (ap is_some e)) in
-          let used : is_some (file_at s p d) ≡ is_some (file_at t p d) = sym (file_before d) ∙ sym (uses.bears n.0 n.1 (ap is_some e) d) ∙ file_then n.0 n.1 d in
+          let n = the_value x.next ((own_facts b).parent (ap is_some e)) in
+          let used : is_some (file_at s p d) ≡ is_some (file_at t p d) = sym (file_before d) ∙ sym ((own_facts b).bears n.0 n.1 (ap is_some e) d) ∙ file_then n.0 n.1 d in
           ap (λ (n : ℕ). file_at t n d) is ∙ same d ∙ same_option (file_at s p d) (file_at t p d) used (λ f g. files.same_file p d f g)
 
   -- ---- another process
@@ -247,7 +248,7 @@ module _ (s t : State) (p : ℕ) (b : View) (was : view s p ≡ Some b) (after :
   keeps_file : (d k : ℕ) → file_at s p d ≡ None → IsSome (file_at t p d) → IsSome (file_at s p k) → IsSome (file_at t p k)
   keeps_file d k free there old =
       let n = goes_on d there in
-      sym (file_then n.0 n.1 k) ∙ uses.opens n.0 n.1 d k (none_from_is_some (b.descriptors d) (file_before d ∙ ap is_some free)) (file_then n.0 n.1 d ∙ there) (file_before k ∙ old)
+      sym (file_then n.0 n.1 k) ∙ (tables n.0 n.1).opens d k (none_from_is_some (b.descriptors d) (file_before d ∙ ap is_some free)) (file_then n.0 n.1 d ∙ there) (file_before k ∙ old)
 
   keeps_pipe : (d k : ℕ) → pipe_at s p d ≡ None → IsSome (pipe_at t p d) → IsSome (pipe_at s p k) → IsSome (pipe_at t p k)
   keeps_pipe d k free there old =
@@ -256,13 +257,13 @@ module _ (s t : State) (p : ℕ) (b : View) (was : view s p ≡ Some b) (after :
       let before : is_end (b.descriptors d) ≡ false = pipe_before d ∙ ap is_some free in
       let unused : b.descriptors d ≡ None = none_from_is_some (b.descriptors d) (by (is_some (b.descriptors d)) refl n now before) in
       let k_end : is_end (b.descriptors k) ≡ true = pipe_before k ∙ old in
-      let k_used : IsSome (n.0.descriptors k) = uses.opens n.0 n.1 d k unused (end_shown (n.0.descriptors d) now) (end_shown (b.descriptors k) k_end) in
-      sym (pipe_then n.0 n.1 k) ∙ uses.kind n.0 n.1 k (end_shown (b.descriptors k) k_end) k_used ∙ k_end
+      let k_used : IsSome (n.0.descriptors k) = (tables n.0 n.1).opens d k unused (end_shown (n.0.descriptors d) now) (end_shown (b.descriptors k) k_end) in
+      sym (pipe_then n.0 n.1 k) ∙ (tables n.0 n.1).kind k (end_shown (b.descriptors k) k_end) k_used ∙ k_end
     where
       by : (c : Bool) → is_some (b.descriptors d) ≡ c → (n : (n : View) × (x.next ≡ Some n)) → is_end (n.0.descriptors d) ≡ true → is_end (b.descriptors d) ≡ false → is_some (b.descriptors d) ≡ false
       by false e n now before = e
       by true e n now before =
-          let no : true ≡ false = sym now ∙ uses.kind n.0 n.1 d e (end_shown (n.0.descriptors d) now) ∙ before in
+          let no : true ≡ false = sym now ∙ (tables n.0 n.1).kind d e (end_shown (n.0.descriptors d) now) ∙ before in
           let bad : ⊥ = cc in absurd bad
 
   pub file_tracks : Tracks file_at s p x t

@@ -4,7 +4,7 @@ use Rattle.kernel_spec.proofs.Prelude.{named, nat_lt, NOFILE, None, numbered, Op
 use Rattle.kernel_spec.proofs.Prelude.{State, sym, Target, Terminal, true, View, view, view_of}
 use Rattle.kernel_spec.proofs.steps.SeenByParts.{file_of, pipe_of_file, pipe_of_open, descriptor_at, descriptor_on}
 use Rattle.kernel_spec.proofs.steps.NamesAreChosenAgain.{alike_named}
-use Rattle.kernel_spec.proofs.runs.Uses.{is_end, named_same}
+use Rattle.kernel_spec.proofs.calls.Tables.{is_end, named_same}
 use Rattle.kernel_spec.proofs.Common.{none_is_same}
 
 -- a descriptor of the view, if there is one

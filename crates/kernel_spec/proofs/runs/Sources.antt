@@ -3,9 +3,7 @@ use Rattle.kernel_spec.proofs.Prelude.{[], ℕ, ◌%◌, ◌*◌, ◌+◌, ◌-�
 use Rattle.kernel_spec.proofs.Prelude.{HasByte, HasWholePages, Holds, Image, inl, inr, is_some, IsNewbornOf, IsPut, IsRun, IsStepOf, IsStored, List, live, MatchOption, None, Ok, Option, Outcome, own}
 use Rattle.kernel_spec.proofs.Prelude.{Page, Passes, ProgramFile, refl, same_Some, slice_index, Some, Stands, StepOf, stored_by, subst, sym, true, View, view, WasPut, World}
 use Rattle.kernel_spec.proofs.steps.OthersKeepTheRest.{kept, pid_is}
-use Rattle.kernel_spec.proofs.rows.NewPages.{no_old_byte}
-use Rattle.kernel_spec.proofs.rows.NewBytes.{no_old_child}
-use Rattle.kernel_spec.proofs.rows.SetBytes.{stores_these_bytes}
+use Rattle.kernel_spec.proofs.rows.NewPages.{no_old_byte, no_old_child, stores_these_bytes}
 use Rattle.kernel_spec.proofs.rows.OwnBytes.{each_byte_is_of_its_own}
 use Rattle.kernel_spec.proofs.rows.WholePages.{exec_or_not, own_whole, loaded_whole}
 use Rattle.kernel_spec.proofs.runs.Cuts.{kind, not_his, same_seen}

@@ -1,11 +1,10 @@
 -- What the others wait for when a process goes, and what comes by it.
-use Rattle.kernel_spec.proofs.Prelude.{[], ℕ, ℤ, ◌&&◌, ◌||◌, ◌∙◌, ◌∷◌, ◌≡◌, ◌≢◌, ◌⊎◌, Alive, and_parts, ap, Bool, Bytes, c_int, Call, call_waits_for, Channel, Child_of, child_of, Close, closes_wake}
-use Rattle.kernel_spec.proofs.Prelude.{cond, Condition, contains_key-keys, Dup, end_of, end_wakes, eq-eqb, eq_by_cmp, eqb-true, Exec, Exit, Exited, false, FilesLeft, FinMap, Fork, get, Getpid}
-use Rattle.kernel_spec.proofs.Prelude.{given_to, gone_state, has_bytes, has_room, has_status, inl, inr, is_for, is_given_up, is_open, is_some, is_this, IsLive, Keys, keys, Kill, last_closes, length}
-use Rattle.kernel_spec.proofs.Prelude.{List, list_any, Live, live, live_part, MayOpenAtEnd, nat_cmp, nat_eq, nat_lt, negsuc, NOFILE, None, not, Nothing, Open, OpenFile, Option, option_map, or_cases}
-use Rattle.kernel_spec.proofs.Prelude.{or_gone, or_left, or_right, orphan, orphans, Pipe, PIPE_BYTES, Pipe_row, pos, Process, Read, read_waits_for, refl, Room, Row, row_of, row_waits_for, Sbrk}
-use Rattle.kernel_spec.proofs.Prelude.{Sbrklazy, Sending, Sleep, Some, State, Status, sym, target_at, target_of_open, Time, true, unsigned_tied, Uptime, Wait, waits_for, WellFormed, Write}
-use Rattle.kernel_spec.proofs.Prelude.{write_waits_for, Zombie}
+use Rattle.kernel_spec.proofs.Prelude.{[], ℕ, ℤ, ◌&&◌, ◌||◌, ◌∙◌, ◌∷◌, ◌≡◌, ◌≢◌, ◌⊎◌, Alive, and_parts, ap, Bool, Bytes, c_int, Call, call_waits_for, Channel, Child_of, child_of, closes_wake, cond}
+use Rattle.kernel_spec.proofs.Prelude.{Condition, contains_key-keys, end_of, end_wakes, eq-eqb, eq_by_cmp, eqb-true, Exited, false, FilesLeft, FinMap, get, given_to, gone_state, has_bytes, has_room}
+use Rattle.kernel_spec.proofs.Prelude.{has_status, inl, inr, is_for, is_given_up, is_open, is_some, is_this, IsLive, Keys, keys, last_closes, length, List, list_any, Live, live, live_part}
+use Rattle.kernel_spec.proofs.Prelude.{MayOpenAtEnd, nat_cmp, nat_eq, nat_lt, negsuc, NOFILE, None, not, Nothing, OpenFile, Option, option_map, or_cases, or_gone, or_left, or_right, orphan, orphans}
+use Rattle.kernel_spec.proofs.Prelude.{Pipe, PIPE_BYTES, pos, Process, Read, read_waits_for, refl, Room, Row, row_of, row_waits_for, Sending, Sleep, Some, State, Status, sym, target_at}
+use Rattle.kernel_spec.proofs.Prelude.{target_of_open, Time, true, unsigned_tied, Wait, waits_for, WellFormed, Write, write_waits_for, Zombie}
 use Rattle.std.specs.List.{find}
 use Rattle.kernel_spec.proofs.steps.SeenByParts.{file_of}
 use Rattle.kernel_spec.proofs.steps.MapsAfterChange.{get_same}
@@ -98,23 +97,11 @@ module _ (frames : ℕ) (s : State) (p : ℕ) (l : Live) (status : ℤ) (files :
     same_target (negsuc k) = refl
 
     same_row : (c : Call) (r : Option Row) → row_waits_for dead q (away m) c r ≡ row_waits_for s q m c r
-    same_row c None = refl
     same_row c (Some Wait) = refl
     same_row c (Some Read) = ap read_waits_for (same_target (c_int c.a0))
     same_row c (Some Write) = ap write_waits_for (same_target (c_int c.a0))
     same_row c (Some Sleep) = refl
-    same_row c (Some Fork) = refl
-    same_row c (Some Exit) = refl
-    same_row c (Some Pipe_row) = refl
-    same_row c (Some Kill) = refl
-    same_row c (Some Exec) = refl
-    same_row c (Some Dup) = refl
-    same_row c (Some Getpid) = refl
-    same_row c (Some Sbrk) = refl
-    same_row c (Some Uptime) = refl
-    same_row c (Some Open) = refl
-    same_row c (Some Close) = refl
-    same_row c (Some Sbrklazy) = refl
+    same_row c _ = refl
 
     same_call : (o : Option Call) → call_waits_for dead q (away m) o ≡ call_waits_for s q m o
     same_call None = refl

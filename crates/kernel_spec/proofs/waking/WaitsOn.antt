@@ -1,9 +1,9 @@
 -- What everybody else waits for is the same after each update, and marks stay.
-use Rattle.kernel_spec.proofs.Prelude.{ℕ, ℤ, ◌<◌, ◌∙◌, ◌≡◌, ◌≢◌, ◌⊎◌, Alive, ap, arith, at_start, Bool, c_int, Call, call_waits_for, changed_state, Close, cond, Console, Dup, end_of, Exec, Exit}
-use Rattle.kernel_spec.proofs.Prelude.{false, File, FilesLeft, FinMap, Fork, forked_child, forked_state, forking, get, Getpid, gone_state, inl, inr, insert, KeepsTargets, Kill, kill_state, Live, live}
-use Rattle.kernel_spec.proofs.Prelude.{live_part, marked, nat_cmp, nat_eq, nat_lt, negsuc, NOFILE, None, Open, OpenFile, Option, option_map, OthersWaitOn, own_state, Pipe, Pipe_end, Pipe_row, pos}
-use Rattle.kernel_spec.proofs.Prelude.{Process, Read, read_waits_for, refl, Row, row_of, row_waits_for, Sbrk, Sbrklazy, Sleep, Some, State, sym, Target, target_at, target_of_open, Terminal, true}
-use Rattle.kernel_spec.proofs.Prelude.{Uptime, Wait, waited_state, waits_for, WaitsStay, WellFormed, Write, write_waits_for}
+use Rattle.kernel_spec.proofs.Prelude.{ℕ, ℤ, ◌<◌, ◌∙◌, ◌≡◌, ◌≢◌, ◌⊎◌, Alive, ap, arith, at_start, Bool, c_int, Call, call_waits_for, changed_state, cond, Console, end_of, false, File, FilesLeft}
+use Rattle.kernel_spec.proofs.Prelude.{FinMap, forked_child, forked_state, forking, get, gone_state, inl, inr, insert, KeepsTargets, kill_state, Live, live, live_part, marked, nat_cmp, nat_eq, nat_lt}
+use Rattle.kernel_spec.proofs.Prelude.{negsuc, NOFILE, None, OpenFile, Option, option_map, OthersWaitOn, own_state, Pipe, Pipe_end, pos, Process, Read, read_waits_for, refl, Row, row_of}
+use Rattle.kernel_spec.proofs.Prelude.{row_waits_for, Sleep, Some, State, sym, Target, target_at, target_of_open, Terminal, true, Wait, waited_state, waits_for, WaitsStay, WellFormed, Write}
+use Rattle.kernel_spec.proofs.Prelude.{write_waits_for}
 use Rattle.kernel_spec.proofs.steps.SeenByParts.{file_of}
 use Rattle.kernel_spec.proofs.steps.MapsAfterChange.{get_other, get_without}
 use Rattle.kernel_spec.proofs.steps.OrphansKeepKeys.{get-change}
@@ -44,23 +44,11 @@ module _ (s t : State) (q : ℕ) (l m : Live) (calls : m.call ≡ l.call) (descr
   same_target (negsuc k) = refl
 
   same_row : (c : Call) (r : Option Row) → row_waits_for t q m c r ≡ row_waits_for s q l c r
-  same_row c None = refl
   same_row c (Some Wait) = refl
   same_row c (Some Read) = start-read (target_at t m (c_int c.a0)) ∙ ap read_waits_for (same_target (c_int c.a0)) ∙ sym (start-read (target_at s l (c_int c.a0)))
   same_row c (Some Write) = start-write (target_at t m (c_int c.a0)) ∙ ap write_waits_for (same_target (c_int c.a0)) ∙ sym (start-write (target_at s l (c_int c.a0)))
   same_row c (Some Sleep) = refl
-  same_row c (Some Fork) = refl
-  same_row c (Some Exit) = refl
-  same_row c (Some Pipe_row) = refl
-  same_row c (Some Kill) = refl
-  same_row c (Some Exec) = refl
-  same_row c (Some Dup) = refl
-  same_row c (Some Getpid) = refl
-  same_row c (Some Sbrk) = refl
-  same_row c (Some Uptime) = refl
-  same_row c (Some Open) = refl
-  same_row c (Some Close) = refl
-  same_row c (Some Sbrklazy) = refl
+  same_row c _ = refl
 
   same_call : (o : Option Call) → call_waits_for t q m o ≡ call_waits_for s q l o
   same_call None = refl

@@ -1,8 +1,8 @@
 -- Whether a process is ready depends on its mark and on what it waits for.
-use Rattle.kernel_spec.proofs.Prelude.{ℕ, ℤ, ◌||◌, ◌≡◌, ap, Bool, c_int, Call, call_ready, call_waits_for, can_read, can_write, Close, cond, Dup, end_of, Exec, Exit, false, File, Fork, get, Getpid}
-use Rattle.kernel_spec.proofs.Prelude.{has_passed, in_use, is_open, Kill, Live, named, nat_lt, negsuc, NOFILE, None, numbered, on_shown, Open, OpenFile, Option, option_map, Pipe_end, Pipe_row, pos}
-use Rattle.kernel_spec.proofs.Prelude.{Read, read_waits_for, ready, ReadyIsOpen, refl, rename, Row, row_of, row_ready, row_waits_for, same_Some, Sbrk, Sbrklazy, Sleep, sleep_waits_for, Some, State}
-use Rattle.kernel_spec.proofs.Prelude.{Target, target_at, target_of_open, Terminal, ticks_since, true, Uptime, View, view_of, Wait, waits_for, Write, write_waits_for}
+use Rattle.kernel_spec.proofs.Prelude.{ℕ, ℤ, ◌||◌, ◌≡◌, ap, Bool, c_int, Call, call_ready, call_waits_for, can_read, can_write, cond, end_of, false, File, get, has_passed, in_use, is_open, Live}
+use Rattle.kernel_spec.proofs.Prelude.{named, nat_lt, negsuc, NOFILE, None, numbered, on_shown, OpenFile, Option, option_map, Pipe_end, pos, Read, read_waits_for, ready, ReadyIsOpen, refl, rename}
+use Rattle.kernel_spec.proofs.Prelude.{Row, row_of, row_ready, row_waits_for, same_Some, Sleep, sleep_waits_for, Some, State, Target, target_at, target_of_open, Terminal, ticks_since, true, View}
+use Rattle.kernel_spec.proofs.Prelude.{view_of, Wait, waits_for, Write, write_waits_for}
 use Rattle.kernel_spec.proofs.steps.SeenByParts.{descriptor_at, descriptor_on}
 
 module _ (s : State) (p : ℕ) (l : Live) where
@@ -68,23 +68,11 @@ module _ (s : State) (p : ℕ) (l : Live) where
 
   row_is : (c : Call) (r : Option Row) → row_ready (view_of s p l) c r ≡ is_open s (row_waits_for s p l c r)
   unfolding view_of
-  row_is c None = refl
   row_is c (Some Wait) = refl
   row_is c (Some Read) = read_number (c_int c.a0)
   row_is c (Some Write) = write_number (c_int c.a0)
   row_is c (Some Sleep) = sleep_number c (c_int c.a0)
-  row_is c (Some Fork) = refl
-  row_is c (Some Exit) = refl
-  row_is c (Some Pipe_row) = refl
-  row_is c (Some Kill) = refl
-  row_is c (Some Exec) = refl
-  row_is c (Some Dup) = refl
-  row_is c (Some Getpid) = refl
-  row_is c (Some Sbrk) = refl
-  row_is c (Some Uptime) = refl
-  row_is c (Some Open) = refl
-  row_is c (Some Close) = refl
-  row_is c (Some Sbrklazy) = refl
+  row_is c _ = refl
 
   call_is : (o : Option Call) → call_ready (view_of s p l) o ≡ is_open s (call_waits_for s p l o)
   call_is None = refl

@@ -49,7 +49,7 @@ module _ (image : Image) where
   unfolding own in_call perform row row_of close ◌>>=◌ ◌>>◌ ◌when◌ ◌or◌
   close_free = refl
 
-  -- ---- sleep, uptime, kill
+  -- ---- the clock, and kill
 
   sleep_2 : (own (in_call image (call 13 2 0 0))).answer ≡ Blocked (pos 13)
   unfolding own in_call perform row row_of sleep ◌>>=◌ ◌>>◌ ◌when◌ ◌or◌

@@ -2,8 +2,8 @@
 use Rattle.kernel_spec.proofs.Prelude.{[], ℕ, ◌∙◌, ◌∷◌, ◌≡◌, address_used, after_instruction, ap, before_instruction, brought, by_opcode, bytes_at, Cause, data_address, decoded, false, Fault, Faulted}
 use Rattle.kernel_spec.proofs.Prelude.{fetched, FetchPageFault, fresh, get, goes_on, gone, Image, instr, instruction_now, instruction_row as row, is_absent, Load, load_op, load_row, load_value}
 use Rattle.kernel_spec.proofs.Prelude.{LoadMisaligned, LoadPageFault, Next, next_instruction, None, nothing_stored, Ok, Own, own, page_used, price, put, refl, Registers, Some, Stepped, Store}
-use Rattle.kernel_spec.proofs.Prelude.{store_op, store_row, stored_by, stored_by_instruction, StoreInstr, StorePageFault, storing, touch, true, user, View, with_pc, with_store, zero_frame}
-use Rattle.rv64i_core.specs.Memory.{loaded}
+use Rattle.kernel_spec.proofs.Prelude.{store_op, store_row, stored_by, stored_by_instruction, StoreInstr, StorePageFault, touch, true, user, View, with_pc, with_store, zero_frame}
+use Rattle.rv64i_core.specs.Memory.{storing, loaded}
 use Rattle.rv64i_core.specs.declared.instruction.LoadOp.TheVariants.{Ld, Lw}
 use Rattle.rv64i_core.specs.declared.instruction.StoreOp.TheVariants.{Sb}
 use Rattle.kernel_spec.proofs.memory.OnAbsent.{before_same, before_touched, before_untouched, brought-one, page_not_on_absent, same_word, is_on_absent}

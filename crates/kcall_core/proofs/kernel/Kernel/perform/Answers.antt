@@ -1,8 +1,22 @@
-use Rattle.kcall_core.proofs.Prelude.{◌∙◌, answer_of, ap, c_int, Exited, is_close, is_dup, is_exec, is_exit, is_fork, is_getpid, is_kill, is_pipe, is_read, is_sbrk, is_sbrklazy, is_sleep, is_uptime}
-use Rattle.kcall_core.proofs.Prelude.{is_wait, is_write, Makes, Own, rules, Some, state_of, subst, sym, to_z-of_z, view_now, view_of}
+use Rattle.kcall_core.proofs.Prelude.{◌∙◌, ◌≢◌, answer_of, ap, c_int, Exited, Makes, Own, pos, rules, Some, state_of, subst, sym, to_z-of_z, view_now, view_of}
 use Rattle.std.specs.Int.{w32}
-use Rattle.kernel_spec.proofs.rows.Decoding.{is_open}
-use Rattle.kernel_spec.proofs.rows.NoRow.{IsOther, other-row}
+use Rattle.kernel_spec.proofs.calls.fork.{is_fork}
+use Rattle.kernel_spec.proofs.calls.exit.{is_exit}
+use Rattle.kernel_spec.proofs.calls.wait.{is_wait}
+use Rattle.kernel_spec.proofs.calls.pipe.{is_pipe}
+use Rattle.kernel_spec.proofs.calls.read.{is_read}
+use Rattle.kernel_spec.proofs.calls.kill.{is_kill}
+use Rattle.kernel_spec.proofs.calls.exec.{is_exec}
+use Rattle.kernel_spec.proofs.calls.dup.{is_dup}
+use Rattle.kernel_spec.proofs.calls.getpid.{is_getpid}
+use Rattle.kernel_spec.proofs.calls.sbrk.{is_sbrk}
+use Rattle.kernel_spec.proofs.calls.sleep.{is_sleep}
+use Rattle.kernel_spec.proofs.calls.uptime.{is_uptime}
+use Rattle.kernel_spec.proofs.calls.open_file.{is_open}
+use Rattle.kernel_spec.proofs.calls.write.{is_write}
+use Rattle.kernel_spec.proofs.calls.close.{is_close}
+use Rattle.kernel_spec.proofs.calls.sbrklazy.{is_sbrklazy}
+use Rattle.kernel_spec.proofs.rows.NoRow.{◌also◌, IsOther, other-row}
 use Rattle.kcall_core.proofs.kernel.Kernel.perform.Goals as goal
 
 pub returns-in-1 : goal.returns-in-1
@@ -138,24 +152,24 @@ returns-in-22 c =
 
 pub returns-in_default : goal.returns-in_default
 returns-in_default c =
-    let other : IsOther c.args.call.now.number = record {
-      fork = search rules;
-      exit = search rules;
-      wait = search rules;
-      pipe = search rules;
-      read = search rules;
-      kill = search rules;
-      exec = search rules;
-      dup = search rules;
-      getpid = search rules;
-      sbrk = search rules;
-      sleep = search rules;
-      uptime = search rules;
-      opening = search rules;
-      write = search rules;
-      close = search rules;
-      sbrklazy = search rules;
-    } in
+    let fork : c.args.call.now.number ≢ pos 1 = search rules in
+    let exit : c.args.call.now.number ≢ pos 2 = search rules in
+    let wait : c.args.call.now.number ≢ pos 3 = search rules in
+    let pipe : c.args.call.now.number ≢ pos 4 = search rules in
+    let read : c.args.call.now.number ≢ pos 5 = search rules in
+    let kill : c.args.call.now.number ≢ pos 6 = search rules in
+    let exec : c.args.call.now.number ≢ pos 7 = search rules in
+    let dup : c.args.call.now.number ≢ pos 10 = search rules in
+    let getpid : c.args.call.now.number ≢ pos 11 = search rules in
+    let sbrk : c.args.call.now.number ≢ pos 12 = search rules in
+    let sleep : c.args.call.now.number ≢ pos 13 = search rules in
+    let uptime : c.args.call.now.number ≢ pos 14 = search rules in
+    let opening : c.args.call.now.number ≢ pos 15 = search rules in
+    let write : c.args.call.now.number ≢ pos 16 = search rules in
+    let close : c.args.call.now.number ≢ pos 21 = search rules in
+    let sbrklazy : c.args.call.now.number ≢ pos 22 = search rules in
+    let other : IsOther c.args.call.now.number =
+    fork also exit also wait also pipe also read also kill also exec also dup also getpid also sbrk also sleep also uptime also opening also write also close also sbrklazy also tt in
     let row = other-row c.args.call.now (view_now c.args.self.now c.args.hart.now) other in
     record {
       made = subst (λ o. Makes c.args.self.now c.args.hart.now o c.refuse.new.self c.refuse.new.hart) (sym row) (c.refuse.ensures.made c.args.call.now);

@@ -1,0 +1,23 @@
+-- The calls: what is claimed of every row, and a file for each call that gives it for its row.
+pub mod All
+pub mod Facts
+pub mod Images
+pub mod Steps
+pub mod Tables
+pub mod Words
+pub mod close
+pub mod dup
+pub mod exec
+pub mod exit
+pub mod fork
+pub mod getpid
+pub mod kill
+pub mod open_file
+pub mod pipe
+pub mod read
+pub mod sbrk
+pub mod sbrklazy
+pub mod sleep
+pub mod uptime
+pub mod wait
+pub mod write
