@@ -4,8 +4,9 @@ import { MOST_MISTAKES } from "../machine/assembler_mistakes.mjs";
 import { BROKE, run_compiler } from "./c_host.mjs";
 import { NotLinked, link } from "./c_linker.mjs";
 import { object_of as object_of_file } from "./c_objects.mjs";
+import { debug_of } from "./c_debug.mjs";
 import { names_of, table_of } from "./c_lines.mjs";
-import { message_of, placed, without_mistake } from "./c_mistakes.mjs";
+import { message_of, open_quote, placed, without_mistake } from "./c_mistakes.mjs";
 import { with_names } from "./c_symbols.mjs";
 
 // The module takes no path for an absolute one. So those of the library have a head of their own.
@@ -51,20 +52,43 @@ function messages_of(path, { told, has_broken }) {
  */
 export function compile(compiler, path, words, file_of) {
   const source = new TextDecoder().decode(file_of(path)), first = object_of(compiler, path, words, file_of);
-  const messages = messages_of(path, first);
-  let text = source, mistake = messages.find((it) => it.is_error), left_out = "";
+  const told_of = (text) => {
+    const bytes = new TextEncoder().encode(text), find = (name) => (name === path ? bytes : file_of(name));
+    return messages_of(path, object_of(compiler, path, words, find));
+  };
+  const quotes = open_quotes(path, source, messages_of(path, first));
+  const told = quotes.messages.length ? told_of(quotes.text) : messages_of(path, first);
+  // What else is told of a line with such a text may come of how it was ended.
+  const is_of_quote = (it) => it.file === path && quotes.messages.some(({ line }) => line === it.line);
+  const messages = [...quotes.messages, ...told.filter((it) => !is_of_quote(it))];
+  let { text } = quotes, mistake = told.find((it) => it.is_error), left_out = "";
   for (let count = 1; mistake?.file === path && mistake.line > 0 && count < MOST_MISTAKES; count++) {
     const without = without_mistake(text, mistake);
     if (without.gone === null) break;
     text = without.text;
     left_out += `${without.gone}\n`;
-    const bytes = new TextEncoder().encode(text), find = (name) => (name === path ? bytes : file_of(name));
-    const more = messages_of(path, object_of(compiler, path, words, find));
+    const more = told_of(text);
     mistake = more.find((it) => it.is_error);
-    messages.push(...more.filter((it) => is_new(it, messages, left_out)));
+    messages.push(...more.filter((it) => !is_of_quote(it) && is_new(it, messages, left_out)));
   }
   const at_their_places = messages.map((it) => (it.file === path ? placed(it, source) : it));
   return { object: first.object, messages: in_order(at_their_places) };
+}
+
+/**
+ * The texts in quotes that their lines don't end, if the compiler tells a mistake at the first of them or behind it:
+ * {messages, text}, and the source in which they end.
+ */
+function open_quotes(path, source, told) {
+  const mistake = told.find((it) => it.is_error), messages = [];
+  let text = source;
+  for (let it = mistake?.file === path ? open_quote(path, text) : null; it && messages.length < MOST_MISTAKES;) {
+    if (!messages.length && mistake.line < it.message.line) break;
+    messages.push(it.message);
+    text = it.closed;
+    it = open_quote(path, text);
+  }
+  return { messages, text };
 }
 
 const in_order = (messages) => messages.sort((one, other) => (one.file === other.file ? one.line - other.line : 0));
@@ -81,12 +105,13 @@ function is_new(message, messages, left_out) {
 }
 
 /**
- * Links objects, [name, bytes] each, with the library's: {file, table}, the program's bytes, and the text of its table
- * of lines. It throws NotLinked.
+ * Links objects, [name, bytes] each, with the library's: {file, table, debug}, the program's bytes, the text of its
+ * table of lines, and the tables for debuggers. It throws NotLinked.
  */
 export function program_of(objects, library) {
   const linked = link(objects, library), names = names_of(linked);
-  return { file: with_names(linked.file, names, linked.layout.read_end), table: table_of(linked, names) };
+  const file = with_names(linked.file, names, linked.layout.read_end);
+  return { file, table: table_of(linked, names), debug: debug_of(linked, names) };
 }
 
 /** Whether an object file has the function main. */

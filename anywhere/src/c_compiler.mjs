@@ -19,8 +19,8 @@ const USAGE = {
   "--cc": `usage: xv --cc FILE.c.. [-o NAME] [-I FOLDER] [-D NAME[=TEXT]] [-U NAME] [-Wall] [-Werror] [-w]
 
 Compiles programs in C for the machine, and links them: docs/manual/c-programs.md. Without -o the program's name is
-the first FILE's, without its .c, beside it; NAME.lines beside it has its lines, for debuggers. -O.., -std=.. and -g
-are taken, and change nothing.
+the first FILE's, without its .c, beside it; NAME.lines and NAME.debug beside it have its lines and variables, for
+debuggers. -O.., -std=.. and -g are taken, and change nothing.
 `,
   "--run": `usage: xv --run FILE.c.. [-I FOLDER] [-D NAME[=TEXT]] [-U NAME] [-Wall] [-Werror] [-w] [-- TEXT..]
 
@@ -71,7 +71,7 @@ function asked_by(mode, words) {
   if (asked.files.length === 0) throw new Refused("there is no FILE.c to compile");
   asked.files.forEach(check_file);
   asked.output ??= asked.files[0].replace(/\.c$/, "");
-  if (/\.([chs]|lines)$/.test(asked.output)) {
+  if (/\.([chs]|lines|debug)$/.test(asked.output)) {
     throw new Refused(`-o ${asked.output} would overwrite a source: a program has another name`);
   }
   return asked;
@@ -122,11 +122,12 @@ function built({ files, words }) {
   return objects.includes(null) ? null : program_of(objects, library());
 }
 
-/** Writes a program, and its table beside it. */
-function write_program(path, { file, table }) {
+/** Writes a program, and its tables beside it. */
+function write_program(path, { file, table, debug }) {
   writeFileSync(path, file);
   chmodSync(path, 0o755);
   writeFileSync(`${path}.lines`, table);
+  writeFileSync(`${path}.debug`, debug);
 }
 
 /** Leaves the program where the words ask for it. */

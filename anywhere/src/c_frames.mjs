@@ -1,7 +1,10 @@
 // How the calls of a function lie on the stack, by its instructions: along each way through it, what sp and s0 are away
 // from where the caller's part begins, and where the return address and the caller's s0 lie (RISC-V ISA, "RV32I Base
 // Integer Instruction Set"; RISC-V ELF psABI, "Integer Calling Convention").
-const RA = 1, SP = 2, S0 = 8;
+/** Registers, by their numbers. */
+export const RA = 1;
+export const SP = 2;
+export const S0 = 8;
 const OPCODES = { LOAD: 0x03, ADD_I: 0x13, STORE: 0x23, ADD: 0x33, LUI: 0x37, BRANCH: 0x63, JALR: 0x67, JAL: 0x6f };
 const DOUBLE = 3; // the width of `ld` and `sd`
 
@@ -68,11 +71,8 @@ function row_of({ sp, s0, ra_at, s0_at }) {
   return size < 0 ? "- 0 0 0" : `${base} ${size} ${ra_at} ${s0_at}`;
 }
 
-/**
- * The rows of a function whose instructions are `size` bytes from a place of a section on: {offset, row}, where they
- * change, as xv_lines tells them.
- */
-export function frames_of(bytes, from, size) {
+/** What is known at each place of a function whose instructions are `size` bytes from a place of a section on. */
+function states_of(bytes, from, size) {
   const view = new DataView(bytes.buffer, bytes.byteOffset + from, size), states = new Map([[0, BEGIN]]), waiting = [0];
   while (waiting.length > 0) {
     const at = waiting.pop(), word = view.getInt32(at, true), state = after(states.get(at), word);
@@ -82,7 +82,21 @@ export function frames_of(bytes, from, size) {
       waiting.push(next);
     }
   }
-  const rows = [...states].map(([offset, state]) => ({ offset, row: row_of(state) }));
+  return states;
+}
+
+/**
+ * The rows of a function whose instructions are `size` bytes from a place of a section on: {offset, row}, where they
+ * change, as xv_lines tells them.
+ */
+export function frames_of(bytes, from, size) {
+  const rows = [...states_of(bytes, from, size)].map(([offset, state]) => ({ offset, row: row_of(state) }));
   rows.sort((one, other) => one.offset - other.offset);
   return rows.filter((it, place) => it.row !== rows[place - 1]?.row);
+}
+
+/** By how many bytes s0 is below the caller's part of the stack, where a function has set it; 0 if it doesn't. */
+export function depth_of_s0(bytes, from, size) {
+  const depths = [...states_of(bytes, from, size).values()].map((it) => it.s0).filter((it) => it !== null);
+  return depths[0] ?? 0;
 }

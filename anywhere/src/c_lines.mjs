@@ -1,36 +1,18 @@
 // The table of lines of a program that c_linker.mjs has linked, in the form that xv_lines writes: functions
-// and labels, the lines of the sources, and how calls lie on the stack. The compiler tells lines in stabs (GDB, "The
-// stabs representation"), from which they are read here; one that writes DWARF has the same in .debug_line.
+// and labels, the lines of the sources, and how calls lie on the stack. The compiler tells lines in stabs, which
+// c_stabs.mjs reads; one that writes DWARF has the same in .debug_line.
 import { FUNCTION } from "../machine/line_tables.mjs";
 import { address_of } from "./c_linker.mjs";
 import { frames_of } from "./c_frames.mjs";
+import { KINDS, stabs_of } from "./c_stabs.mjs";
 
 const NO_TYPE = 0; // the kind of a symbol
-const STAB = { BYTES: 12, KIND: 4, LINE: 6, VALUE: 8 }; // bytes of an entry, and where its parts lie
-const KINDS = { FUNCTION: 0x24, LINE: 0x44, SOURCE: 0x64, INCLUDED: 0x84 }; // N_FUN, N_SLINE, N_SO, N_SOL
 
 const base_name = (path) => path.slice(path.lastIndexOf("/") + 1);
 const by_address = (one, other) => one.address - other.address;
 
-/** The entries of an object's stabs: {kind, text, line, value}; a value that is of a symbol is the address there. */
-function stabs_of({ sections }) {
-  const table = sections.find((it) => it.name === ".stab"), texts = sections.find((it) => it.name === ".stabstr");
-  if (!table || !texts) return [];
-  const view = new DataView(table.bytes.buffer, table.bytes.byteOffset, table.bytes.length);
-  const symbols = new Map(table.relocations.map((it) => [it.offset, it]));
-  const text_at = (at) => new TextDecoder().decode(texts.bytes.subarray(at, texts.bytes.indexOf(0, at)));
-  return Array.from({ length: Math.floor(view.byteLength / STAB.BYTES) }, (_, place) => {
-    const at = STAB.BYTES * place, of = symbols.get(at + STAB.VALUE), value = view.getUint32(at + STAB.VALUE, true);
-    return {
-      kind: view.getUint8(at + STAB.KIND), text: text_at(view.getUint32(at, true)),
-      line: view.getUint16(at + STAB.LINE, true), is_whole: of !== undefined,
-      value: of ? address_of(of.symbol) + Number(of.addend) + value : value,
-    };
-  });
-}
-
 /** Where lines begin: {address, file, line}. */
-function lines_of(object) {
+export function lines_of(object) {
   const found = [];
   let file = "", begin = 0;
   for (const { kind, text, line, is_whole, value } of stabs_of(object)) {

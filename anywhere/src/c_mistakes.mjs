@@ -22,12 +22,45 @@ export function message_of(told) {
 export const line_of = (text, line) => text.split("\n")[line - 1]?.replace(/\r$/, "") ?? "";
 
 /** Where in its line a message points: {at, length} of the word that it names; null if that isn't found. */
-export function named_in(text, { text: message, is_at_end }) {
+export function named_in(text, { text: message, is_at_end, at: place }) {
+  if (place !== undefined) return { at: place, length: 1 };
   if (is_at_end) return { at: c_code(text).trimEnd().length, length: 1 };
   const word = /\(got "(.+)"\)$/.exec(message)?.[1] ?? /'([^']+)'/.exec(message)?.[1];
   const is_whole = word && /^\w+$/.test(word);
   const at = !word ? -1 : is_whole ? text.search(new RegExp(`\\b${word}\\b`)) : text.indexOf(word);
   return at < 0 ? null : { at, length: word.length };
+}
+
+// Comments, and texts in quotes up to where they or their line end.
+const IN_QUOTES = /"(?:\\[\s\S]|[^"\\\n])*"?|'(?:\\[\s\S]|[^'\\\n])*'?/;
+const COMMENT_OR_TEXT = new RegExp(`/\\*[^]*?(?:\\*/|$)|//[^\\n]*|${IN_QUOTES.source}`, "g");
+
+/** The text in quotes that isn't ended in its line, the first one: {quote, from, to} in the source; or null. */
+function open_text(source) {
+  for (const { 0: it, index } of source.matchAll(COMMENT_OR_TEXT)) {
+    const [quote] = it, is_text = quote === '"' || quote === "'";
+    if (is_text && !(it.length > 1 && it.replace(/\\[\s\S]/g, "").endsWith(quote) && it !== quote)) {
+      return { quote, from: index, to: index + it.length };
+    }
+  }
+  return null;
+}
+
+/**
+ * The first text in quotes that its line doesn't end: {message, closed}, what is told of it, and the source in which it
+ * ends before the brackets and the `;` at the end of its line; null if there is none. The compiler reads such a text on
+ * through the next lines, up to a quote or to the end of the file, and tells a mistake there.
+ */
+export function open_quote(file, source) {
+  const found = open_text(source);
+  if (!found) return null;
+  const { quote, from, to } = found, before = source.slice(0, from).split("\n"), own = source.slice(from + 1, to);
+  const end = from + 1 + own.replace(/[\s)\]},;]*$/, "").length;
+  const text = `missing terminating ${quote} character`;
+  return {
+    message: { file, line: before.length, is_error: true, text, at: before.at(-1).length },
+    closed: source.slice(0, end) + quote + source.slice(end),
+  };
 }
 
 /** Where a line begins and ends in a text, without its end. */

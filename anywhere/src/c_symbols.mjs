@@ -3,8 +3,12 @@
 import { SEGMENTS_AT, SEGMENT_BYTES } from "./c_linker.mjs";
 import { SECTION_BYTES, SYMBOL_BYTES } from "./c_objects.mjs";
 
-const KINDS = { PROGRAM: 1, SYMBOLS: 2, STRINGS: 3 }, FUNCTION = 0x12; // of global binding
-const ALLOCATED_AND_EXECUTED = 6, TEXT = 1, NAMES = 3;
+/** The kinds of sections; that of a function of global binding; the flags and the place of the text's section. */
+export const KINDS = { PROGRAM: 1, SYMBOLS: 2, STRINGS: 3, NO_BITS: 8 };
+export const FUNCTION = 0x12;
+export const ALLOCATED_AND_EXECUTED = 6;
+export const TEXT = 1;
+const NAMES = 3;
 
 /** Names, each ended by a zero byte, behind an empty one: {bytes, places}. */
 function strings_of(names) {
@@ -29,7 +33,8 @@ function symbols_of(names, places) {
   return new Uint8Array(view.buffer);
 }
 
-function write_section(view, at, [name, kind, flags, offset, size, link, info, alignment, entry]) {
+/** Writes the head of a section. */
+export function write_section(view, at, [name, kind, flags, offset, size, link, info, alignment, entry]) {
   view.setUint32(at, name, true);
   view.setUint32(at + 4, kind, true);
   view.setUint32(at + 40, link, true);

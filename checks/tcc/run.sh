@@ -109,6 +109,21 @@ case $told in
     *) fail "the debugger doesn't show the line: $told" ;;
 esac
 
+# What debuggers are told: variables of each kind, which are those of gcc's program, if gcc is there; and the same functions and lines in
+# both tables.
+mkdir "$work/variables" "$work/by_gcc"
+cc -Wall checks/tcc/variables.c -o "$work/variables/variables" || fail "variables.c isn't compiled"
+checks/tcc/variables.sh "$work/variables" >"$work/variables.told"
+cmp "$work/variables.told" checks/tcc/variables.txt || fail "variables are told otherwise"
+XV_NODE=yes bin/xv_lines <"$work/variables/variables.debug" | grep -v '^frame' >"$work/variables.debug_lines"
+grep -v '^frame' "$work/variables/variables.lines" | cmp - "$work/variables.debug_lines" || fail "NAME.debug has other lines than NAME.lines"
+if command -v riscv64-unknown-elf-gcc >/dev/null; then
+    cp checks/tcc/variables.c "$work/by_gcc/"
+    (cd "$work/by_gcc" && CFLAGS=-O0 "$OLDPWD/programs/c/build.sh" variables.c >/dev/null) || fail "gcc doesn't build variables.c"
+    checks/tcc/variables.sh "$work/by_gcc" | sort >"$work/by_gcc.told"
+    sort "$work/variables.told" | cmp - "$work/by_gcc.told" || fail "variables are told otherwise than of gcc's program"
+fi
+
 # --run: the program's output, its texts, its own shell.
 [ "$(node xv.mjs --run "$work/first.c" 2>&1)" = "xv --run: $work/first.c: there is no such file" ] || fail "--run of nothing isn't refused"
 cat >"$work/texts.c" <<'END'
@@ -141,6 +156,20 @@ wanted=$(printf '%s\n' "several.c:3: error: 'y' undeclared" "several.c:4: error:
 told=$(cd "$work" && node "$OLDPWD/xv.mjs" --cc several.c 2>&1 | grep error:)
 [ "$told" = "$wanted" ] || fail "the mistakes are other ones: $told"
 refuses "inline assembler isn't there" programs/c/src/tests.c -o "$work/tests"
+
+cat >"$work/open.c" <<'END'
+#include <stdio.h>
+int main(void)
+{
+    printf("one\n);
+    char it = 'x;
+    printf("two\n");
+    return zz;
+}
+END
+wanted=$(printf '%s\n' 'open.c:4: error: missing terminating " character' "open.c:5: error: missing terminating ' character" "open.c:7: error: 'zz' undeclared")
+told=$(cd "$work" && node "$OLDPWD/xv.mjs" --cc open.c 2>&1 | grep error:)
+[ "$told" = "$wanted" ] || fail "texts that aren't ended are told otherwise: $told"
 
 printf 'int main(void)\n{\n    return y;\n}\n' >"$work/mistake.c"
 refuses "mistake.c:3: error: 'y' undeclared" "$work/mistake.c"

@@ -127,8 +127,8 @@ export async function program_of(file, list) {
   const header = wrong?.file && wrong.file !== name ? `${wrong.file}, ` : "";
   if (wrong) return { mistake: header + place + wrong.words, from: file };
   if (!size) return { mistake: "it has mistakes", from: file };
-  const { file: bytes } = (await built(sources)).programs.find((it) => it.name === name);
-  return { name: name.slice(0, -2), bytes, symbols, from: file, text, is_compiled: true };
+  const { file: bytes, debug } = (await built(sources)).programs.find((it) => it.name === name);
+  return { name: name.slice(0, -2), bytes, symbols, from: file, text, is_compiled: true, debug };
 }
 
 // ---- the shipped programs in C

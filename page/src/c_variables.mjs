@@ -156,11 +156,11 @@ function draw() {
 
 /** Why no variables are known; nothing if they are. */
 function why_none() {
-  const { name, is_compiled, from } = app.booted.files[shown.program] ?? {}, own = from?.name ?? name;
+  const { name, from } = app.booted.files[shown.program] ?? {}, own = from?.name ?? name;
   if (!app.booted.tables[shown.program]) {
-    const missing = is_compiled ? `TinyCC, which has compiled ${own} here, writes no tables of them. gcc -g does`
-      : `there is no ${own}${TABLES} in the list of files. gcc -g makes it: drop it, and boot again`;
-    return `No variables are known: ${missing}.`;
+    const missing = `there is no ${own}${TABLES} in the list of files`;
+    const ways = `gcc -g makes it: drop it, and boot again. A program that is compiled here, of ${own}.c, has its own`;
+    return `No variables are known: ${missing}. ${ways}.`;
   }
   return app.view.playing ? "Variables are told when the machine stands." : "";
 }

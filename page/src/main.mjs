@@ -33,6 +33,7 @@ import * as first_minute from "./first_minute.mjs";
 import * as your_runs from "./your_runs.mjs";
 import * as frame from "./frame.mjs";
 import * as beside from "./beside.mjs";
+import * as go_to from "./go_to.mjs";
 import * as pictures from "./pictures.mjs";
 import * as sums from "./sums.mjs";
 import { problem } from "./messages.mjs";
@@ -242,7 +243,7 @@ async function first_machine() {
 const PARTS = {
   messages, terminal, editor, source_search, works, time, breaks, processes, instruction, c_source, c_variables,
   c_programs, pages, descriptors, why, programs, sharing, lessons, session, happened, missing_stretches, translate,
-  manual, slides, first_minute, your_runs, frame, pictures, beside, sums,
+  manual, slides, first_minute, your_runs, frame, pictures, beside, sums, go_to,
 };
 
 function begin() {

@@ -67,12 +67,17 @@ export async function is_booted(action) {
   return (await heard).name === "booted";
 }
 
-/** Goes to the event that a link names. */
-async function go_to(at) {
+/** Goes to the event that is named, as a link does: whether there is one. Another boot ends it. */
+export async function reach(at) {
   const reached = once("reached", "booted");
   ask("reach", { to: way_of(at, all_calls()) });
   const { name, it } = await reached;
-  if (name === "reached" && !it.is) problem(`The run has no such place as at=${at}: here it ends.`);
+  return name !== "reached" || it.is;
+}
+
+/** Goes to the event that a link names. */
+async function go_to(at) {
+  if (!(await reach(at))) problem(`The run has no such place as at=${at}: here it ends.`);
 }
 
 /** Shows the process and the panel that a link names. */

@@ -28,12 +28,13 @@ const SETTINGS = ["frames", "order", "quantum", "keys"];
 
 // ---- the list of files
 
-function file_button(file) {
+function file_button(file, k) {
   const is_opened = file === editor.opened();
   return element(
     "button",
     {
       role: "option", "aria-selected": is_opened ? "true" : "false", class: file.text === undefined ? "plain" : "",
+      tabindex: is_opened || (k === 0 && !app.files.includes(editor.opened())) ? 0 : -1,
       title: file.text === undefined ? "a program, or another file of bytes" : "a text",
       onclick: () => { editor.open(file); show_files(); tell("opened", file); },
     },
@@ -46,7 +47,8 @@ const named = (button) => button.getAttribute("aria-label") ?? button.textConten
 function show_files() {
   const last = app.work.gone.at(-1);
   const focused = $("files").contains(document.activeElement) ? named(document.activeElement) : null;
-  $("files").replaceChildren(...app.files.map(file_button),
+  const list = { id: "file-list", role: "listbox", "aria-label": "Files of the machine: arrows choose one" };
+  $("files").replaceChildren(element("div", list, ...app.files.map(file_button)),
     element("button", { title: "A new source", "aria-label": "A new source", onclick: add_source }, "+"),
     element(
       "button", { title: "Take this file away", "aria-label": "Take this file away", onclick: remove_opened }, "−"
@@ -82,10 +84,21 @@ function show_files() {
       "Open file.."
     ));
   // The button that had the keys has them again.
-  if (focused) [...$("files").children].find((it) => named(it) === focused)?.focus();
+  if (focused) [...$("files").querySelectorAll("button")].find((it) => named(it) === focused)?.focus();
   const { frames, order, quantum } = app.work.machine;
   $("config-words").textContent =
     `${frames} frames, ${order === "rounds" ? `in rounds of ${quantum} Runs` : "as a terminal"}`;
+}
+
+/** In the list of files arrows choose one, which is opened. */
+function choose_by_key(event) {
+  const all = [...$("files").querySelectorAll("[role=option]")], at = all.indexOf(event.target);
+  const by = { ArrowRight: 1, ArrowDown: 1, ArrowLeft: -1, ArrowUp: -1, Home: -at, End: all.length - 1 - at }[event.key];
+  if (at < 0 || by === undefined) return;
+  event.preventDefault();
+  const next = all[(at + by + all.length) % all.length];
+  next.focus();
+  next.click();
 }
 
 /** Asks the host for files, which are taken as if they were dropped. */
@@ -269,10 +282,13 @@ const stands_beside = (file) => (
 
 const all_bytes_of = (file) => (file.text === undefined ? bytes_of_file(file) : new TextEncoder().encode(file.text));
 
-/** The tables of the variables of a program: those that stand beside it, or its own; null if there are none. */
-function variables_of({ from, bytes, is_compiled: is_own }) {
-  const name = is_own ? from.name.slice(0, -2) : from.name;
-  const beside = app.files.find((it) => it.name === name + TABLES);
+/**
+ * The tables of the variables of a program: those of its compiler here, those that stand beside it, or its own; null if
+ * there are none.
+ */
+function variables_of({ from, bytes, debug }) {
+  if (debug) return debug;
+  const beside = app.files.find((it) => it.name === from.name + TABLES);
   if (beside) return all_bytes_of(beside);
   return has_tables(bytes) ? bytes : null;
 }
@@ -470,6 +486,7 @@ export function start() {
   $("boot").addEventListener("click", () => boot());
   $("open-file").addEventListener("click", ask_for_files);
   $("file").addEventListener("change", take_asked);
+  $("files").addEventListener("keydown", choose_by_key);
   for (const it of SETTINGS) {
     $(it).addEventListener("change", () => { app.work.machine[it] = $(it).value; touch(); show_files(); });
   }

@@ -3,7 +3,7 @@ import { $, app, ask, base64, element, once, say, tell } from "./app.mjs";
 import { grouped } from "../../anywhere/machine/number_words.mjs";
 import { ENDING_WORDS, RECORD_BEGINNING, record_in, record_text } from "../../anywhere/machine/record_text.mjs";
 import { beginning_of, spans_of } from "../../anywhere/machine/events.mjs";
-import { bytes_of_file, packed_file, touch, unpacked_file } from "./works.mjs";
+import { bytes_of_file, packed_file, shipped_files, touch, unpacked_file } from "./works.mjs";
 import { problem } from "./messages.mjs";
 import { sha256 } from "./sums.mjs";
 import { copied_words, copy_field } from "./clipboard.mjs";
@@ -332,23 +332,32 @@ export async function kept_as_record({ files, frames, events }) {
   return recorded({ config: { frames }, files: made, spans: spans_of(events) });
 }
 
-/** The files that a record may mean, by their sums: those of the list, and the programs of the page. */
-async function files_by_sum() {
-  const found = new Map();
+/** Notes files by their sums, and answers whether all that are wanted are noted. */
+async function note_by_sum(files, known, wanted) {
+  for (const file of files) {
+    const made = await programs.made_of(file);
+    if (!made.mistake) known.set(await sha256(made.bytes), made);
+  }
+  return wanted.every(({ sum }) => known.has(sum));
+}
+
+/**
+ * The files that a record may mean, by their sums: the programs of the page, those of the list, and if one is missing
+ * those of the examples as they were shipped.
+ */
+async function files_by_sum(wanted) {
   const built_in = Object.entries(DATA.programs).map(([name, bytes]) => (
     { name, bytes: base64.of(bytes), built_in: true }
   ));
-  for (const file of [...built_in, ...app.files]) {
-    const made = await programs.made_of(file);
-    if (!made.mistake) found.set(await sha256(made.bytes), made);
-  }
-  return found;
+  const known = new Map(), all = [[...built_in, ...app.files], Object.keys(DATA.examples).flatMap(shipped_files)];
+  for (const files of all) if (await note_by_sum(files, known, wanted)) break;
+  return known;
 }
 
 /** Plays a record, of programs that are here. */
 async function play_record(_, name, bytes) {
   try {
-    const said = record_in(bytes), known = await files_by_sum();
+    const said = record_in(bytes), known = await files_by_sum(said.programs);
     const missing = said.programs.find(({ sum }) => !known.has(sum));
     const count = said.spans.reduce((sum, [, , many]) => sum + many, 0);
     if (count > MOST_EVENTS) {
@@ -363,6 +372,7 @@ async function play_record(_, name, bytes) {
     if (id === null) throw new Error($("mistake").textContent);
     const told = ENDING_WORDS[said.ending];
     if (told) problem(`The record ${name}: ${told}.`);
+    say(`Here is the record ${name}, after its ${grouped(count)} events. The field "go to" leads to each of them.`);
   } catch (error) {
     programs.refuse(error.message);
     problem(`The record ${name} isn't played: ${error.message}.`);

@@ -114,7 +114,7 @@ async function lecture(page) {
   await follow(page, "example=turns&rounds=500&at=turn.6&tab=happened&show=turns&view=lecture");
   const kept = await page.eval("localStorage.getItem('nektavoly now')");
   const hidden = await page.eval("['header', 'footer', '#left', '#time', '#right > .tabs'].every((it) => getComputedStyle(document.querySelector(it)).display === 'none')");
-  holds(hidden && (await text_of(page, "lecture-title")).startsWith("9. "), "a slide shows the panel, the terminal, the processes, and nothing else");
+  holds(hidden && /^\d+\. Turns/.test(await text_of(page, "lecture-title")), "a slide shows the panel, the terminal, the processes, and nothing else");
   await page.picture(`${folder}/lecture.png`);
   const before = await at(page);
   await page.key("ArrowRight");

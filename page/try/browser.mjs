@@ -56,6 +56,12 @@ export async function open(url, { width = 1400, height = 900, dark = false, mobi
   await attach(targetInfos.find((it) => it.type === "page").targetId);
   const page = {
     logs, send, sleep,
+    /** What a reader of the screen is told of the element that has the keys: {role, name}, as the browser has it. */
+    async focused() {
+      const { result } = await send("Runtime.evaluate", { expression: "document.activeElement" });
+      const { nodes: [it] } = await send("Accessibility.getPartialAXTree", { objectId: result.objectId, fetchRelatives: false });
+      return { role: it?.role?.value ?? "", name: it?.name?.value ?? "" };
+    },
     /** The memory of the page's JavaScript, and of its workers', in bytes. */
     async heaps() {
       const told = await Promise.all([session, ...workers].map(heap_of)), [page, ...others] = told.map((it) => it.used);

@@ -6,7 +6,7 @@ import { connect } from "node:net";
 import { tmpdir } from "node:os";
 
 const sleep = (ms) => new Promise((done) => setTimeout(done, ms));
-const SPECIAL = { Enter: "\uE007", Backspace: "\uE003", Escape: "\uE00C", Tab: "\uE004", ArrowLeft: "\uE012", ArrowUp: "\uE013", ArrowRight: "\uE014", ArrowDown: "\uE015", Home: "\uE011", F9: "\uE039" };
+const SPECIAL = { Enter: "\uE007", Backspace: "\uE003", Escape: "\uE00C", Tab: "\uE004", ArrowLeft: "\uE012", ArrowUp: "\uE013", ArrowRight: "\uE014", ArrowDown: "\uE015", Home: "\uE011", End: "\uE010", PageUp: "\uE00E", PageDown: "\uE00F", F9: "\uE039" };
 
 /** The connection to a browser's Marionette: packets are LENGTH:JSON. */
 async function marionette(folder) {
@@ -63,6 +63,12 @@ user_pref("app.update.enabled", false);
   const tabs = [(await send("WebDriver:GetWindowHandle")).value];
   const page = {
     logs, send, sleep,
+    /** What a reader of the screen is told of the element that has the keys: {role, name}, as the browser has it. */
+    async focused() {
+      const { value } = await send("WebDriver:GetActiveElement"), [id] = Object.values(value);
+      const told = (name) => send(name, { id }).then((it) => it.value);
+      return { role: await told("WebDriver:GetComputedRole"), name: await told("WebDriver:GetComputedLabel") };
+    },
     /** Goes to a tab, from 0 on; the next one that isn't there is opened. */
     async tab(number) {
       if (number === tabs.length) tabs.push((await send("WebDriver:NewWindow", { type: "tab" })).handle);

@@ -14,6 +14,6 @@ export const is_booted = (page, action) => page.eval(`new Promise((done) => { pa
 export const example = async (page, name) => { await is_booted(page, `(() => { const it = document.getElementById('example'); it.value = '${name}'; it.dispatchEvent(new Event('change')); })()`); await page.until("page.app.view"); };
 export const boot = async (page) => { await is_booted(page, "document.getElementById('boot').click()"); await page.until("page.app.view"); };
 export const button = (page, words) => page.eval(`[...document.querySelectorAll('#files button')].find((it) => it.textContent === ${JSON.stringify(words)}).click()`);
-export const pause = async (page) => { if (await page.eval("page.app.view?.playing")) await page.click("#play"); await page.until("!page.app.view?.playing"); };
+export const pause = async (page) => { if (await page.eval("page.app.view?.playing")) await page.click("#play"); await page.until("!page.app.view?.playing", PATIENCE); };
 export const type = async (page, text) => { await page.eval("document.getElementById('screen').focus()"); await page.type(text); };
 export const files = (page, list, how = "{}") => page.eval(`page.programs.set_files(${JSON.stringify(list)}, ${how})`);

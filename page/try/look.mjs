@@ -3,6 +3,7 @@
 import { mkdirSync, readFileSync } from "node:fs";
 import { pathToFileURL } from "node:url";
 import { full, sieve } from "./exercises.mjs";
+import { comes } from "./hand.mjs";
 import { crowd, instructions, steps_back } from "./measures.mjs";
 const { open } = await import(process.env.BROWSER === "firefox" ? "./firefox.mjs" : "./browser.mjs");
 
@@ -105,7 +106,7 @@ const message = (page) => seen(page, "status");
  */
 async function keys(page) {
   await page.eval("window.is_asked = 0; document.getElementById('file').addEventListener('click', (event) => { event.preventDefault(); window.is_asked++; })");
-  for (const button of ["#open-file", "#files button:last-child"]) { await page.eval(`document.querySelector('${button}').focus()`); await page.key("Enter"); }
+  for (const button of ["#open-file", "#files > button:last-child"]) { await page.eval(`document.querySelector('${button}').focus()`); await page.key("Enter"); }
   holds(await page.eval("window.is_asked === 2"), "two buttons ask for files, by keys");
   await page.eval("(() => { const data = new DataTransfer(), it = document.getElementById('file'); data.items.add(new File(['# none\\n  li a0, 5\\n  li a7, 2\\n  ecall\\n'], 'init.s')); it.files = data.files; it.dispatchEvent(new Event('change')); })()");
   await page.until("page.app.files.some((it) => it.text?.includes('li a0, 5'))");
@@ -313,12 +314,11 @@ async function watched(page) {
     await page.until(`page.app.view?.at > ${before} && !page.app.view.playing`);
     places.push(await at(page));
   }
-  holds((await element_text(page, "clock")).includes("before a store to total") && places[0] > from, `Play stops before each store to it: ${places.join(", ")}`);
+  holds((await comes(page, "document.getElementById('clock').textContent.includes('before a store to total')")) && places[0] > from, `Play stops before each store to it: ${places.join(", ")}`);
   await page.click("#back-break");
   await page.until(`page.app.view?.at < ${places[1]}`);
   holds((await at(page)) === places[0], "and the way back does");
-  await page.until("document.getElementById('c-locals').getAttribute('aria-busy') !== 'true'");
-  holds((await variables_in(page, "c-locals")).some((it) => it.startsWith("✱")), "back, too, what has changed since the last stop has the sign");
+  holds(await comes(page, "[...document.querySelectorAll('#c-locals tbody tr')].some((it) => it.textContent.startsWith('✱'))"), "back, too, what has changed since the last stop has the sign");
   await page.eval("document.getElementById('c-locals').scrollIntoView({ block: 'center' })");
   await page.picture(`${folder}/watched.png`);
   await page.click("#c-locals [data-of='total watch']");

@@ -114,10 +114,12 @@ async function steps(page) {
   holds((await where(page)) === "main, pp.c:16", `a break point beside a line: ${await where(page)}`);
   holds(await page.eval("document.querySelector('#editor .gutter .pc')?.dataset.line === '16'"), "the editor marks the line that is next");
   holds(await page.eval("document.querySelector('#c-text .stop')?.dataset.line === '16'"), "the break point stands in both texts");
+  holds(await comes(page, "/there.*int \\[2\\].*\\{3, 4\\}/.test(document.getElementById('c-locals').textContent)"), `its variables are told: ${await text_of(page, "c-locals")}`);
   await picture(page, "steps");
   const seen = [];
   for (const how of ["over", "over"]) seen.push(await step(page, how));
   holds(seen.join() === "main, pp.c:17,main, pp.c:18", `over lines: ${seen.join("; ")}`);
+  holds(await comes(page, "/it was 120 'x'|byte/.test(document.getElementById('c-locals').textContent)"), "and as it goes on");
   const before = await at(page), back = await step(page, "over", true);
   holds(back === "main, pp.c:17" && (await at(page)) < before, `a line back: ${back}`);
   await edit(page, "int main", "/* a line\n more */\nint main");

@@ -10,7 +10,7 @@ import { Stop, exercise_of_held, graded } from "./held.mjs";
 import { bytes_if_plain } from "./plain.mjs";
 import { NO_ANSWER, read_sheet } from "./sheet.mjs";
 import { points_text, shown } from "./shown.mjs";
-import { is_utf16 } from "./utf16.mjs";
+import { is_unmarked_utf16, text_of_utf16 } from "./utf16.mjs";
 
 const USAGE = `usage: xv --check EXERCISE FOLDER [--name NAME] [--part N]
 
@@ -43,6 +43,12 @@ function read_words(words) {
 
 /** The bytes of a file, for hints alone; none if the grader wouldn't read it either. */
 const text_at = (folder, file) => bytes_if_plain(join(folder, file)) ?? Buffer.alloc(0);
+
+/** The text of a file, for hints alone. */
+function text_of(folder, file) {
+  const bytes = text_at(folder, file);
+  return text_of_utf16(bytes) ?? bytes.toString();
+}
 
 /** Whether the line that has this question has nothing behind it. The grader has found one such line alone. */
 function is_left_open(text, question) {
@@ -88,7 +94,7 @@ function formed({ parts, form }, folder, name) {
     if (asked !== left.length) throw new Stop(2, `${form.named}: its parts aren't those of its form`);
     return parts.map((part, k) => {
       const its = left.splice(0, part.is_numbered ? 2 : 1);
-      const text = part.question ? part.files.map((file) => text_at(folder, file).toString()).join("\n") : "";
+      const text = part.question ? part.files.map((file) => text_of(folder, file)).join("\n") : "";
       const lack = lack_of(part, its, text) ?? no_program(part, runs[k], told);
       return { ...part, run: its[0].run, name: its[0].name, lack };
     });
@@ -97,8 +103,8 @@ function formed({ parts, form }, folder, name) {
 
 /** What is to be known of a file that no grader reads as it is meant. */
 function hints_of(folder, files) {
-  const what = "is a text of UTF-16, as PowerShell's `>` writes it, which isn't read: save it as UTF-8";
-  const strange = files.filter((file) => is_utf16(text_at(folder, file)));
+  const what = "is a text of UTF-16 without a byte order mark, which isn't read: save it as UTF-8";
+  const strange = files.filter((file) => is_unmarked_utf16(text_at(folder, file)));
   return strange.map((file) => `${file} ${what} (Set-Content -Encoding utf8)`);
 }
 

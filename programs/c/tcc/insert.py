@@ -7,6 +7,7 @@
   written.
 - A constant of a pointer's type has 64 bits, a structure that goes in registers is loaded at a multiple of eight, a signed character that
   becomes an unsigned short number loses its sign, and unnamed arguments are found behind more than eight named ones.
+- What is told of variables for debuggers is told of structures that are handed on by their address, too, and of each structure as it is.
 - What would be compiled wrongly else, or to a load that the machine refuses, is refused: packed structures, bit fields of long, arrays whose
   length isn't a constant, cases above 2^63, structures without members as arguments, assembler with operands.
 """
@@ -102,6 +103,18 @@ UNNAMED = "    func_va_list_ofs = (func_va_list_ofs + XLEN - 1) & -XLEN;\n"
 PACK = '''        tcc_error("#pragma pack isn't there: a load at an address that is no multiple of its size is a fault");
 '''
 
+# A structure that is handed on by its address is told, too. What is known of structures is told anew with each group of variables: those
+# of a block that has ended have given their memory to others.
+HANDED_ON = '''        if (s->v && (s->r & VT_VALMASK) == VT_LLOCAL) {
+            cstr_reset (&debug_str);
+            cstr_printf (&debug_str, "%s:v", get_tok_str(s->v, NULL));
+            tcc_get_debug_info(s1, s, &debug_str);
+            tcc_debug_stabs(s1, debug_str.data, N_PSYM, s->c, NULL, 0);
+            continue;
+        }
+'''
+ANEW = "    n_debug_hash = 0;\n"
+
 # By file, behind what (a pattern) which text is inserted.
 BEHIND = {
     "riscv64-gen.c": [
@@ -127,6 +140,9 @@ BEHIND = {
         (r"                        bit_size = expr_const\(\);\n", LONG_FIELDS),
         (r"                    tcc_error\(\"size of variable length array should be an integer\"\);\n", VARIABLE),
         (r"                tcc_warning\(\"empty case range\"\);\n        \}\n", CASES),
+        (r"    for \(; s != e; s = s->prev\) \{\n(?=        if \(!s->v \|\| .*\n            continue;\n        cstr_reset )", HANDED_ON),
+        (r"static void tcc_add_debug_info\(.*\)\n\{\n    CString debug_str;\n", ANEW),
+        (r"    Section \*s = s1->sections\[sh_num\];\n    CString str;\n(?=\n    cstr_new \(&str\);\n    cstr_printf \(&str, \"%s:%c\",)", ANEW),
     ],
     "riscv64-asm.c": [(r"ST_FUNC void asm_compute_constraints\([^)]*\)\n\{\n", ASSEMBLER)],
     "tccpp.c": [(r"    \} else if \(tok == TOK_pack\) \{\n", PACK)],
