@@ -55,8 +55,7 @@ def told(minutes):
         yield f"    with {processors * ROOM:.0f} GB each processor would have a check of its own: end other programs, or take a host with more"
     if processors < 4:
         yield "    the times in docs/GATE.md are of 4 processors: with 2 the gate takes about twice as long"
-    yield "    what is proved is kept on this host: a run that is ended goes on from there when it is called again,"
-    yield "    and `rt ci NAME ..` takes some crates alone, before"
+    yield "    some kits keep what is proved: by those a run that is ended goes on from there when it is called again"
 
 
 def follow(note):

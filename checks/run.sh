@@ -45,6 +45,7 @@ tell_others() {
     tell rows/wild.sh 'rows/wild.sh --many 800 [--seed N]' 'the same of random words, some 100,000 rows: minutes'
     tell outside.sh 'outside.sh' "others' programs do what they do under QEMU: minutes, with \`torture\` an hour; needs packages, told by the script"
     tell tcc/run.sh 'tcc/run.sh' "programs by the C compiler of programs/c/tcc do what gcc's do: a minute; needs programs/c/tcc/build.sh and nodejs"
+    tell tcc/from_nothing.sh 'tcc/from_nothing.sh' "exercises in C, written with Node alone, mended, stepped through and graded: a minute; needs the same"
     tell tcc/torture.mjs 'tcc/torture.mjs FOLDER' "gcc's own tests by that compiler: some minutes; needs the same, and the tests of outside.sh torture"
     tell back-to/run.sh 'back-to/run.sh [N]' 'the stored runs, played back to 20 places each: slow; needs rt'
     tell reasons.py 'reasons.py --refused 20000' "20,000 refused calls have the reasons of a table of its own: some minutes"

@@ -464,8 +464,10 @@ def try_words(room):
     os.mkfifo(odd / "answers.txt")
     says([*check, sheet_at("2-pages"), odd], 3, "answers.txt: not a plain file")
     (odd / "answers.txt").unlink()
-    put(odd, "answers.txt", "pages: 55\r\n".encode("utf-16"))
-    says([*check, sheet_at("2-pages"), odd], 3, "answers.txt is a text of UTF-16")
+    put(odd, "answers.txt", "pages: 55\r\n".encode("utf-16-le"))
+    says([*check, sheet_at("2-pages"), odd], 3, "answers.txt is a text of UTF-16 without a byte order mark")
+    put(odd, "answers.txt", "pages: 55\r\n".encode("utf-16") + b"5")
+    says([*check, sheet_at("2-pages"), odd], 3, "answers.txt: begins as a text of UTF-16, and isn't one")
 
 
 # ---- the autograder
@@ -543,6 +545,8 @@ def damaged(chance, content):
         lambda: b"".join(lines[:place] + lines[place + 1:]), lambda: b"".join(lines + [lines[place]] if lines else []),
         lambda: b"".join(chance.sample(lines, len(lines))), lambda: content.upper(), lambda: content + b"x" * 1048577,
         lambda: (content.decode("latin-1")).encode("utf-16"), lambda: content.decode("latin-1").encode("utf-16-be"),
+        lambda: b"\xfe\xff" + content.decode("latin-1").encode("utf-16-be"),
+        lambda: content.decode("latin-1").encode("utf-16")[:chance.randrange(2, 2 * len(content) + 3)],
         lambda: b"".join(line.split(b":")[0] + b":\n" if b":" in line else line for line in lines),
         lambda: b"".join(b"- **" + line.rstrip(b"\n").replace(b":", b":** ", 1) + b"\n" for line in lines),
         lambda: content + b"".join(b"%d: %d\n" % (number, number) for number in range(500, 512)),
@@ -610,7 +614,7 @@ def disagreement(look, cases, open_cases):
     if opened != open_cases:
         return f"the open cases are {opened}, and by the grader {open_cases}"
     if look["hints"] and all(standing is None for standing, _, _ in cases):
-        return "it has all points, and the check takes a text for one of UTF-16"
+        return "it has all points, and the check takes a text for one of UTF-16 without a mark"
     return None
 
 

@@ -13,6 +13,8 @@ waits     the lines of the terminal and of --why on processes that are left, and
 pids      those of the debugger's `ps` are those of these lines
 beside    `ps`, and `regs` of each process, in the debugger with --replay, and in one that words have sent the same events
 back      the same after `back K`, and with --at N - K
+along     the same at a later event M of the record: with --at M, and from N on by words that go along the record, also after
+          a way back, and after a tick by hand that was taken back
 picture   --picture draws the notes
 refused   --at N + 1 of a record with N events is refused, and N is told
 
@@ -204,6 +206,13 @@ def compare(tools, chance, path):
     same({"the debugger of a record": found, "a debugger of words": look(tools, frames, words_for(first(events, place)))}, "beside")
     back = chance.randint(0, place)
     same({"back": look(tools, at, [f"back {back}"]), "--at": look(tools, [*at[:3], str(place - back)])}, f"back {back}")
+    later = chance.randint(place, count)
+    ways = [[f"goto {later}"], [f"back {back}", f"goto {later}"], ["tick", "back", f"goto {later}"]]
+    if later > place:
+        ways += [[f"step {later - place}"], [f"back {back}", f"step {later - place + back}"]]
+    there = look(tools, [*at[:3], str(later)])
+    for way in ways:
+        same({"along": look(tools, at, way), "--at": there}, f"along, from {place} by {way}")
     drawn = subprocess.run([f"{tools.folder}/xv_picture"], input="\n".join(notes[1]).encode("latin-1"), capture_output=True, timeout=PATIENCE,
                            check=False)
     wanted(drawn.returncode == 0 and drawn.stdout.rstrip().endswith(b"</svg>"), f"no picture: {drawn.stderr}")

@@ -13,5 +13,8 @@ monitor frames
 monitor console
 monitor events
 #> since the boot
+monitor why
+#> process 2 \(sh\) sleeps in wait, for a child to end: process 3 is its child
+#> process 3 \(both\) runs, at 0x
 monitor nothing
 #> monitor pages

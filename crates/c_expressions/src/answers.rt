@@ -1,5 +1,8 @@
 //! What is told of variables and types, in the style of GDB (Debugging with GDB, "Examining Data" and "Examining the
 //! Symbol Table").
+ghost use Rattle.std.specs.Prelude.{IfOk, option_map, string_bytes};
+ghost use Rattle.c_expressions.specs.Answers.{AreRowsOf, IsAnswer, IsOfNothing, IsToldBy, IsValueLine, MayBeTold};
+
 use crate::asked::Asked;
 use crate::finding::{Found, found_in, variable_named};
 use crate::rows::{Rows, VariableRow};
@@ -27,6 +30,8 @@ pub struct Scene<'a, S> {
 /// A call of a program whose tables are read.
 #[derive(Clone, Copy)]
 struct Call<'a, S> {
+    /// The file that has the tables.
+    file: &'a [u8],
     program: Program<'a>,
     frame: Frame,
     sight: &'a S,
@@ -157,11 +162,34 @@ impl<'a, S: Sight> Call<'a, S> {
         Ok(Some(format!(in alloc; "type = {kind}\n")?))
     }
 
+    /// The line of the value of an expression; `None` if the tables tell nothing of it.
+    fn value_line(
+        &self,
+        alloc: Global,
+        text: &str,
+        is_hexadecimal: bool,
+    ) -> Result<Option<String>, AllocError>
+        ensures { IfOk result (λ line. IsValueLine self.now.file.now self.now.frame.address (S.registers self.now.sight.now) (S.bytes self.now.sight.now)
+            is_hexadecimal text.now (option_map string_bytes line)) }
+    {
+        let line = value_line(alloc, self, self.sight, text, is_hexadecimal)?;
+        Ok(line)
+    }
+
     /// What is told of what is asked; `None` if it is of nothing that the tables tell.
-    fn answer(&self, alloc: Global, asked: Asked) -> Result<Option<String>, AllocError> {
+    fn answer(&self, alloc: Global, asked: Asked) -> Result<Option<String>, AllocError>
+        ensures { IfOk result (λ line. IsToldBy self.now.file.now self.now.frame.address (S.registers self.now.sight.now) (S.bytes self.now.sight.now)
+            asked.entry (option_map string_bytes line)) }
+    {
         match asked {
-            Asked::Value(text) => value_line(alloc, self, self.sight, text, false),
-            Asked::Hexadecimal(text) => value_line(alloc, self, self.sight, text, true),
+            Asked::Value(text) => {
+                let line = self.value_line(alloc, text, false)?;
+                Ok(line)
+            }
+            Asked::Hexadecimal(text) => {
+                let line = self.value_line(alloc, text, true)?;
+                Ok(line)
+            }
             Asked::Locals => self.lines(alloc, Role::Local, "no local variables\n"),
             Asked::Arguments => self.lines(alloc, Role::Argument, "no arguments\n"),
             Asked::Type(text) => self.type_line(alloc, text, false),
@@ -171,7 +199,7 @@ impl<'a, S: Sight> Call<'a, S> {
 }
 
 impl<'a, S: Sight> CallTables for Call<'a, S> {
-    ghost AreRows = { λ _ _. Unit {0} };
+    ghost AreRows = { λ call rows. AreRowsOf call.file.now call.frame.address rows };
 
     ghost IsValue = { λ _ _ _ _. Unit {0} };
 
@@ -183,6 +211,8 @@ impl<'a, S: Sight> CallTables for Call<'a, S> {
         let locals = locals_at(alloc, &self.program, self.frame.address)?;
         let others = globals(alloc, &self.program)?;
         Ok(Rows {
+            file: self.file,
+            address: self.frame.address,
             locals: self.variable_rows(alloc, locals.as_slice())?,
             globals: self.variable_rows(alloc, others.as_slice())?,
             layouts: layouts_of(alloc, &self.program)?,
@@ -203,7 +233,9 @@ impl<'a, S: Sight> CallTables for Call<'a, S> {
 }
 
 /// What is told of what is asked, if the tables tell nothing of it; `None` if something else than the tables may.
-fn told_of_nothing(alloc: Global, asked: Asked) -> Result<Option<String>, AllocError> {
+fn told_of_nothing(alloc: Global, asked: Asked) -> Result<Option<String>, AllocError>
+    ensures { IfOk result (λ line. IsOfNothing asked.entry (option_map string_bytes line)) }
+{
     match asked {
         Asked::Type(text) | Asked::Layout(text) => Ok(Some(format!(in alloc;
             "{text} is no variable and no type that is known here\n"
@@ -223,10 +255,16 @@ pub fn answer<S: Sight>(
     alloc: Global,
     scene: &Scene<S>,
     asked: Asked,
-) -> Result<Option<String>, AllocError> {
+) -> Result<Option<String>, AllocError>
+    ensures { IfOk result (λ line. IsAnswer scene.now.file.now scene.now.address (S.registers scene.now.sight.now) (S.bytes scene.now.sight.now)
+        asked.entry (option_map string_bytes line)) }
+{
     match answer_by_tables(alloc, scene, asked)? {
         Some(text) => Ok(Some(text)),
-        None => told_of_nothing(alloc, asked),
+        None => {
+            let told = told_of_nothing(alloc, asked)?;
+            Ok(told)
+        }
     }
 }
 
@@ -235,16 +273,22 @@ fn answer_by_tables<S: Sight>(
     alloc: Global,
     scene: &Scene<S>,
     asked: Asked,
-) -> Result<Option<String>, AllocError> {
+) -> Result<Option<String>, AllocError>
+    ensures { IfOk result (λ line. MayBeTold scene.now.file.now scene.now.address (S.registers scene.now.sight.now) (S.bytes scene.now.sight.now)
+        asked.entry (option_map string_bytes line)) }
+{
     let tables = match read_tables(alloc, scene.file) {
         Ok(tables) => tables,
         Err(InfoError::Memory) => return Err(AllocError),
         Err(_) => return Ok(None),
     };
+    let frame = frame_at(alloc, scene.file, scene.address, scene.sight)?;
     let call = Call {
+        file: scene.file,
         program: Program::of(&tables, scene.file),
-        frame: frame_at(alloc, scene.file, scene.address, scene.sight)?,
+        frame,
         sight: scene.sight,
     };
-    call.answer(alloc, asked)
+    let told = call.answer(alloc, asked)?;
+    Ok(told)
 }

@@ -21,7 +21,7 @@ pub enum Asked<'a> {
 }
 
 /// The word before the first blank of a line, and the text behind that.
-fn parted(line: &str) -> (&str, &str)
+pub fn parted(line: &str) -> (&str, &str)
     ensures word { result.0.now ≡ meant.word_of line.now }
     ensures rest { result.1.now ≡ meant.rest_of line.now }
 {

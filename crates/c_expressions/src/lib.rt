@@ -20,7 +20,7 @@ mod telling;
 mod tokens;
 
 pub use answers::{Scene, answer};
-pub use asked::Asked;
+pub use asked::{Asked, parted};
 pub use expression::{Expression, Step};
 pub use finding::Found;
 pub use parser::{ReadError, expression_of};

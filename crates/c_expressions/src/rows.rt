@@ -17,6 +17,10 @@ pub struct VariableRow<'a> {
 /// What the tables tell of a call.
 #[derive(Drop)]
 pub struct Rows<'a> {
+    /// The file that has the tables.
+    pub file: &'a [u8],
+    /// Where the call stands: its variables in scope are those of this address.
+    pub address: u64,
     /// The variables in scope: those of inner blocks stand after those of outer ones.
     pub locals: Vec<VariableRow<'a>>,
     /// The program's variables.

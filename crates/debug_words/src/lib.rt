@@ -19,9 +19,9 @@ mod vocabulary;
 
 pub use fault::{WordError, WordErrorKind};
 pub use help::show_help;
-pub use names::{Names, Spot};
+pub use names::{Names, SPOTS_MOST, Spot, Spots};
 pub use topics::Topic;
 pub use vocabulary::{
-    BYTES_MOST, EVENTS_MOST, Goal, KEYS_MOST, Keys, LISTED_MOST, MARKS_MOST, Mark, Marks,
-    NOTES_MOST, OFTEN_MOST, ROUNDS_MOST, Size, Word,
+    AskedMarks, BYTES_MOST, EVENTS_MOST, Goal, KEYS_MOST, Keys, LISTED_MOST, MARKS_MOST, Mark,
+    Marks, NOTES_MOST, OFTEN_MOST, ROUNDS_MOST, Size, Word,
 };

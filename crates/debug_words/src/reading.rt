@@ -11,8 +11,8 @@ use crate::numbers::{number_in, number_of};
 use crate::tokens::Tokens;
 use crate::topics::Topic;
 use crate::vocabulary::{
-    BYTES_MOST, EVENTS_MOST, Goal, LISTED_MOST, Mark, Marks, NOTES_MOST, OFTEN_MOST, ROUNDS_MOST,
-    Size, Word,
+    AskedMarks, BYTES_MOST, EVENTS_MOST, Goal, LISTED_MOST, Mark, Marks, NOTES_MOST, OFTEN_MOST,
+    ROUNDS_MOST, Size, Word,
 };
 use kernel_calls::KernelCall;
 use xk_base::limits::{FRAMES_MAX, PID_MAX};
@@ -530,15 +530,35 @@ fn print<'a, N: Names>(tokens: &Tokens<'a>, names: &N) -> Result<Word, WordError
     }
 }
 
-/// The mark of a process at a text's address.
-fn spot_mark<'a>(text: &'a str, spot: Option<Spot>) -> Result<Mark, WordErrorKind<'a>> {
-    match spot {
-        Some(spot) => Ok(Mark::At {
-            program: spot.program,
-            address: spot.address,
-        }),
-        None => Err(WordErrorKind::NotANumber(text)),
+/// The mark of a process at an address of a program.
+fn mark_at(spot: &Spot) -> Mark {
+    Mark::At {
+        program: spot.program,
+        address: spot.address,
     }
+}
+
+/// This mark alone.
+fn one_mark(mark: Mark) -> AskedMarks {
+    let mut marks = AskedMarks::new();
+    let _ = marks.try_push(mark);
+    marks
+}
+
+/// The marks at all places of a text: of a name or a line, or of an address.
+fn place_marks<'a, N: Names>(text: &'a str, names: &N) -> Result<AskedMarks, WordErrorKind<'a>> {
+    let spots = names.spots(text);
+    if spots.is_empty() {
+        return match named_spot(text, names) {
+            Some(spot) => Ok(one_mark(mark_at(&spot))),
+            None => Err(WordErrorKind::NotANumber(text)),
+        };
+    }
+    let mut marks = AskedMarks::new();
+    for spot in spots.as_slice() {
+        let _ = marks.try_push(mark_at(spot));
+    }
+    Ok(marks)
 }
 
 /// What `break` and `tbreak` ask for.
@@ -552,8 +572,8 @@ fn marked<'a, N: Names>(
     let Some(text) = tokens.get(1) else {
         return Ok(Word::Marks);
     };
-    match spot_mark(text, named_spot(without_star(text), names)) {
-        Ok(mark) => ended(tokens, 2, Word::Mark { mark, once }),
+    match place_marks(without_star(text), names) {
+        Ok(marks) => ended(tokens, 2, Word::Mark { marks, once }),
         Err(kind) => Err(kind),
     }
 }
@@ -567,7 +587,7 @@ fn watched<'a, N: Names>(tokens: &Tokens<'a>, names: &N) -> Result<Word, WordErr
             tokens,
             2,
             Word::Mark {
-                mark: Mark::Store(address),
+                marks: one_mark(Mark::Store(address)),
                 once: false,
             },
         ),
@@ -709,29 +729,43 @@ fn ended<'a>(tokens: &Tokens<'a>, place: usize, word: Word) -> Result<Word, Word
     }
 }
 
-/// A PLACE that stands alone at a place of the line, if it is of another program than the one which words look at.
-fn elsewhere<'a, N: Names>(tokens: &Tokens<'a>, place: usize, names: &N) -> Option<Mark> {
-    let spot = named_spot(without_star(tokens.get(place)?), names)?;
-    let program = spot.program;
-    if names.program() == Some(program) || tokens.end(place.saturating_add(1)).is_err() {
-        return None;
+/// Whether these are places of another program than the one at this place, or several.
+fn are_elsewhere(marks: &AskedMarks, own: Option<usize>) -> bool {
+    if marks.len() != 1 {
+        return true;
     }
-    Some(Mark::At {
-        program,
-        address: spot.address,
-    })
+    match marks.as_slice().first() {
+        Some(Mark::At { program, .. }) => own != Some(*program),
+        _ => false,
+    }
 }
 
-/// Up to this mark, as a word.
-fn to_mark(mark: Mark) -> Word
-    ensures { IsInRange result }
-{
+/// The places of a PLACE that stands alone at a place of the line, if it is of another program than the one which words
+/// look at, or has several.
+fn elsewhere<'a, N: Names>(
+    tokens: &Tokens<'a>,
+    place: usize,
+    names: &N,
+) -> Result<Option<Marks>, WordErrorKind<'a>> {
+    let Some(text) = tokens.get(place) else {
+        return Ok(None);
+    };
+    let Ok(asked) = place_marks(without_star(text), names) else {
+        return Ok(None);
+    };
+    if !are_elsewhere(&asked, names.program()) || tokens.end(place.saturating_add(1)).is_err() {
+        return Ok(None);
+    }
     let mut marks = Marks::new();
-    let _ = marks.try_push(mark);
-    Word::ToMark(marks)
+    for mark in asked.as_slice() {
+        let Ok(()) = marks.try_push(*mark) else {
+            return Err(WordErrorKind::TooMuch(text));
+        };
+    }
+    Ok(Some(marks))
 }
 
-/// What `until` asks for. A PLACE of another program is met by whichever process runs that.
+/// What `until` asks for. A PLACE of another program, or one of several places, is met by whichever process runs that.
 fn until<'a, N: Names>(tokens: &Tokens<'a>, names: &N) -> Result<Word, WordErrorKind<'a>>
     ensures { IfOk result IsInRange }
 {
@@ -739,8 +773,8 @@ fn until<'a, N: Names>(tokens: &Tokens<'a>, names: &N) -> Result<Word, WordError
         Some("pc") => 2,
         _ => 1,
     };
-    if let Some(mark) = elsewhere(tokens, place, names) {
-        return Ok(to_mark(mark));
+    if let Some(marks) = elsewhere(tokens, place, names)? {
+        return Ok(Word::ToMark(marks));
     }
     match goal(tokens, 1, names) {
         Ok(goal) => Ok(Word::Until(goal)),

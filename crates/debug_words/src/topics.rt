@@ -198,9 +198,10 @@ back until GOAL goes back to the last Run before this place that was the goal
 place are forgotten. If there were fewer events, it goes back to the boot.",
             Topic::Goto => "\
 goto N
-go back to the place after N events
-go back to the place after N events since the boot: 0 is the boot.
-at and events tell such places. The events after it are forgotten, as by back.",
+go to the place after N events, back or on
+go to the place after N events since the boot: 0 is the boot.
+at and events tell such places. Back, the events after it are forgotten, as by
+back; on, they come as for until, past marks and faults, 100000000 at most.",
             Topic::Until => "\
 until [GOAL]
 go on up to a goal: help until lists them

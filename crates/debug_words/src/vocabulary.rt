@@ -1,4 +1,5 @@
 //! What a line asks for.
+use crate::names::SPOTS_MOST;
 use crate::topics::Topic;
 use arrayvec::ArrayVec;
 use xk_base::{Frame, Pid};
@@ -48,6 +49,9 @@ impl Default for Mark {
 
 /// Marks, in the order in which they were made.
 pub type Marks = ArrayVec<Mark, MARKS_MOST>;
+
+/// The marks that a word asks for: one for each place of what it names.
+pub type AskedMarks = ArrayVec<Mark, SPOTS_MOST>;
 
 /// How many bytes a number has that is shown of memory.
 #[derive(Clone, Copy)]
@@ -173,9 +177,10 @@ pub enum Word {
     Value(u64),
     /// The marks that are kept.
     Marks,
-    /// A mark that is kept from now on; up to the first time that it is met, if it is for once.
+    /// Marks that are kept from now on, as many as there is room for; each up to the first time that it is met, if they are
+    /// for once.
     Mark {
-        mark: Mark,
+        marks: AskedMarks,
         once: bool,
     },
     /// No mark of this number is kept any more, or none at all.

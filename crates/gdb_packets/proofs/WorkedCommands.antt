@@ -6,7 +6,7 @@ use Rattle.gdb_packets.specs.declared.command.Command.TheVariants as on
 use Rattle.gdb_packets.specs.declared.command.Point.TheVariants.{Watchpoint, ReadWatchpoint, AccessWatchpoint}
 use Rattle.gdb_packets.specs.declared.command.Resume.TheVariants.{Continue, Step}
 use Rattle.gdb_packets.specs.declared.command.Thread.TheVariants.{All, Any, One}
-use Rattle.gdb_packets.specs.declared.query.View.TheVariants.{Pages, Help}
+use Rattle.gdb_packets.specs.declared.query.View.TheVariants.{Pages, Why, Help}
 
 all_go_on : asked (codes "vCont;c") ≡ on.Resume Continue All
 all_go_on = refl
@@ -44,6 +44,9 @@ no_other_kind = refl
 
 monitor_pages : asked (codes "qRcmd,7061676573") ≡ on.Monitor Pages
 monitor_pages = refl
+
+monitor_why : asked (codes "qRcmd,776879") ≡ on.Monitor Why
+monitor_why = refl
 
 monitor_with_another_word_is_help : asked (codes "qRcmd,7061676") ≡ on.Monitor Help
 monitor_with_another_word_is_help = refl

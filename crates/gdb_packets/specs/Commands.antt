@@ -14,7 +14,7 @@ use Rattle.gdb_packets.specs.declared.packet_text.Numbers.{Numbers}
 use Rattle.gdb_packets.specs.declared.query.Document.{Document}
 use Rattle.gdb_packets.specs.declared.query.Document.TheVariants.{Registers, File}
 use Rattle.gdb_packets.specs.declared.query.View.{View}
-use Rattle.gdb_packets.specs.declared.query.View.TheVariants.{Pages, Descriptors, Frames, Console, Events, Help}
+use Rattle.gdb_packets.specs.declared.query.View.TheVariants.{Pages, Descriptors, Frames, Console, Events, Why, Help}
 
 -- ---- the parts of a text
 
@@ -167,14 +167,15 @@ abbrev pub file_part : Option (List ℕ) → Command
 file_part None = on.Malformed
 file_part (Some text) = part File (two_numbers text)
 
--- the word of monitor that these hexadecimal digits stand for: pages, fds, frames, console or events, and help for any other
+-- the word of monitor that these hexadecimal digits stand for: pages, fds, frames, console, events or why, and help for any other
 abbrev pub view_of : List ℕ → View
 view_of text =
     if is_text text (codes "7061676573") then Pages
     else (if is_text text (codes "666473") then Descriptors
     else (if is_text text (codes "6672616d6573") then Frames
     else (if is_text text (codes "636f6e736f6c65") then Console
-    else (if is_text text (codes "6576656e7473") then Events else Help))))
+    else (if is_text text (codes "6576656e7473") then Events
+    else (if is_text text (codes "776879") then Why else Help)))))
 
 abbrev pub long_query : List ℕ → Command
 long_query text =

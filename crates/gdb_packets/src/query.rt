@@ -27,6 +27,8 @@ pub enum View {
     Console,
     /// `events`: the last events of the run.
     Events,
+    /// `why`: what each process waits for, who could wake it, and why the last call was refused.
+    Why,
     /// `help`: which words there are. Any other word asks for it too.
     Help,
 }
@@ -45,6 +47,8 @@ fn view_of(digits: &[u8]) -> View
         View::Console
     } else if is_text(digits, b"6576656e7473") {
         View::Events
+    } else if is_text(digits, b"776879") {
+        View::Why
     } else {
         View::Help
     }

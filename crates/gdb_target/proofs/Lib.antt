@@ -2,7 +2,6 @@ pub mod Below
 pub mod Coming
 pub mod Ends
 pub mod Fresh
-pub mod Halving
 pub mod LastPlaces
 pub mod Planned
 pub mod Telling
@@ -22,4 +21,5 @@ mod WorkedEnds
 mod WorkedLetRun
 mod WorkedRecord
 mod WorkedRows
+mod WorkedStepping
 mod WorkedTouches

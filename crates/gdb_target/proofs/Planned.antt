@@ -5,7 +5,8 @@ use Rattle.std.proofs.lemmas.Bool.{cases_lt, lt-ltb, le-ltb}
 use Rattle.std.proofs.lemmas.List.{take-append-le, take_all, take_more, replicate-append-replicate}
 use Rattle.std.proofs.lemmas.Option.{unwrap_or-slice_get}
 use Rattle.kernel_spec.specs.runs.Run.{Event, Send}
-use Rattle.gdb_target.specs.Rounds.{event_among, event_at}
+use Rattle.gdb_target.specs.Rounds.{event_at}
+use Rattle.recordings.specs.Recording.{event_among}
 use Rattle.gdb_target.specs.Plan.{Planned, planned_at, first_events, FirstOfFirst, MoreOfOneKind, RecordIsFirst, RoundsAlone}
 
 -- ---- a place of the record, and one after it

@@ -4,7 +4,7 @@ use Rattle.std.specs.Prelude.{replicate, ◌&&◌, ◌==◌, if◌then◌else◌
 use Rattle.std.proofs.lemmas.Bool.{and_parts, eqb-true, false≢true, or_parts, not-false, not-true}
 use Rattle.std.proofs.lemmas.List.{length-replicate, nil_from_length}
 use Rattle.kernel_spec.specs.runs.Run.{Run, Outcome, Step_of, Turn, Idle, Ticked, Typed, Sent, Halted}
-use Rattle.kernel_spec.specs.steps.Own.{Stepped, Called, Blocked, Exited, Faulted}
+use Rattle.kernel_spec.specs.steps.Own.{Answer, Stepped, Called, Blocked, Exited, Faulted}
 use Rattle.kcall_core.specs.Observers.{process_at, registers_of}
 use Rattle.rv64i_core.specs.Registers.{Registers}
 use Rattle.xv_machine.specs.Meaning.{Meaning}
@@ -26,8 +26,9 @@ use Rattle.gdb_target.specs.LetRun.{if_let}
 use Rattle.gdb_target.specs.PlayedBy.{is_run}
 use Rattle.gdb_target.specs.Rows.{RunsToStop, is_free, looks_at_row, starts_row}
 use Rattle.gdb_target.specs.Standing.{NextIsRun, does_instruction, stander, stander_of, starter, starter_of, if_so, begins, is_among, is_place}
-use Rattle.gdb_target.specs.Touches.{access_by, access_or, doer, first_used, if_done, of_program, read_by, touch_ahead, touch_of, touched}
-use Rattle.gdb_target.specs.Touches.{use_by, use_of_access, use_of_step, used_by, watched_addresses, watches_uses}
+use Rattle.gdb_target.specs.Touches.{access_by, access_or, buffer_used, caller_ahead, caller_of, doer, first_used, if_done}
+use Rattle.gdb_target.specs.Touches.{mover, mover_of, of_program, read_by, touch_ahead, touch_of, touch_or, touched, use_by_caller}
+use Rattle.gdb_target.specs.Touches.{use_by, use_of_access, use_of_answer, use_of_step, used_by, watched_addresses, watches_uses}
 use Rattle.gdb_target.specs.declared.let_run.LetRun.{LetRun}
 use Rattle.gdb_target.specs.declared.played.Played.{Played}
 use Rattle.gdb_target.specs.declared.points.Points.{Points}
@@ -39,6 +40,7 @@ use Rattle.gdb_target.specs.declared.target.Until.{Until}
 use Rattle.gdb_target.specs.declared.target.Until.TheVariants.{Point, StepOf, AnyStep}
 use Rattle.gdb_target.specs.declared.target.Way.{Way}
 use Rattle.gdb_target.specs.declared.touches.Access.{Access}
+use Rattle.gdb_target.specs.declared.touches.Caller.{Caller}
 use Rattle.gdb_target.specs.declared.touches.Touch.{Touch}
 use Rattle.gdb_target.proofs.PlayedOn.{played_send, run_of_true}
 
@@ -93,13 +95,36 @@ if-done-none touch o none = by (until.is_done o)
     by true = none
     by false = refl
 
+answer-none : (points : Points) (caller : Caller) (a : Answer) → points.read.items ≡ [] → points.accessed.items ≡ [] → use_of_answer points caller a ≡ None
+answer-none points caller Stepped no_reads none = refl
+answer-none points caller (Called number value) no_reads none = ap (used_by caller.pid) (step-none points (buffer_used caller.buffer number value) no_reads none)
+answer-none points caller (Blocked number) no_reads none = refl
+answer-none points caller (Exited status) no_reads none = refl
+answer-none points caller (Faulted cause) no_reads none = refl
+
+call-none : (points : Points) (caller : Option Caller) (o : Outcome) → points.read.items ≡ [] → points.accessed.items ≡ [] → use_by_caller points caller o ≡ None
+call-none points None o no_reads none = refl
+call-none points (Some caller) (Step_of p a) no_reads none = answer-none points caller a no_reads none
+call-none points (Some caller) (Turn p) no_reads none = refl
+call-none points (Some caller) Idle no_reads none = refl
+call-none points (Some caller) Ticked no_reads none = refl
+call-none points (Some caller) (Typed echo) no_reads none = refl
+call-none points (Some caller) (Sent byte) no_reads none = refl
+call-none points (Some caller) Halted no_reads none = refl
+
+-- neither is told
+neither : (first second : Option Touch) → first ≡ None → second ≡ None → touch_or first second ≡ None
+neither first second no_first no_second = ap (λ (x : Option Touch). touch_or x second) no_first ∙ no_second
+
 -- so no use is told
 untouched : (r : LetRun) (t : Target) (o : Outcome) → watches_uses t.points ≡ false → touched r t o ≡ None
 untouched r t o spares =
     let both = and_parts (length t.points.read.items == 0) (length t.points.accessed.items == 0) (not-false ((length t.points.read.items == 0) && (length t.points.accessed.items == 0)) spares) in
-    if-done-none (touch_ahead r t) o
-    (touch-none t.run t.points (if_let r (doer t.run t.program)) (nil_from_length t.points.read.items (eqb-true (length t.points.read.items) 0 both.0))
-    (nil_from_length t.points.accessed.items (eqb-true (length t.points.accessed.items) 0 both.1)))
+    let no_reads = nil_from_length t.points.read.items (eqb-true (length t.points.read.items) 0 both.0) in
+    let none = nil_from_length t.points.accessed.items (eqb-true (length t.points.accessed.items) 0 both.1) in
+    neither (if_done (touch_ahead r t) o) (use_by_caller t.points (caller_ahead r t) o)
+    (if-done-none (touch_ahead r t) o (touch-none t.run t.points (if_let r (doer t.run t.program)) no_reads none))
+    (call-none t.points (caller_ahead r t) o no_reads none)
 
 -- by another event than Run no instruction is done
 starter-none : (run : Played) → is_run (planned_at run.plan (length run.session.events)) ≡ false → starter run ≡ None
@@ -110,9 +135,18 @@ starter-none run other = by run.session.machine.world.turns.current
     by (Some p) =
         ap (λ (b : Bool). if_so ((b && is_none run.session.machine.world.turns.halted) && does_instruction (process_at run.session.machine.world p)) p) other
 
+mover-none : (run : Played) → is_run (planned_at run.plan (length run.session.events)) ≡ false → mover run ≡ None
+mover-none run other = by run.session.machine.world.turns.current
+  where
+    by : (current : Option ℕ) → mover_of run current ≡ None
+    by None = refl
+    by (Some p) = ap (λ (b : Bool). if_so (b && is_none run.session.machine.world.turns.halted) p) other
+
 pub untouched-by-other : (r : LetRun) (t : Target) (o : Outcome) → is_run (planned_at t.run.plan (length t.run.session.events)) ≡ false → touched r t o ≡ None
 untouched-by-other r t o other =
-    if-done-none (touch_ahead r t) o (ap (λ (p : Option ℕ). touch_of t.run t.points (if_let r (of_program t.run t.program p))) (starter-none t.run other))
+    neither (if_done (touch_ahead r t) o) (use_by_caller t.points (caller_ahead r t) o)
+    (if-done-none (touch_ahead r t) o (ap (λ (p : Option ℕ). touch_of t.run t.points (if_let r (of_program t.run t.program p))) (starter-none t.run other)))
+    (ap (λ (p : Option ℕ). use_by_caller t.points (caller_of t.run (if_let r (of_program t.run t.program p))) o) (mover-none t.run other))
 
 -- up to a point
 abbrev pub to_point : LetRun → Way

@@ -15,7 +15,8 @@ use Rattle.xv_machine.specs.Events.{event_of}
 use Rattle.xv_machine.specs.RoundParts.{events_of_part, events_of_parts}
 use Rattle.xv_machine.specs.declared.parts.RoundPart.{RoundPart}
 use Rattle.xv_machine.proofs.PlayedParts.{parts-more, parts-all, parts-around}
-use Rattle.gdb_target.specs.Rounds.{event_among, event_in, event_at}
+use Rattle.gdb_target.specs.Rounds.{event_in, event_at}
+use Rattle.recordings.specs.Recording.{event_among}
 
 -- ---- the same round
 

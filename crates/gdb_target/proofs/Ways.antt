@@ -2,7 +2,8 @@
 use Rattle.std.proofs.Common.{◌≡◌, ◌⊎◌, ◌∙◌, ℕ, zero, suc, ◌+◌, ◌<◌, ◌≤◌, inl, inr, length, refl, sym, ap, subst, arith, Option, None, Some}
 use Rattle.std.proofs.lemmas.Bool.{eq-eqb}
 use Rattle.std.specs.Prelude.{Bool, IfSome, if◌then◌else◌, false, true}
-use Rattle.kernel_spec.specs.runs.Run.{Outcome}
+use Rattle.kernel_spec.specs.runs.Run.{Outcome, Step_of, Turn, Idle, Ticked, Typed, Sent, Halted}
+use Rattle.kernel_spec.specs.steps.Own.{Answer, Stepped, Called, Blocked, Exited, Faulted}
 use Rattle.xv_session.specs.Until.{is_done}
 use Rattle.gdb_packets.specs.declared.answers.StopReason.{StopReason}
 use Rattle.gdb_target.specs.Before.{told_before}
@@ -10,7 +11,8 @@ use Rattle.gdb_target.specs.Forth.{Passed, Stretch, IsChanged, IsJudged, IsStopF
 use Rattle.gdb_target.specs.LastHit.{GoesForth, IsHitBefore, IsHitFor, IsHitOf, IsPointHit, Looked, Looks, later, step_hit}
 use Rattle.gdb_target.specs.LetRun.{lets}
 use Rattle.gdb_target.specs.Standing.{stander}
-use Rattle.gdb_target.specs.Touches.{IsByChange, IsByInstruction, if_done, reason_of_use, touched}
+use Rattle.gdb_target.specs.Touches.{IsByChange, IsByInstruction, access_or, buffer_used, first_used, if_done, read_by, reason_of_use}
+use Rattle.gdb_target.specs.Touches.{told_of, touch_or, touched, use_by, use_by_caller, use_of_access, use_of_answer, used_by}
 use Rattle.gdb_target.specs.declared.let_run.LetRun.{LetRun}
 use Rattle.gdb_target.specs.declared.reverse.Back.{Back}
 use Rattle.gdb_target.specs.declared.reverse.Back.TheVariants as backs
@@ -20,6 +22,10 @@ use Rattle.gdb_target.specs.declared.target.Pause.TheVariants.{Shows, Stopped, G
 use Rattle.gdb_target.specs.declared.target.Stopped as stops
 use Rattle.gdb_target.specs.declared.target.Target.{Target}
 use Rattle.gdb_target.specs.declared.target.Way.{Way}
+use Rattle.gdb_target.specs.declared.points.Points.{Points}
+use Rattle.gdb_target.specs.declared.touches.Access.{Access}
+use Rattle.gdb_target.specs.declared.touches.Ahead.{Ahead}
+use Rattle.gdb_target.specs.declared.touches.Caller.{Caller}
 use Rattle.gdb_target.specs.declared.touches.Touch.{Touch}
 use Rattle.gdb_target.specs.declared.touches.Use.{Use}
 use Rattle.gdb_target.specs.declared.touches.Use.TheVariants as uses
@@ -121,12 +127,86 @@ module _ (way : Way) where
   }))
 
 -- what holds of the use that is looked for holds of the one that is told
-pub if-done-keeps : (touch : Option Touch) (o : Outcome) (P : Touch → Type 0) → IfSome touch P → IfSome (if_done touch o) P
+if-done-keeps : (touch : Option Touch) (o : Outcome) (P : Touch → Type 0) → IfSome touch P → IfSome (if_done touch o) P
 if-done-keeps touch o P holds = by (is_done o)
   where
     by : (b : Bool) → IfSome (if b then touch else None) P
     by true = holds
     by false = tt
+
+-- an access is told as a read, or as a use of bytes for both
+use-may : (access : Access) (points : Points) → IfSome (use_by access points) IsByInstruction
+use-may access points = by (read_by access points) (first_used access points.accessed.items)
+  where
+    by : (read accessed : Option ℕ) → IfSome (access_or read accessed) IsByInstruction
+    by (Some address) accessed = tt
+    by None (Some address) = tt
+    by None None = tt
+
+access-may : (points : Points) (access : Option Access) → IfSome (use_of_access points access) IsByInstruction
+access-may points None = tt
+access-may points (Some access) = use-may access points
+
+used-may : (p : ℕ) (how : Option Use) → IfSome how IsByInstruction → IfSome (used_by p how) (λ (it : Touch). IsByInstruction it.how)
+used-may p None may = tt
+used-may p (Some how) may = may
+
+used-pid : (P : ℕ → Type 0) (p : ℕ) (how : Option Use) → P p → IfSome (used_by p how) (λ (it : Touch). P it.pid)
+used-pid P p None holds = tt
+used-pid P p (Some how) holds = holds
+
+answer-may : (points : Points) (caller : Caller) (a : Answer) → IfSome (use_of_answer points caller a) (λ (it : Touch). IsByInstruction it.how)
+answer-may points caller Stepped = tt
+answer-may points caller (Called number value) =
+    used-may caller.pid (use_of_access points (buffer_used caller.buffer number value)) (access-may points (buffer_used caller.buffer number value))
+answer-may points caller (Blocked number) = tt
+answer-may points caller (Exited status) = tt
+answer-may points caller (Faulted cause) = tt
+
+answer-pid : (P : ℕ → Type 0) (points : Points) (caller : Caller) (a : Answer) → P caller.pid → IfSome (use_of_answer points caller a) (λ (it : Touch). P it.pid)
+answer-pid P points caller Stepped holds = tt
+answer-pid P points caller (Called number value) holds = used-pid P caller.pid (use_of_access points (buffer_used caller.buffer number value)) holds
+answer-pid P points caller (Blocked number) holds = tt
+answer-pid P points caller (Exited status) holds = tt
+answer-pid P points caller (Faulted cause) holds = tt
+
+call-may : (points : Points) (caller : Option Caller) (o : Outcome) → IfSome (use_by_caller points caller o) (λ (it : Touch). IsByInstruction it.how)
+call-may points None o = tt
+call-may points (Some caller) (Step_of p a) = answer-may points caller a
+call-may points (Some caller) (Turn p) = tt
+call-may points (Some caller) Idle = tt
+call-may points (Some caller) Ticked = tt
+call-may points (Some caller) (Typed echo) = tt
+call-may points (Some caller) (Sent byte) = tt
+call-may points (Some caller) Halted = tt
+
+call-pid : (P : ℕ → Type 0) (points : Points) (caller : Option Caller) (o : Outcome) → IfSome caller (λ (it : Caller). P it.pid)
+    → IfSome (use_by_caller points caller o) (λ (it : Touch). P it.pid)
+call-pid P points None o holds = tt
+call-pid P points (Some caller) (Step_of p a) holds = answer-pid P points caller a holds
+call-pid P points (Some caller) (Turn p) holds = tt
+call-pid P points (Some caller) Idle holds = tt
+call-pid P points (Some caller) Ticked holds = tt
+call-pid P points (Some caller) (Typed echo) holds = tt
+call-pid P points (Some caller) (Sent byte) holds = tt
+call-pid P points (Some caller) Halted holds = tt
+
+either-keeps : (first second : Option Touch) (P : Touch → Type 0) → IfSome first P → IfSome second P → IfSome (touch_or first second) P
+either-keeps None second P of_first of_second = of_second
+either-keeps (Some touch) second P of_first of_second = of_first
+
+pub told-may : (points : Points) (next : Ahead) (o : Outcome) → IfSome next.touch (λ (it : Touch). IsByInstruction it.how)
+    → IfSome (told_of points next o) (λ (it : Touch). IsByInstruction it.how)
+told-may points next o may =
+    let P : Touch → Type 0 = λ it. IsByInstruction it.how in
+    either-keeps (if_done next.touch o) (use_by_caller points next.caller o) P (if-done-keeps next.touch o P may) (call-may points next.caller o)
+
+pub told-lets : (r : LetRun) (points : Points) (next : Ahead) (o : Outcome) → IfSome next.touch (λ (it : Touch). lets r it.pid ≡ true)
+    → IfSome next.caller (λ (it : Caller). lets r it.pid ≡ true) → IfSome (told_of points next o) (λ (it : Touch). lets r it.pid ≡ true)
+told-lets r points next o touch caller =
+    let P : Touch → Type 0 = λ it. lets r it.pid ≡ true in
+    either-keeps (if_done next.touch o) (use_by_caller points next.caller o) P (if-done-keeps next.touch o P touch)
+    (call-pid (λ (p : ℕ). lets r p ≡ true) points next.caller o caller)
 
 -- a row, and what is judged of it
 pub row-goes : (r : LetRun) (a mid new : Target) (o : Outcome) (p : Option Pause) → IsRow r a o mid → IsJudged (to_point r) (told_before r o) o mid p new → GoesBy (to_point r) a p new

@@ -1,5 +1,5 @@
 -- What GDB chooses: the process that it looks at, the one that it steps, and the points at which programs stop.
-use Rattle.std.specs.Prelude.{◌≡◌, ℕ, nat_lt, Bool, true, false, ◌==◌, ◌&&◌, not, if◌then◌else◌, List, [], ◌∷◌, ◌++◌, filter, codes, Option, None, Some, is_some, IsSome, unwrap_or}
+use Rattle.std.specs.Prelude.{◌≡◌, ℕ, nat_lt, Bool, true, false, ◌==◌, ◌&&◌, not, if◌then◌else◌, List, [], ◌∷◌, ◌++◌, filter, codes, Option, None, Some, is_some, IsSome, option_map, unwrap_or}
 use Rattle.std.specs.List.{list_any}
 use Rattle.kernel_spec.specs.views.State.{live}
 use Rattle.gdb_packets.specs.Answers.{refusal}
@@ -22,6 +22,7 @@ use Rattle.gdb_target.specs.declared.target.Until.TheVariants.{StepOf, AnyStep}
 use Rattle.gdb_target.specs.declared.target.Until.TheVariants as untils
 use Rattle.gdb_target.specs.declared.target.Way.{Way}
 use Rattle.gdb_target.specs.Seen.{IsNoThread}
+use Rattle.gdb_target.specs.Stepping.{as_stepped}
 use Rattle.gdb_target.specs.Told.{state_of}
 
 -- ---- threads
@@ -88,9 +89,10 @@ both None let_run = None
 both (Some until) None = None
 both (Some until) (Some let_run) = Some (record { until = until; let_run = let_run })
 
--- How a command goes on; not at all, if a process that it names doesn't live
+-- How a command goes on; not at all, if a process that it names doesn't live. A way up to a point may be one up to a step, which GDB makes by breakpoints
 abbrev pub IsWay : Target → Resume → Thread → Option Way → Type 0
-IsWay t how thread way = (until : Option Until) × (let_run : Option LetRun) × IsUntil t how until × IsLetRun t thread let_run × (way ≡ both until let_run)
+IsWay t how thread way =
+    (until : Option Until) × (let_run : Option LetRun) × IsUntil t how until × IsLetRun t thread let_run × (way ≡ option_map (as_stepped t) (both until let_run))
 
 -- the process that a choice of a thread lets run alone: none, if no thread is named
 abbrev pub runner : Thread → (p : ℕ) → Option ℕ

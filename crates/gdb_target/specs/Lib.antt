@@ -12,7 +12,6 @@ pub mod LetRun
 pub mod Plan
 pub mod PlanCode
 pub mod PlayedBy
-pub mod Recording
 pub mod Rounds
 pub mod Rows
 pub mod SameRun
@@ -22,5 +21,7 @@ pub mod Served
 pub mod Serving
 pub mod Settings
 pub mod Standing
+pub mod Stepping
 pub mod Told
 pub mod Touches
+pub mod WhyText

@@ -1,7 +1,8 @@
 -- Which events the machine gets: those of a record, if one is played, and then rounds, as in xv_run.
 use Rattle.std.specs.Prelude.{◌≡◌, ℕ, zero, suc, ◌+◌, ◌-◌, ◌<◌, min, nat_lt, if◌then◌else◌, List, [], ◌∷◌, ◌++◌, length, take, replicate}
 use Rattle.kernel_spec.specs.runs.Run.{Event}
-use Rattle.gdb_target.specs.Rounds.{event_among, event_at}
+use Rattle.gdb_target.specs.Rounds.{event_at}
+use Rattle.recordings.specs.Recording.{event_among}
 
 -- the events of a record, none if none is played; the keys of the rounds after them, and the Runs in each round
 pub record Planned : Type 0 where

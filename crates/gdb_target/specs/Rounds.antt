@@ -1,11 +1,8 @@
 -- The events of rounds, as in xv_run.
-use Rattle.std.specs.Prelude.{ℕ, ◌-◌, ◌*◌, ◌/◌, ◌%◌, nat_lt, if◌then◌else◌, List, [], ◌∷◌, length, slice_get, unwrap_or, drop}
-use Rattle.kernel_spec.specs.runs.Run.{Event, Send}
+use Rattle.std.specs.Prelude.{ℕ, ◌-◌, ◌*◌, ◌/◌, ◌%◌, nat_lt, if◌then◌else◌, List, [], ◌∷◌, length, drop}
+use Rattle.kernel_spec.specs.runs.Run.{Event}
 use Rattle.kernel_spec.specs.runs.Rounds.{round}
-
--- the event at a place among these; a Send where there are fewer
-abbrev pub event_among : List Event → (place : ℕ) → Event
-event_among list place = unwrap_or (slice_get list place) Send
+use Rattle.recordings.specs.Recording.{event_among}
 
 -- the event at a place of rounds, of which as many have a key as there are keys, and these come first. A round with a key has `keyed` events, and each other round `unkeyed`
 abbrev pub event_in : (keys : List ℕ) (quantum keyed unkeyed place : ℕ) → Event

@@ -13,12 +13,13 @@ use Rattle.gdb_packets.specs.declared.command.Thread.{Thread}
 use Rattle.gdb_packets.specs.declared.command.Thread.TheVariants.{All, Any, One}
 use Rattle.gdb_packets.specs.declared.query.Document.TheVariants.{File}
 use Rattle.gdb_packets.specs.declared.query.View.{View}
-use Rattle.gdb_packets.specs.declared.query.View.TheVariants.{Pages, Descriptors, Frames, Console, Events, Help}
+use Rattle.gdb_packets.specs.declared.query.View.TheVariants.{Pages, Descriptors, Frames, Console, Events, Why, Help}
 use Rattle.debug_views.specs.ConsoleText.{console_text}
 use Rattle.debug_views.specs.DescriptorText.{descriptors_shown}
 use Rattle.debug_views.specs.EventText.{IsEventsText}
 use Rattle.debug_views.specs.FrameText.{IsFramesText}
 use Rattle.debug_views.specs.PagesText.{IsPagesText}
+use Rattle.gdb_target.specs.WhyText.{IsWhyText}
 use Rattle.gdb_target.specs.Seen.{held, bytes_below, AreTheBytes, AreLive, AreAllLive, IsNoThread}
 use Rattle.gdb_target.specs.declared.target.Target.{Target}
 
@@ -57,13 +58,14 @@ LifeIsTold s All text = text ≡ codes "OK"
 LifeIsTold s Any text = text ≡ codes "OK"
 LifeIsTold s (One n) text = (IsSome (live s n) × (text ≡ codes "OK")) ⊎ (IsNoThread s n × (text ≡ refusal 3))
 
--- what a view of the debugger shows: of the process that is looked at its pages and descriptors, and of the machine its frames, its console and its last events; help is a text of its own
+-- what a view of the debugger shows: of the process that is looked at its pages and descriptors, and of the machine its frames, its console, its last events, and why it doesn't go on; help is a text of its own
 abbrev pub IsView : Target → View → List ℕ → Type 0
 IsView t Pages text = IsPagesText t.run.session t.looked_at 0 text
 IsView t Descriptors text = text ≡ descriptors_shown t.run.session t.looked_at
 IsView t Frames text = IsFramesText t.run.session None text
 IsView t Console text = text ≡ console_text (state_of t).console
 IsView t Events text = IsEventsText t.run.session None text
+IsView t Why text = IsWhyText t.run.session text
 IsView t Help text = Unit {0}
 
 abbrev pub ViewIsTold : Target → View → List ℕ → Type 0

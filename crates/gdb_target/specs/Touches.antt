@@ -1,11 +1,18 @@
--- What is watched, and how instructions use it (RISC-V Unprivileged ISA, "RV32I Base Integer Instruction Set", Load and Store Instructions).
-use Rattle.std.specs.Prelude.{ℕ, ◌+◌, ◌-◌, ◌%◌, ◌^◌, ◌==◌, ◌&&◌, nat_le, nat_lt, not, Bool, true, false, if◌then◌else◌, List, length, map, flat_map, find, option_map, Option, None, Some}
+-- What is watched, and how instructions and kernel calls use it (RISC-V Unprivileged ISA, "RV32I Base Integer Instruction Set", Load and Store Instructions; the xv6 book, "I/O and File descriptors").
+use Rattle.std.specs.Prelude.{ℕ, ℤ, pos, negsuc, ◌+◌, ◌-◌, ◌%◌, ◌^◌, ◌==◌, ◌&&◌, nat_le, nat_lt, not, Bool, true, false, if◌then◌else◌, List, length, map, flat_map, find, option_map, Option, None, Some}
 use Rattle.std.specs.List.{list_any, range_with_len}
+use Rattle.std.specs.Ordering.{int_eq}
 use Rattle.rv64i_core.specs.Memory.{bytes_of_width}
+use Rattle.rv64i_core.specs.Registers.{Registers, reg}
 use Rattle.rv64i_core.specs.Step.{load_width, store_width}
 use Rattle.rv64i_core.specs.declared.instruction.Instr.{Instr}
 use Rattle.rv64i_core.specs.declared.instruction.Instr.TheVariants.{Load, Store}
+use Rattle.kernel_spec.specs.runs.Run as runs
 use Rattle.kernel_spec.specs.runs.Run.{Outcome}
+use Rattle.kernel_spec.specs.steps.Own.{Answer, Stepped, Called, Blocked, Exited, Faulted}
+use Rattle.kernel_spec.specs.views.Words.{A1}
+use Rattle.kernel_calls.specs.declared.numbers.TheConstants.{READ, WRITE}
+use Rattle.kcall_core.specs.Observers.{registers_of}
 use Rattle.xv_session.specs.Looking.{next_step_of}
 use Rattle.xv_session.specs.Names.{place_in}
 use Rattle.xv_session.specs.Until.{instruction_in, is_done}
@@ -13,13 +20,15 @@ use Rattle.xv_session.specs.declared.looking.NextStep.{NextStep}
 use Rattle.gdb_packets.specs.declared.answers.StopReason.{StopReason}
 use Rattle.gdb_packets.specs.declared.answers.StopReason.TheVariants.{Watch, ReadWatch, AccessWatch}
 use Rattle.gdb_target.specs.LetRun.{if_let}
-use Rattle.gdb_target.specs.Standing.{if_so, is_place, starter}
+use Rattle.gdb_target.specs.Standing.{goes_on, if_so, is_place, starter}
 use Rattle.gdb_target.specs.declared.let_run.LetRun.{LetRun}
 use Rattle.gdb_target.specs.declared.played.Played.{Played}
 use Rattle.gdb_target.specs.declared.points.Points.{Points}
 use Rattle.gdb_target.specs.declared.points.Watched.{Watched}
 use Rattle.gdb_target.specs.declared.target.Target.{Target}
 use Rattle.gdb_target.specs.declared.touches.Access.{Access}
+use Rattle.gdb_target.specs.declared.touches.Ahead.{Ahead}
+use Rattle.gdb_target.specs.declared.touches.Caller.{Caller}
 use Rattle.gdb_target.specs.declared.touches.Touch.{Touch}
 use Rattle.gdb_target.specs.declared.touches.Use.{Use}
 use Rattle.gdb_target.specs.declared.touches.Use.TheVariants as uses
@@ -46,13 +55,13 @@ watches_uses points = not ((length points.read.items == 0) && (length points.acc
 
 -- the bytes that an instruction loads or stores, from its own address on; none if it does neither
 abbrev pub access_by : Option Instr → (own : Option ℕ) → Option Access
-access_by (Some (Load op d s imm)) (Some own) = Some (record { address = own; width = load_width op; loads = true })
-access_by (Some (Store op s t imm)) (Some own) = Some (record { address = own; width = store_width op; loads = false })
+access_by (Some (Load op d s imm)) (Some own) = Some (record { address = own; count = bytes_of_width (load_width op); loads = true })
+access_by (Some (Store op s t imm)) (Some own) = Some (record { address = own; count = bytes_of_width (store_width op); loads = false })
 access_by _ _ = None
 
 -- the byte at this address is one of them
 abbrev pub has : Access → (address : ℕ) → Bool
-has access address = nat_le access.address address && nat_lt (address - access.address) (bytes_of_width access.width)
+has access address = nat_le access.address address && nat_lt (address - access.address) access.count
 
 -- of the bytes that are watched together it has one
 abbrev pub is_used : Access → Watched → Bool
@@ -110,9 +119,79 @@ touch_ahead let_run t = touch_of t.run t.points (if_let let_run (doer t.run t.pr
 abbrev pub if_done : Option Touch → Outcome → Option Touch
 if_done touch o = if is_done o then touch else None
 
--- What is told of an event that was sent from here, and of which this came: how its instruction used watched bytes
+-- ---- what a kernel call uses
+
+-- the bytes that a call has used by its end: write has read so many as it answers, and read has stored so many, from the address on that is their second argument. Of the others nothing is told
+abbrev pub buffer_of : (address : ℕ) → (number : ℤ) → (count : ℕ) → Option Access
+buffer_of address number count =
+    if int_eq number WRITE then Some (record { address = address; count = count; loads = true })
+    else (if int_eq number READ then Some (record { address = address; count = count; loads = false }) else None)
+
+-- none, if it is refused
+abbrev pub buffer_used : (address : ℕ) → (number answered : ℤ) → Option Access
+buffer_used address number (pos count) = buffer_of address number count
+buffer_used address number (negsuc k) = None
+
+abbrev pub use_of_answer : Points → Caller → Answer → Option Touch
+use_of_answer points caller Stepped = None
+use_of_answer points caller (Called number value) = used_by caller.pid (use_of_access points (buffer_used caller.buffer number value))
+use_of_answer points caller (Blocked number) = None
+use_of_answer points caller (Exited status) = None
+use_of_answer points caller (Faulted cause) = None
+
+-- what is told of a call that is over
+abbrev pub use_of_call : Points → Caller → Outcome → Option Touch
+use_of_call points caller (runs.Step_of p answer) = use_of_answer points caller answer
+use_of_call points caller (runs.Turn p) = None
+use_of_call points caller runs.Idle = None
+use_of_call points caller runs.Ticked = None
+use_of_call points caller (runs.Typed echo) = None
+use_of_call points caller (runs.Sent byte) = None
+use_of_call points caller runs.Halted = None
+
+abbrev pub use_by_caller : Points → Option Caller → Outcome → Option Touch
+use_by_caller points None o = None
+use_by_caller points (Some caller) o = use_of_call points caller o
+
+-- the process that makes a step by the next event of the run
+abbrev pub mover_of : Played → (current : Option ℕ) → Option ℕ
+mover_of run None = None
+mover_of run (Some p) = if_so (goes_on run) p
+
+abbrev pub mover : Played → Option ℕ
+mover run = mover_of run run.session.machine.world.turns.current
+
+-- a process with these registers, and the second argument of the call that it is in or begins
+abbrev pub with_buffer : (p : ℕ) → Option Registers → Option Caller
+with_buffer p None = None
+with_buffer p (Some registers) = Some (record { pid = p; buffer = reg registers A1 })
+
+abbrev pub caller_of : Played → Option ℕ → Option Caller
+caller_of run None = None
+caller_of run (Some p) = with_buffer p (registers_of run.session.machine.world.state p)
+
+-- the process of the program that is let run, and may end a call by the next event
+abbrev pub caller_ahead : LetRun → Target → Option Caller
+caller_ahead let_run t = caller_of t.run (if_let let_run (of_program t.run t.program (mover t.run)))
+
+-- ---- what is told of an event that was sent
+
+-- what may be told of the next event: how its instruction uses watched bytes, and who may end a call by it
+abbrev pub ahead : LetRun → Target → Ahead
+ahead let_run t = record { touch = touch_ahead let_run t; caller = caller_ahead let_run t }
+
+-- the first, or else the second
+abbrev pub touch_or : Option Touch → (second : Option Touch) → Option Touch
+touch_or None second = second
+touch_or (Some touch) second = Some touch
+
+-- how its instruction used watched bytes, or the call that ended by it
+abbrev pub told_of : Points → Ahead → Outcome → Option Touch
+told_of points next o = touch_or (if_done next.touch o) (use_by_caller points next.caller o)
+
+-- What is told of an event that was sent from here, and of which this came
 abbrev pub touched : LetRun → Target → Outcome → Option Touch
-touched let_run t o = if_done (touch_ahead let_run t) o
+touched let_run t o = told_of t.points (ahead let_run t) o
 
 -- ---- why it stops
 
@@ -121,7 +200,7 @@ reason_of_use (uses.Change address) = Watch address
 reason_of_use (uses.Read address) = ReadWatch address
 reason_of_use (uses.Access address) = AccessWatch address
 
--- an instruction may use bytes so
+-- an instruction or a call may use bytes so
 abbrev pub IsByInstruction : Use → Type 0
 IsByInstruction (uses.Change address) = ⊥
 IsByInstruction (uses.Read address) = Unit {0}

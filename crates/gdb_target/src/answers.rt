@@ -296,7 +296,7 @@ impl Target {
     pub fn way(&self, how: Resume, runs: Thread) -> Option<Way>
         ensures { chooses.IsWay self.now how runs result }
     {
-        both(self.until(how), self.let_run(runs))
+        self.stepped(both(self.until(how), self.let_run(runs)))
     }
 
     /// Chooses a process, for commands that go on, or for those that look.

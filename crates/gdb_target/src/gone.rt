@@ -19,11 +19,18 @@ use xv_session::SessionError;
 /// How many bytes an instruction has.
 const INSTRUCTION: u64 = 4;
 
+/// The address behind the instruction at which a process stands with these registers.
+pub(crate) fn address_after(regs: &Regs) -> u64
+    ensures { result ≡ meant.address_after regs.now.pc }
+{
+    regs.pc().wrapping_add(INSTRUCTION)
+}
+
 /// The address behind the instruction at which a process stood with these registers, if a breakpoint is there.
 fn breakpoint_after(points: &Points, regs: &Regs) -> Option<u64>
     ensures { result ≡ meant.if_among points.now.breakpoints.items (meant.address_after regs.now.pc) }
 {
-    let next = regs.pc().wrapping_add(INSTRUCTION);
+    let next = address_after(regs);
     if points.is_breakpoint(next) {
         return Some(next);
     }

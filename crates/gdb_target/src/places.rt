@@ -35,7 +35,7 @@ fn does_instruction(state: &Option<ProcessState>) -> bool
 }
 
 /// Whether a Run lets whoever runs go on: the next event is one, and the machine hasn't halted.
-fn goes_on(run: &Played) -> bool
+pub(crate) fn goes_on(run: &Played) -> bool
     ensures { result ≡ goes_on run.now }
 {
     is_run(run.next().event) && run.machine().halted().is_none()

@@ -15,7 +15,7 @@ use crate::let_run::{LetRun, if_let};
 use crate::places::{at_breakpoint, changed, if_told, is_starter, starts, watched_now};
 use crate::played::is_run;
 use crate::target::{Stopped, Target};
-use crate::touches::{Touch, Use, if_done};
+use crate::touches::{Touch, Use, told_of};
 use gdb_packets::StopReason;
 use std::alloc::Global;
 use xk_base::Pid;
@@ -103,7 +103,7 @@ fn use_hit(let_run: &LetRun, place: u64, stood: Option<Pid>, touch: Option<Touch
     }
 }
 
-/// What is told of a place: a change of watched bytes by the next event, or the use that its instruction makes of them,
+/// What is told of a place: a change of watched bytes by the next event, or the use that its instruction or its kernel call makes of them,
 /// or else the process that stood at a breakpoint. Of processes that aren't let run nothing is told.
 pub(crate) fn point_hit(
     let_run: &LetRun,
@@ -192,10 +192,10 @@ impl Target {
         let Ok(before) = watched_now(alloc, &self.run, &self.points, self.program) else {
             return Err(SessionError::Memory);
         };
-        let ahead = self.touch_ahead(let_run);
+        let ahead = self.ahead(&let_run);
         let outcome = self.send_one(end)?;
         let change = changed(&self.run, &self.points, self.program, &before);
-        let touch = if_done(ahead, &outcome);
+        let touch = told_of(&self.points, &ahead, &outcome);
         Ok(point_hit(&let_run, place, stood, change, touch))
     }
 

@@ -2,7 +2,8 @@
 ghost use Rattle.std.specs.Prelude.{◌≡◌, ◌+◌, ◌<◌, ◌≤◌, ◌^◌, ℕ, length};
 ghost use Rattle.std.specs.Option.{option_to_list};
 ghost use Rattle.kernel_spec.specs.runs.Rounds.{round};
-ghost use Rattle.gdb_target.specs.Rounds.{event_among, event_at};
+ghost use Rattle.gdb_target.specs.Rounds.{event_at};
+ghost use Rattle.recordings.specs.Recording.{event_among};
 ghost use Rattle.xv_machine.specs.Events.{event_of};
 ghost use Rattle.xv_machine.specs.RoundParts.{events_of_parts};
 

@@ -22,7 +22,7 @@ use crate::places::{at_breakpoint, changed, if_told, watched_now};
 use crate::played::{Played, is_run};
 use crate::points::Points;
 use crate::threads::live_or_other;
-use crate::touches::{Touch, if_done};
+use crate::touches::{Touch, told_of};
 use gdb_packets::{Stop, StopReason};
 use std::alloc::Global;
 use xk_base::{Cause, Pid};
@@ -409,8 +409,8 @@ impl Target {
         }
     }
 
-    /// What stops the program after Runs of which this came last: the use that its instruction made of watched bytes, or
-    /// else what [`Target::judged`] tells.
+    /// What stops the program after Runs of which this came last: the use that its instruction or its kernel call made of
+    /// watched bytes, or else what [`Target::judged`] tells.
     fn used_or_judged(
         &mut self,
         alloc: Global,
@@ -550,7 +550,7 @@ impl Target {
         let Ok(before) = watched_now(alloc, &self.run, &self.points, self.program) else {
             return Err(SessionError::Memory);
         };
-        let ahead = self.touch_ahead(going.way.let_run);
+        let ahead = self.ahead(&going.way.let_run);
         let Some(outcome) = self.run.run(most)? else {
             unreachable!();
         };
@@ -558,7 +558,8 @@ impl Target {
         if let Some(change) = if_told(change, going.way.let_run) {
             return Ok(Some(Pause::Stopped(change.stopped())));
         }
-        self.used_or_judged(alloc, going, &if_done(ahead, &outcome), &outcome)
+        let used = told_of(&self.points, &ahead, &outcome);
+        self.used_or_judged(alloc, going, &used, &outcome)
     }
 
     /// Sends the next event, or so many Runs.

@@ -4,6 +4,7 @@ ghost use Rattle.debug_views.specs.Written.{Writes};
 ghost use Rattle.gdb_target.specs.Told.{IsView, ViewIsTold};
 
 use crate::target::Target;
+use crate::why::show_why;
 use debug_views::{show_console, show_descriptors, show_events, show_frames, show_pages};
 use gdb_packets::{View, hex_bytes};
 use std::alloc::{AllocError, Global};
@@ -15,7 +16,8 @@ monitor fds      its descriptors
 monitor frames   who owns how many frames of RAM
 monitor console  the bytes that the console keeps
 monitor events   the last events of the run
-The processes, and what they wait for, are told by: info threads
+monitor why      what each process waits for, who could wake it, and why the last call was refused
+The processes are told by: info threads
 ";
 
 impl Target {
@@ -30,6 +32,7 @@ impl Target {
             View::Frames => show_frames(alloc, session, None, text),
             View::Console => show_console(session, text),
             View::Events => show_events(session, None, text),
+            View::Why => show_why(alloc, session, text),
             View::Help => text.push_str(MONITOR_HELP),
         }
     }

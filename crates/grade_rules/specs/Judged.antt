@@ -1,5 +1,5 @@
 -- When a rule holds, and what a judgement of it says.
-use Rattle.std.specs.Prelude.{◌≡◌, ◌<◌, ◌≤◌, List, length, filter, take, count_by, Bool, true, false, ℕ}
+use Rattle.std.specs.Prelude.{◌≡◌, ◌<◌, ◌≤◌, List, length, filter, map, take, count_by, Bool, true, false, ℕ}
 use Rattle.grade_rules.specs.declared.note.Note.{Note}
 use Rattle.grade_rules.specs.declared.order.Order.{Order}
 use Rattle.grade_rules.specs.declared.order.Order.TheVariants as order
@@ -9,16 +9,26 @@ use Rattle.grade_rules.specs.declared.rule.Judgement.{Judgement}
 use Rattle.grade_rules.specs.declared.rule.Judgement.TheVariants.{Holds, Counted, Unwanted, Alone, Missing, Other}
 use Rattle.grade_rules.specs.declared.pattern.Pattern.{Pattern}
 use Rattle.grade_rules.specs.declared.order.Edge.{Edge}
+use Rattle.grade_rules.specs.declared.pipes.Choice.{Choice}
+use Rattle.grade_rules.specs.Choices.{is_choice, pattern_with}
 use Rattle.grade_rules.specs.Patterns.{fits, fits_one_of}
 use Rattle.grade_rules.specs.Rules.{note_at, step_at, StandsAt, IsOneAt, IsNoneOf, IsBefore, IsEachBehind, are_these, IsArrangement, IsInOrder}
 
--- a rule holds of notes
+-- what patterns say by a choice of pipes
+abbrev pub all_with : Choice → List Pattern → List Pattern
+all_with choice patterns = map (pattern_with choice) patterns
+
+-- a rule holds of notes, if its letters stand for these pipes
+abbrev pub HoldsBy : Choice → Rule → List Note → Type 0
+HoldsBy choice (Count pattern least most) notes = (least ≤ count_by (fits (pattern_with choice pattern)) notes) × (count_by (fits (pattern_with choice pattern)) notes ≤ most)
+HoldsBy choice (NoneOf patterns) notes = IsNoneOf (all_with choice patterns.items) notes
+HoldsBy choice (Before first next) notes = IsEachBehind (pattern_with choice first) (pattern_with choice next) notes
+HoldsBy choice (InOrder steps edges) notes = IsInOrder (all_with choice steps.items) edges.items notes
+HoldsBy choice (Exactly of wanted) notes = are_these (all_with choice wanted.items) (filter (fits_one_of (all_with choice of.items)) notes) ≡ true
+
+-- it does for some choice of pipes
 abbrev pub HoldsOf : Rule → List Note → Type 0
-HoldsOf (Count pattern least most) notes = (least ≤ count_by (fits pattern) notes) × (count_by (fits pattern) notes ≤ most)
-HoldsOf (NoneOf patterns) notes = IsNoneOf patterns.items notes
-HoldsOf (Before first next) notes = IsEachBehind first next notes
-HoldsOf (InOrder steps edges) notes = IsInOrder steps.items edges.items notes
-HoldsOf (Exactly of wanted) notes = are_these wanted.items (filter (fits_one_of of.items) notes) ≡ true
+HoldsOf rule notes = (choice : Choice) × (is_choice choice ≡ true) × HoldsBy choice rule notes
 
 -- the steps before this one can be arranged, and with it they can't
 pub record IsMissing (steps : List Pattern) (edges : List Edge) (notes : List Note) (step : ℕ) : Type 0 where
@@ -41,19 +51,28 @@ abbrev pub OrderTold : (steps : List Pattern) → List Edge → List Note → Or
 OrderTold steps edges notes (order.Arranged places) = IsArrangement steps edges notes places.items × (length places.items ≡ length steps)
 OrderTold steps edges notes (order.Missing step) = IsMissing steps edges notes step
 
--- what shows that a rule doesn't hold
-abbrev pub Shows : Rule → List Note → Judgement → Type 0
-Shows (Count pattern least most) notes (Counted found) = found ≡ count_by (fits pattern) notes
-Shows (NoneOf patterns) notes (Unwanted place) = IsOneAt patterns.items notes place × IsNoneOf patterns.items (take place notes)
-Shows (Before first next) notes (Alone place) = StandsAt next notes place × (¬ (IsBefore first notes place))
-Shows (InOrder steps edges) notes (Missing step) = IsMissing steps.items edges.items notes step
-Shows (Exactly of wanted) notes (Other place) = IsOther of.items wanted.items notes place
-Shows _ _ _ = ⊥
+-- what shows that a rule doesn't hold, if its letters stand for these pipes
+abbrev pub ShowsBy : Choice → Rule → List Note → Judgement → Type 0
+ShowsBy choice (Count pattern least most) notes (Counted found) = found ≡ count_by (fits (pattern_with choice pattern)) notes
+ShowsBy choice (NoneOf patterns) notes (Unwanted place) = IsOneAt (all_with choice patterns.items) notes place × IsNoneOf (all_with choice patterns.items) (take place notes)
+ShowsBy choice (Before first next) notes (Alone place) = StandsAt (pattern_with choice next) notes place × (¬ (IsBefore (pattern_with choice first) notes place))
+ShowsBy choice (InOrder steps edges) notes (Missing step) = IsMissing (all_with choice steps.items) edges.items notes step
+ShowsBy choice (Exactly of wanted) notes (Other place) = IsOther (all_with choice of.items) (all_with choice wanted.items) notes place
+ShowsBy choice _ _ _ = ⊥
 
--- a judgement of a rule: that it holds, or that it doesn't, and what shows it
+-- a judgement of a rule, if its letters stand for these pipes: that it holds, or that it doesn't, and what shows it
+abbrev pub IsJudgedBy : Choice → Rule → List Note → Judgement → Type 0
+IsJudgedBy choice rule notes Holds = HoldsBy choice rule notes
+IsJudgedBy choice rule notes judgement = (¬ (HoldsBy choice rule notes)) × ShowsBy choice rule notes judgement
+
+-- it is one of some choice of pipes
+abbrev pub IsOfAChoice : Rule → List Note → Judgement → Type 0
+IsOfAChoice rule notes judgement = (choice : Choice) × (is_choice choice ≡ true) × IsJudgedBy choice rule notes judgement
+
+-- a judgement of a rule: that it holds, or that it doesn't, and what shows it for some choice of pipes
 abbrev pub IsJudged : Rule → List Note → Judgement → Type 0
 IsJudged rule notes Holds = HoldsOf rule notes
-IsJudged rule notes judgement = (¬ (HoldsOf rule notes)) × Shows rule notes judgement
+IsJudged rule notes judgement = (¬ (HoldsOf rule notes)) × IsOfAChoice rule notes judgement
 
 -- a judgement says that the rule holds
 abbrev pub is_holding : Judgement → Bool

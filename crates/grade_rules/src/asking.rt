@@ -1,9 +1,11 @@
 //! What a call has to be given.
 ghost use Rattle.std.specs.Prelude.{◌≡◌};
+ghost use Rattle.grade_rules.specs.Choices.{asking_with};
 ghost use Rattle.grade_rules.specs.Givens.{is_same, names, takes};
 
 use crate::given::{Given, Thing};
 use crate::numbers::Numbers;
+use crate::pipes::{Choice, Pipes};
 
 /// What a descriptor may name.
 #[derive(Clone, Copy)]
@@ -26,6 +28,8 @@ pub struct Asking {
     pub byte: Numbers,
     /// What the descriptor in the first argument may name.
     pub on: Things,
+    /// Which pipe that may be an end of.
+    pub pipe: Pipes,
 }
 
 impl Thing {
@@ -65,6 +69,7 @@ impl Asking {
         third: Numbers::Any,
         byte: Numbers::Any,
         on: Things::Any,
+        pipe: Pipes::Any,
     };
 
     /// Whether a call that was given this is meant.
@@ -76,5 +81,16 @@ impl Asking {
             && self.third.has(given.third)
             && self.byte.has(given.byte)
             && self.on.names(given.on)
+            && self.pipe.is_pipe(given.pipe)
+    }
+
+    /// What is meant by a choice of pipes.
+    pub fn with(&self, choice: &Choice) -> Asking
+        ensures { result ≡ asking_with choice.now self.now }
+    {
+        Asking {
+            pipe: self.pipe.with(choice),
+            ..*self
+        }
     }
 }

@@ -27,4 +27,7 @@ pub struct Given {
     pub byte: i64,
     /// What the descriptor in the first argument names.
     pub on: Thing,
+    /// Which of the run's pipes that is an end of: they are numbered from 1 on, in the order in which they were made. 0 if
+    /// it is no pipe's end.
+    pub pipe: u64,
 }

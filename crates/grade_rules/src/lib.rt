@@ -14,6 +14,7 @@ mod note;
 mod numbers;
 mod order;
 mod pattern;
+mod pipes;
 mod rule;
 mod sequence;
 
@@ -24,6 +25,7 @@ pub use given::{Given, Thing};
 pub use note::Note;
 pub use numbers::Numbers;
 pub use order::{Edge, Order, arrange};
-pub use pattern::{Pattern, fits_any};
+pub use pattern::{Pattern, fits_any, has_letters};
+pub use pipes::{Choice, Letter, Pipes};
 pub use rule::{Judgement, Rule, judge};
 pub use sequence::first_other;

@@ -1,10 +1,14 @@
 //! Which notes are meant.
-ghost use Rattle.std.specs.Prelude.{◌≡◌};
+ghost use Rattle.std.specs.Prelude.{◌≡◌, map, IfOk};
+ghost use Rattle.std.specs.List.{list_any};
+ghost use Rattle.grade_rules.specs.Choices.{has_letter, pattern_with};
 ghost use Rattle.grade_rules.specs.Patterns.{fits, fits_one_of};
 
 use crate::asking::Asking;
 use crate::note::Note;
 use crate::numbers::Numbers;
+use crate::pipes::Choice;
+use std::alloc::{AllocError, Global};
 
 /// Which notes are meant. All other notes are none of them.
 #[derive(Clone, Copy)]
@@ -118,6 +122,43 @@ impl Pattern {
             Pattern::Faulted { pid, cause } => fits_fault(&pid, &cause, note),
         }
     }
+
+    /// Whether it names a pipe by a letter.
+    pub fn has_letter(&self) -> bool
+        ensures { result ≡ has_letter self.now }
+    {
+        match *self {
+            Pattern::Called { given, .. } | Pattern::Blocked { given, .. } => {
+                given.pipe.is_letter()
+            }
+            _ => false,
+        }
+    }
+
+    /// What it says by a choice of pipes: for each letter the pipe that it stands for.
+    pub fn with(&self, choice: &Choice) -> Pattern
+        ensures { result ≡ pattern_with choice.now self.now }
+    {
+        match *self {
+            Pattern::Called {
+                pid,
+                number,
+                answer,
+                given,
+            } => Pattern::Called {
+                pid,
+                number,
+                answer,
+                given: given.with(choice),
+            },
+            Pattern::Blocked { pid, number, given } => Pattern::Blocked {
+                pid,
+                number,
+                given: given.with(choice),
+            },
+            pattern => pattern,
+        }
+    }
 }
 
 /// Whether one of the patterns fits the note.
@@ -125,4 +166,30 @@ pub fn fits_any(patterns: &[Pattern], note: Note) -> bool
     ensures { result ≡ fits_one_of patterns.now note }
 {
     patterns.iter().any(|pattern| pattern.fits(note))
+}
+
+/// Whether one of the patterns names a pipe by a letter.
+pub fn has_letters(patterns: &[Pattern]) -> bool
+    ensures { result ≡ list_any has_letter patterns.now }
+{
+    patterns.iter().any(|pattern| pattern.has_letter())
+}
+
+/// What the patterns say by a choice of pipes.
+///
+/// # Errors
+///
+/// [`AllocError`] if the host has too little memory.
+pub fn patterns_with(
+    alloc: Global,
+    choice: &Choice,
+    patterns: &[Pattern],
+) -> Result<Vec<Pattern>, AllocError>
+    ensures { IfOk result (λ those. those.items ≡ map (pattern_with choice.now) patterns.now) }
+{
+    let mut those = Vec::new(alloc);
+    for pattern in patterns {
+        those.push(pattern.with(choice))?;
+    }
+    Ok(those)
 }

@@ -2,11 +2,13 @@
 use Rattle.grade_sheets.proofs.Prelude.{codes, None, refl, Some, ◌≡◌, ◌^◌}
 use Rattle.std.specs.Prelude.{pos, negsuc, ◌-◌}
 use Rattle.grade_rules.specs.declared.asking.Things.TheVariants as things
-use Rattle.grade_rules.specs.declared.given.Thing.TheVariants.{ReadEnd}
+use Rattle.grade_rules.specs.declared.given.Thing.TheVariants.{ReadEnd, WriteEnd}
 use Rattle.grade_rules.specs.declared.numbers.Numbers.TheVariants.{Any, Within, Either, Not}
+use Rattle.grade_rules.specs.declared.pipes.Letter.TheVariants.{B}
+use Rattle.grade_rules.specs.declared.pipes.Pipes.TheVariants as pipes
 use Rattle.grade_rules.specs.declared.pattern.Pattern.TheVariants.{Turn, Called, Blocked, Exited}
 use Rattle.kernel_calls.specs.Table.{call_named}
-use Rattle.grade_sheets.specs.Notation.{anything, argument_of, integer_of, numbers_of, only, pattern_of}
+use Rattle.grade_sheets.specs.Notation.{anything, argument_of, first_of, integer_of, numbers_of, only, pattern_of}
 
 -- ---- numbers
 
@@ -94,12 +96,13 @@ no_kind = refl
 
 -- ---- what a call was given: words at the end may be left out, and the first may name a thing
 on_a_pipe : pattern_of (codes "call 1 read 0 given read-end * >0")
-    ≡ Some (Called (only (pos 1)) (only (pos 5)) (only (pos 0)) (record { first = Any; second = Any; third = Within (pos 1) (pos (2 ^ 63 - 1)); byte = Any; on = things.Only ReadEnd }))
+    ≡ Some (Called (only (pos 1)) (only (pos 5)) (only (pos 0))
+    (record { first = Any; second = Any; third = Within (pos 1) (pos (2 ^ 63 - 1)); byte = Any; on = things.Only ReadEnd; pipe = pipes.Any }))
 unfolding numbers_of call_named
 on_a_pipe = refl
 
 not_on_one : pattern_of (codes "block * read given !read-end")
-    ≡ Some (Blocked Any (only (pos 5)) (record { first = Any; second = Any; third = Any; byte = Any; on = things.Not ReadEnd }))
+    ≡ Some (Blocked Any (only (pos 5)) (record { first = Any; second = Any; third = Any; byte = Any; on = things.Not ReadEnd; pipe = pipes.Any }))
 unfolding numbers_of call_named
 not_on_one = refl
 
@@ -115,3 +118,23 @@ five_given = refl
 given_to_a_turn : pattern_of (codes "turn 1 given 1") ≡ None
 unfolding numbers_of call_named
 given_to_a_turn = refl
+
+-- ---- which pipe is meant, by a letter or by its number
+by_a_letter : first_of (Some (codes "write-end@b")) ≡ Some (record { numbers = Any; on = things.Only WriteEnd; pipe = pipes.Called B })
+by_a_letter = refl
+
+by_its_number : first_of (Some (codes "read-end@12")) ≡ Some (record { numbers = Any; on = things.Only ReadEnd; pipe = pipes.Only 12 })
+by_its_number = refl
+
+from_one_on : first_of (Some (codes "read-end@0")) ≡ None
+from_one_on = refl
+
+three_letters : first_of (Some (codes "read-end@d")) ≡ None
+three_letters = refl
+
+-- all but one pipe can't be asked for, nor which console
+no_other_pipe : first_of (Some (codes "!read-end@a")) ≡ None
+no_other_pipe = refl
+
+no_console : first_of (Some (codes "console@1")) ≡ None
+no_console = refl

@@ -1,5 +1,5 @@
 -- How an exercise writes which notes it asks for: as a line of a trace, in which a number may be left open, and behind the word `given` what a call has to be given. A text stands for a pattern, or for none.
-use Rattle.std.specs.Prelude.{ℕ, ◌+◌, ◌-◌, ◌^◌, ◌+ℤ◌, ◌==◌, ◌&&◌, ℤ, pos, negsuc, int_le, int_lt, nat_le, nat_lt, Bool, if◌then◌else◌, List, [], ◌∷◌, ◌++◌, length, take, drop, slice_get, slice_index, codes, bytes_eq}
+use Rattle.std.specs.Prelude.{ℕ, ◌+◌, ◌-◌, ◌^◌, ◌+ℤ◌, ◌==◌, ◌&&◌, ℤ, pos, negsuc, int_le, int_lt, nat_le, nat_lt, Bool, if◌then◌else◌, List, [], ◌∷◌, ◌++◌, length, take, drop, slice_get, slice_index, unsigned_abs, codes, bytes_eq}
 use Rattle.std.specs.Prelude.{Option, None, Some}
 use Rattle.std.specs.Char.{is_ascii_alphabetic}
 use Rattle.std.specs.List.{list_any, before_first, after_first, position, slice_split}
@@ -14,6 +14,9 @@ use Rattle.grade_rules.specs.declared.given.Thing.{Thing}
 use Rattle.grade_rules.specs.declared.given.Thing.TheVariants.{Nothing, Console, File, ReadEnd, WriteEnd}
 use Rattle.grade_rules.specs.declared.numbers.Numbers.{Numbers}
 use Rattle.grade_rules.specs.declared.numbers.Numbers.TheVariants.{Any, Within, Either, Not}
+use Rattle.grade_rules.specs.declared.pipes.Letter.TheVariants.{A, B, C}
+use Rattle.grade_rules.specs.declared.pipes.Pipes.{Pipes}
+use Rattle.grade_rules.specs.declared.pipes.Pipes.TheVariants as pipes
 use Rattle.grade_rules.specs.declared.pattern.Pattern.{Pattern}
 use Rattle.grade_rules.specs.declared.pattern.Pattern.TheVariants.{Turn, Called, Blocked, Exited, Faulted}
 use Rattle.grade_sheets.specs.Numbers.{is_numeral}
@@ -137,7 +140,7 @@ numbers_of word =
 
 -- whatever a call was given
 abbrev pub anything : Asking
-anything = record { first = Any; second = Any; third = Any; byte = Any; on = things.Any }
+anything = record { first = Any; second = Any; third = Any; byte = Any; on = things.Any; pipe = pipes.Any }
 
 -- a line of a kind and one number, of two numbers, of three
 abbrev pub pattern_of_one : (kind : List ℕ) → Numbers → Option Pattern
@@ -161,13 +164,16 @@ pattern_of_line _ = None
 
 -- ---- what a call has to be given
 
+-- the end of a pipe that a word names
+abbrev pub end_of : List ℕ → Option Thing
+end_of word = if is_word (codes "read-end") word then Some ReadEnd else (if is_word (codes "write-end") word then Some WriteEnd else None)
+
 -- the thing that a word names
 abbrev pub thing_of : List ℕ → Option Thing
 thing_of word =
     if is_word (codes "nothing") word then Some Nothing
     else (if is_word (codes "console") word then Some Console
-    else (if is_word (codes "file") word then Some File
-    else (if is_word (codes "read-end") word then Some ReadEnd else (if is_word (codes "write-end") word then Some WriteEnd else None))))
+    else (if is_word (codes "file") word then Some File else end_of word))
 
 abbrev pub only_thing : Option Thing → Option Things
 only_thing None = None
@@ -190,19 +196,38 @@ abbrev pub argument_if : Option (List ℕ) → Option Numbers
 argument_if None = Some Any
 argument_if (Some word) = argument_of word
 
-abbrev pub first_on : Option Things → (numbers : Option Numbers) → Option First
-first_on (Some on) numbers = Some (record { numbers = Any; on = on })
-first_on None None = None
-first_on None (Some numbers) = Some (record { numbers = numbers; on = things.Any })
+-- the pipe of a number from 1 on
+abbrev pub numbered : Option ℤ → Option Pipes
+numbered None = None
+numbered (Some number) = if int_le (pos 1) number then Some (pipes.Only (unsigned_abs number)) else None
 
--- the first argument: what a descriptor has to name, or numbers
+-- which pipe a word means: one by a letter, or by its number
+abbrev pub pipe_of : List ℕ → Option Pipes
+pipe_of word =
+    if is_word (codes "a") word then Some (pipes.Called A)
+    else (if is_word (codes "b") word then Some (pipes.Called B) else (if is_word (codes "c") word then Some (pipes.Called C) else numbered (integer_of word)))
+
+-- an end of a pipe that is meant
+abbrev pub end_on : Option Thing → Option Pipes → Option First
+end_on (Some end) (Some pipe) = Some (record { numbers = Any; on = things.Only end; pipe = pipe })
+end_on _ _ = None
+
+abbrev pub first_on : Option Things → (numbers : Option Numbers) → Option First
+first_on (Some on) numbers = Some (record { numbers = Any; on = on; pipe = pipes.Any })
+first_on None None = None
+first_on None (Some numbers) = Some (record { numbers = numbers; on = things.Any; pipe = pipes.Any })
+
+-- the first argument: an end of one pipe, with @ (64) between them; what a descriptor has to name; or numbers
+abbrev pub first_word : List ℕ → Option First
+first_word word = if has_mark 64 word then end_on (end_of (before_mark 64 word)) (pipe_of (after_mark 64 word)) else first_on (things_of word) (argument_of word)
+
 abbrev pub first_of : Option (List ℕ) → Option First
 first_of None = None
-first_of (Some word) = first_on (things_of word) (argument_of word)
+first_of (Some word) = first_word word
 
 abbrev pub asking_with : Option First → (second third byte : Option Numbers) → Option Asking
 asking_with (Some first) (Some second) (Some third) (Some byte) =
-    Some (record { first = first.numbers; second = second; third = third; byte = byte; on = first.on })
+    Some (record { first = first.numbers; second = second; third = third; byte = byte; on = first.on; pipe = first.pipe })
 asking_with _ _ _ _ = None
 
 -- three arguments and the first byte of a write, of which those at the end may be left out

@@ -1,11 +1,11 @@
 //! Patterns as text: a line of a trace, with `*`, `!1`, `>=2`, `3..9` or `13|15` in place of a number, and what a call was
-//! given: `call 1 read 0 given read-end * >0`.
+//! given: `call 1 read 0 given read-end@a * >0`.
 ghost use Rattle.std.specs.Prelude.{◌≡◌, ◌<◌, ◌+◌, codes, slice_get, IfOk, IfNone, IfSome, true, false, map, drop, option_map};
 ghost use Rattle.std.specs.List.{list_any, position};
 ghost use Rattle.std.specs.Char.{is_ascii_alphabetic};
 ghost use Rattle.grade_sheets.specs.Notation as meant;
 
-use grade_rules::{Asking, Note, Numbers, Pattern, Thing, Things};
+use grade_rules::{Asking, Letter, Note, Numbers, Pattern, Pipes, Thing, Things};
 use kernel_calls::KernelCall;
 use std::alloc::{AllocError, Global};
 use std::fmt;
@@ -169,6 +169,17 @@ fn numbers(word: &str) -> Option<Numbers>
     only(word)
 }
 
+// The end of a pipe of a word.
+fn end(word: &str) -> Option<Thing>
+    ensures { result ≡ meant.end_of word.now }
+{
+    match word {
+        "read-end" => Some(Thing::ReadEnd),
+        "write-end" => Some(Thing::WriteEnd),
+        _ => None,
+    }
+}
+
 // The thing of a word.
 fn thing(word: &str) -> Option<Thing>
     ensures { result ≡ meant.thing_of word.now }
@@ -177,9 +188,7 @@ fn thing(word: &str) -> Option<Thing>
         "nothing" => Some(Thing::Nothing),
         "console" => Some(Thing::Console),
         "file" => Some(Thing::File),
-        "read-end" => Some(Thing::ReadEnd),
-        "write-end" => Some(Thing::WriteEnd),
-        _ => None,
+        _ => end(word),
     }
 }
 
@@ -233,22 +242,70 @@ struct First {
     numbers: Numbers,
     /// What the descriptor has to name that it is.
     on: Things,
+    /// Of which pipe that has to be an end.
+    pipe: Pipes,
 }
 
-// What the first argument has to be, by its word: things, or numbers.
-fn first_of(word: &str) -> Option<First>
-    ensures { result ≡ meant.first_of (Some word.now) }
+// The pipe of the number that a word is, from 1 on.
+fn numbered(word: &str) -> Option<Pipes>
+    ensures { result ≡ meant.numbered (meant.integer_of word.now) }
+{
+    let number = integer(word)?;
+    if number < 1 {
+        return None;
+    }
+    Some(Pipes::Only(number.unsigned_abs()))
+}
+
+// The pipe that a word means.
+fn pipe(word: &str) -> Option<Pipes>
+    ensures { result ≡ meant.pipe_of word.now }
+{
+    match word {
+        "a" => Some(Pipes::Called(Letter::A)),
+        "b" => Some(Pipes::Called(Letter::B)),
+        "c" => Some(Pipes::Called(Letter::C)),
+        _ => numbered(word),
+    }
+}
+
+// An end of a pipe, by the words before the mark and behind it.
+fn end_on(thing: &str, which: &str) -> Option<First>
+    ensures { result ≡ meant.end_on (meant.end_of thing.now) (meant.pipe_of which.now) }
+{
+    Some(First {
+        numbers: Numbers::Any,
+        on: Things::Only(end(thing)?),
+        pipe: pipe(which)?,
+    })
+}
+
+// Things, or numbers, that a word without the mark stands for.
+fn first_on(word: &str) -> Option<First>
+    ensures { result ≡ meant.first_on (meant.things_of word.now) (meant.argument_of word.now) }
 {
     if let Some(on) = things(word) {
         return Some(First {
             numbers: Numbers::Any,
             on,
+            pipe: Pipes::Any,
         });
     }
     Some(First {
         numbers: argument(word)?,
         on: Things::Any,
+        pipe: Pipes::Any,
     })
+}
+
+// What the first argument has to be, by its word: an end of one pipe, things, or numbers.
+fn first_of(word: &str) -> Option<First>
+    ensures { result ≡ meant.first_of (Some word.now) }
+{
+    match around_mark(word, '@') {
+        Some((thing, which)) => end_on(thing, which),
+        None => first_on(word),
+    }
 }
 
 // What the first of these words stands for as an argument.
@@ -275,6 +332,7 @@ fn asking(words: &[&str]) -> Option<Asking>
         third: argument_if_any(words, 2)?,
         byte: argument_if_any(words, 3)?,
         on: first.on,
+        pipe: first.pipe,
     })
 }
 
@@ -406,7 +464,8 @@ fn words_of(alloc: Global, text: &str) -> Result<Vec<&str>, AllocError>
 ///
 /// Behind a `call` or a `block` may stand `given`, and what the call has to be given: its three arguments, and the first
 /// byte of a write; those at the end may be left out. In place of the first may stand what that descriptor names: `nothing`,
-/// `console`, `file`, `read-end` or `write-end`, or `!` and one of them for all else. `None` for any other text.
+/// `console`, `file`, `read-end` or `write-end`, or `!` and one of them for all else. `read-end@2` is that of the second pipe
+/// that was made in the run, `read-end@a` of the one that the rule calls `a`. `None` for any other text.
 ///
 /// # Errors
 ///

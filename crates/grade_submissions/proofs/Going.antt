@@ -19,6 +19,7 @@ use Rattle.xv_machine.proofs.Reached.{reaches_on}
 use Rattle.xv_session.specs.Answers.{IsNew, Sent, RunsSent, stands}
 use Rattle.xv_session.specs.Recorded.{Recorded, IsRecorded}
 use Rattle.grade_submissions.specs.Givens.{given_in}
+use Rattle.grade_submissions.specs.Pipes.{made_of, none_made, pipes_after}
 use Rattle.grade_submissions.specs.Plays.{Told, runs_in, note_with, all_of, passed_notes, fault_after, fault_behind, nothing_noted, noted_with, noted_of, NotesGo}
 use Rattle.grade_submissions.specs.Plays.{told_of, told_with, told_by, told_runs, is_full, PlaysOn, PlaysFirst}
 use Rattle.grade_submissions.specs.declared.playing.Kept.{Kept}
@@ -73,13 +74,14 @@ module _ (e : Event) (o : Outcome) (old new : Played) (sent : Sent old.session e
   on-reached frames trace programs es reached = reaches_on frames trace programs es here old.session.machine new.session.machine reached
       (goes-one e o old.session.machine new.session.machine one.promised one.notes one.room one.frames one.sound)
 
-  pub plays-one : noted_of new ≡ noted_with old.session.machine.world o (noted_of old) → told_of new.kept ≡ told_with (told_of old.kept) (runs_in e) o
+  pub plays-one : noted_of new ≡ noted_with old.session.machine.world new.session.machine.world o (noted_of old) → told_of new.kept ≡ told_with (told_of old.kept) (runs_in e) o
       → new.kept.budget ≡ old.kept.budget → PlaysOn (e ∷ []) old new
   plays-one noted told same = record {
     list = here;
     those = refl;
     reaches = on-reached;
-    noted = notes-those old.session.machine.world new.session.machine.world here (noted_of old) (noted_with old.session.machine.world o (noted_of old)) (noted_of new) (sym noted)
+    noted = notes-those old.session.machine.world new.session.machine.world here (noted_of old) (noted_with old.session.machine.world new.session.machine.world o (noted_of old))
+        (noted_of new) (sym noted)
         (notes-one old.session.machine.world new.session.machine.world e o (noted_of old) one.promised);
     told = told;
     budget = same;
@@ -87,23 +89,29 @@ module _ (e : Event) (o : Outcome) (old new : Played) (sent : Sent old.session e
 
   -- it isn't Run
   pub plays-event : (place : ℕ) → runs_in e ≡ 0 → place ≡ length new.session.events - 1 → new.kept.notes.items ≡ old.kept.notes.items
-      → new.kept.fault ≡ fault_after old.kept.fault place o → told_of new.kept ≡ told_with (told_of old.kept) 0 o → new.kept.budget ≡ old.kept.budget → PlaysOn (e ∷ []) old new
-  plays-event place other last notes fault told same =
+      → new.kept.fault ≡ fault_after old.kept.fault place o → made_of new.kept.pipes ≡ made_of old.kept.pipes → told_of new.kept ≡ told_with (told_of old.kept) 0 o
+      → new.kept.budget ≡ old.kept.budget → PlaysOn (e ∷ []) old new
+  plays-event place other last notes fault pipes told same =
       let w = old.session.machine.world in
+      let t = new.session.machine.world in
+      let before = made_of old.kept.pipes in
       let quiet : IsNoteless o = other-noteless w new.session.machine.world e o other one.promised in
       plays-one
-      (noted-is (noted_of new) (noted_with w o (noted_of old)) (notes ∙ sym (ap (λ (x : Option Note). old.kept.notes.items ++ all_of x) (quiet.none (given_in w)) ∙ append-nil old.kept.notes.items))
-      (fault ∙ ap (λ (k : ℕ). fault_after old.kept.fault k o) (place-of old.session new.session e o place sent last)) (longer old.session new.session e o sent))
+      (noted-is (noted_of new) (noted_with w t o (noted_of old))
+      (notes ∙ sym (ap (λ (x : Option Note). old.kept.notes.items ++ all_of x) (quiet.none (given_in before w)) ∙ append-nil old.kept.notes.items))
+      (fault ∙ ap (λ (k : ℕ). fault_after old.kept.fault k o) (place-of old.session new.session e o place sent last)) (longer old.session new.session e o sent)
+      (pipes ∙ sym (quiet.pipeless (given_in before w) t before)))
       (told ∙ ap (λ (n : ℕ). told_with (told_of old.kept) n o) (sym other)) same
 
 -- a Run, of the machine before which the note tells
 pub plays-run : (o : Outcome) (place : ℕ) (old new : Played) → Sent old.session Run o new.session → place ≡ length new.session.events - 1
-    → new.kept.notes.items ≡ old.kept.notes.items ++ all_of (note_with (given_in old.session.machine.world) o) → new.kept.fault ≡ fault_after old.kept.fault place o
+    → new.kept.notes.items ≡ old.kept.notes.items ++ all_of (note_with (given_in (made_of old.kept.pipes) old.session.machine.world) o) → new.kept.fault ≡ fault_after old.kept.fault place o
+    → made_of new.kept.pipes ≡ pipes_after (given_in (made_of old.kept.pipes) old.session.machine.world) new.session.machine.world o (made_of old.kept.pipes)
     → told_of new.kept ≡ told_with (told_of old.kept) 1 o → new.kept.budget ≡ old.kept.budget → PlaysOn (Run ∷ []) old new
-plays-run o place old new sent last notes fault told same =
+plays-run o place old new sent last notes fault pipes told same =
     plays-one Run o old new sent
-    (noted-is (noted_of new) (noted_with old.session.machine.world o (noted_of old)) notes
-    (fault ∙ ap (λ (k : ℕ). fault_after old.kept.fault k o) (place-of old.session new.session Run o place sent last)) (longer old.session new.session Run o sent)) told same
+    (noted-is (noted_of new) (noted_with old.session.machine.world new.session.machine.world o (noted_of old)) notes
+    (fault ∙ ap (λ (k : ℕ). fault_after old.kept.fault k o) (place-of old.session new.session Run o place sent last)) (longer old.session new.session Run o sent) pipes) told same
 
 -- so many Runs were sent
 more-events : (made : ℕ) (old new : Played) → new.session ≡ stands old.session (old.session.events ++ replicate made Run) new.session.machine new.session.names
@@ -113,11 +121,12 @@ more-events made old new stays =
 
 -- instructions that are done
 pub plays-instructions : (made : ℕ) (old new : Played) → RunsSent made made None old.session new.session → new.kept.notes.items ≡ old.kept.notes.items → new.kept.fault ≡ old.kept.fault
-    → ((p : ℕ) → told_of new.kept ≡ told_by (told_of old.kept) (replicate made (done_by p))) → new.kept.budget ≡ old.kept.budget → PlaysOn (replicate made Run) old new
-plays-instructions made old new (are, stays) notes fault told same =
+    → made_of new.kept.pipes ≡ made_of old.kept.pipes → ((p : ℕ) → told_of new.kept ≡ told_by (told_of old.kept) (replicate made (done_by p))) → new.kept.budget ≡ old.kept.budget → PlaysOn
+    (replicate made Run) old new
+plays-instructions made old new (are, stays) notes fault pipes told same =
     let w = old.session.machine.world in
     let v = new.session.machine.world in
-    let noted : noted_of new ≡ later (noted_of old) made = noted-is (noted_of new) (later (noted_of old) made) notes fault (more-events made old new stays) in
+    let noted : noted_of new ≡ later (noted_of old) made = noted-is (noted_of new) (later (noted_of old) made) notes fault (more-events made old new stays) pipes in
     let p = or_zero w.turns.current in record {
       list = are.list;
       those = are.those;
@@ -133,24 +142,25 @@ plays-instructions made old new (are, stays) notes fault told same =
 pub plays-still : (made : ℕ) (old new : Played) → RunsSent made made None old.session new.session → made ≡ 0 → new.kept ≡ old.kept → PlaysOn [] old new
 plays-still made old new are none same =
     plays-those (replicate made Run) [] old new (ap (λ (n : ℕ). replicate n Run) none)
-    (plays-instructions made old new are (ap (λ (k : Kept). k.notes.items) same) (ap (λ (k : Kept). k.fault) same)
+    (plays-instructions made old new are (ap (λ (k : Kept). k.notes.items) same) (ap (λ (k : Kept). k.fault) same) (ap (λ (k : Kept). made_of k.pipes) same)
     (λ p. ap told_of same ∙ ap (λ (n : ℕ). told_by (told_of old.kept) (replicate n (done_by p))) (sym none)) (ap (λ (k : Kept). k.budget) same))
 
 -- some
 pub plays-done : (made : ℕ) (old new : Played) → RunsSent made made None old.session new.session → 0 < made → new.kept.notes.items ≡ old.kept.notes.items → new.kept.fault ≡ old.kept.fault
-    → told_of new.kept ≡ told_runs (told_of old.kept) made None → new.kept.budget ≡ old.kept.budget → PlaysOn (replicate made Run) old new
-plays-done made old new are some notes fault told same = plays-instructions made old new are notes fault (λ p. told ∙ sym (done-told made p (told_of old.kept) some)) same
+    → made_of new.kept.pipes ≡ made_of old.kept.pipes → told_of new.kept ≡ told_runs (told_of old.kept) made None → new.kept.budget ≡ old.kept.budget → PlaysOn (replicate made Run) old new
+plays-done made old new are some notes fault pipes told same = plays-instructions made old new are notes fault pipes (λ p. told ∙ sym (done-told made p (told_of old.kept) some)) same
 
 -- Runs as nobody runs
 pub plays-passed : (most sent place : ℕ) (last : Option Outcome) (old new : Played) → 0 < most → old.session.machine.world.turns.current ≡ None → RunsSent most sent last old.session new.session
     → place ≡ length new.session.events - 1 → new.kept.notes.items ≡ old.kept.notes.items ++ passed_notes last → new.kept.fault ≡ fault_behind old.kept.fault place last
-    → told_of new.kept ≡ told_runs (told_of old.kept) sent last → new.kept.budget ≡ old.kept.budget → PlaysOn (replicate sent Run) old new × (0 < sent) × (sent ≤ most)
-plays-passed most sent place last old new some nobody (made, stays) at notes fault told same =
+    → made_of new.kept.pipes ≡ made_of old.kept.pipes → told_of new.kept ≡ told_runs (told_of old.kept) sent last → new.kept.budget ≡ old.kept.budget → PlaysOn (replicate sent Run) old new
+    × (0 < sent) × (sent ≤ most)
+plays-passed most sent place last old new some nobody (made, stays) at notes fault pipes told same =
     let w = old.session.machine.world in
     let long = more-events sent old new stays in
     let there : place ≡ length old.session.events + sent - 1 = omega (arith, at, long) in
     let noted : noted_of new ≡ passed_with (noted_of old) sent last =
-    noted-is (noted_of new) (passed_with (noted_of old) sent last) notes (fault ∙ ap (λ (k : ℕ). fault_behind old.kept.fault k last) there) long in
+    noted-is (noted_of new) (passed_with (noted_of old) sent last) notes (fault ∙ ap (λ (k : ℕ). fault_behind old.kept.fault k last) there) long pipes in
     let is = runs-told most sent _ last made.list (told_of old.kept) some made.runs_are made.those in (
       record {
         list = made.list;
@@ -223,6 +233,6 @@ booted-noted frames trace programs m (booted, is, count, sound, empty, goes) = i
 
 -- nothing is noted yet
 pub booted-blank : (frames trace : ℕ) (programs : List ProgramFile) (s : Recorded) (p : Played) → IsNew frames trace programs s → p.session ≡ s → p.kept.notes.items ≡ [] → p.kept.fault ≡ None
-    → noted_of p ≡ nothing_noted
-booted-blank frames trace programs s p new is notes fault =
-    noted-is (noted_of p) nothing_noted notes fault (ap (λ (r : Recorded). length r.events) is ∙ ap length new.events)
+    → made_of p.kept.pipes ≡ none_made → noted_of p ≡ nothing_noted
+booted-blank frames trace programs s p new is notes fault pipes =
+    noted-is (noted_of p) nothing_noted notes fault (ap (λ (r : Recorded). length r.events) is ∙ ap length new.events) pipes

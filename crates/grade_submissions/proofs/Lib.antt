@@ -4,9 +4,12 @@ pub mod Going
 pub mod Working
 pub mod Counting
 pub mod Planning
+pub mod Decoding
 pub mod Handed
 pub mod Making
 pub mod Collecting
 mod Worked
+mod WorkedEncodings
 mod WorkedFaults
 mod WorkedGivens
+mod WorkedPipes

@@ -6,7 +6,8 @@ use Rattle.grade_rules.specs.declared.ending.End.TheVariants as ends
 use Rattle.kernel_spec.specs.runs.Run.{Run, Tick, Sent, Idle}
 use Rattle.grade_submissions.specs.declared.disk.Found.TheVariants.{Nothing, NoFile}
 use Rattle.grade_submissions.specs.declared.submission.HandedIn.TheVariants.{Refused}
-use Rattle.grade_submissions.specs.Files.{path_in, without_mark, without_returns, speaks_of, no_file_text, IsFolderOf, IsFoundAs, IsLastPart}
+use Rattle.grade_submissions.specs.Encodings.{without_mark}
+use Rattle.grade_submissions.specs.Files.{path_in, without_returns, speaks_of, no_file_text, IsFolderOf, IsFoundAs, IsLastPart}
 use Rattle.grade_submissions.specs.Plays.{sending_after, runs_among, waiting}
 
 -- a file `b` in the folder `a`

@@ -3,6 +3,7 @@ use Rattle.std.specs.Prelude.{◌≡◌, [], ◌∷◌, None, Some, pos, refl}
 use Rattle.xk_base.specs.declared.access.Cause.{Cause}
 use Rattle.kernel_spec.specs.runs.Run.{World, Run, Step_of, Turn, Idle, Ticked}
 use Rattle.kernel_spec.specs.steps.Own.{Exited, Faulted}
+use Rattle.grade_submissions.specs.Pipes.{none_made}
 use Rattle.grade_submissions.specs.Plays.{fault_after, fault_behind, nothing_noted, noted_with, last_came}
 
 -- the first fault is told, and another one of another process isn't
@@ -29,14 +30,14 @@ nobody_runs = refl
 -- ---- what is noted
 
 -- of a Run that was a fault, behind seven other events: its place is 7, and the next one's 8
-seventh : (w : World) (cause : Cause) → (noted_with w (Step_of 3 (Faulted cause)) (record { notes = []; fault = None; events = 7 })).fault ≡ Some 7
-seventh w cause = refl
+seventh : (w t : World) (cause : Cause) → (noted_with w t (Step_of 3 (Faulted cause)) (record { notes = []; fault = None; events = 7; pipes = none_made })).fault ≡ Some 7
+seventh w t cause = refl
 
-next : (w : World) → (noted_with w Ticked (record { notes = []; fault = Some 7; events = 8 })) ≡ record { notes = []; fault = Some 7; events = 9 }
-next w = refl
+next : (w t : World) → (noted_with w t Ticked (record { notes = []; fault = Some 7; events = 8; pipes = none_made })) ≡ record { notes = []; fault = Some 7; events = 9; pipes = none_made }
+next w t = refl
 
-first_event : (w : World) (cause : Cause) → (noted_with w (Step_of 1 (Faulted cause)) nothing_noted).fault ≡ Some 0
-first_event w cause = refl
+first_event : (w t : World) (cause : Cause) → (noted_with w t (Step_of 1 (Faulted cause)) nothing_noted).fault ≡ Some 0
+first_event w t cause = refl
 
 -- ---- the last event
 

@@ -10,7 +10,8 @@ use Rattle.kernel_calls.specs.declared.argument.Argument.TheVariants as argument
 use Rattle.grade_rules.specs.declared.given.Given.{Given}
 use Rattle.grade_rules.specs.declared.given.Thing.TheVariants.{Nothing, File, ReadEnd, WriteEnd}
 use Rattle.grade_rules.specs.declared.note.Note.TheVariants as note
-use Rattle.grade_submissions.specs.Givens.{argument_of, taken, thing_of, thing_named, thing_given, byte_or_none, nothing_given, given_by}
+use Rattle.grade_submissions.specs.Givens.{argument_of, taken, thing_of, thing_on, target_named, target_given, byte_or_none, nothing_given, given_by}
+use Rattle.grade_submissions.specs.Pipes.{Made}
 use Rattle.grade_submissions.specs.Plays.{note_with}
 
 -- close takes a descriptor, and nothing else; no call has number 99
@@ -50,15 +51,18 @@ of_a_file : thing_of (target.Program 0 512) ≡ File
 of_a_file = refl
 
 -- a process has descriptors 0 to 31
-too_high : (s : State) (p : ℕ) → thing_named s p (pos 32) ≡ Nothing
+too_high : (s : State) (p : ℕ) → target_named s p (pos 32) ≡ None
 too_high s p = refl
 
-below_zero : (s : State) (p : ℕ) → thing_named s p (negsuc 0) ≡ Nothing
+below_zero : (s : State) (p : ℕ) → target_named s p (negsuc 0) ≡ None
 below_zero s p = refl
 
 -- a status is no descriptor, whatever number it is
-no_descriptor : (s : State) (p : ℕ) → thing_given s p (Some argument.ExitStatus) 1 ≡ Nothing
+no_descriptor : (s : State) (p : ℕ) → target_given s p (Some argument.ExitStatus) 1 ≡ None
 no_descriptor s p = refl
+
+of_nothing : thing_on None ≡ Nothing
+of_nothing = refl
 
 -- a letter, and none
 a_letter : byte_or_none (Some 65) ≡ pos 65
@@ -68,8 +72,8 @@ no_letter : byte_or_none None ≡ negsuc 0
 no_letter = refl
 
 -- nobody gives nothing
-nobody : (w : World) → given_by w None ≡ nothing_given
-nobody w = refl
+nobody : (made : Made) (w : World) → given_by made w None ≡ nothing_given
+nobody made w = refl
 
 -- the note of a call, and of a sleep in one, has what it was given; an instruction has no note
 of_a_call : (given : Given) → note_with given (Step_of 2 (Called (pos 5) (pos 0))) ≡ Some (note.Called 2 (pos 5) (pos 0) given)

@@ -1,5 +1,5 @@
 -- Which files a run is made of, and what was handed in.
-use Rattle.std.specs.Prelude.{◌≡◌, ◌≢◌, ◌⊎◌, ◌==◌, ℕ, ◌<◌, Bool, not, if◌then◌else◌, List, [], ◌∷◌, ◌++◌, length, slice_index, map, filter, drop, eqb, codes, string_bytes, Option, None, Some, String}
+use Rattle.std.specs.Prelude.{◌≡◌, ◌≢◌, ◌⊎◌, ◌==◌, ℕ, ◌<◌, Bool, not, List, [], ◌∷◌, ◌++◌, length, slice_index, map, filter, eqb, codes, string_bytes, Option, None, Some, String}
 use Rattle.std.specs.declared.alloc.Global.{Global}
 use Rattle.std.specs.List.{find, starts_with, concat}
 use Rattle.std.specs.Str.{IsUtf8}
@@ -11,6 +11,7 @@ use Rattle.program_files.specs.declared.refusal.FileRefusal.{FileRefusal}
 use Rattle.program_files.specs.declared.refusal.FileRefusal.TheVariants.{OutOfMemory}
 use Rattle.xk_base.specs.declared.program.Program.{Program}
 use Rattle.grade_submissions.specs.Disks.{Reads}
+use Rattle.grade_submissions.specs.Encodings.{plain_bytes}
 use Rattle.grade_submissions.specs.declared.disk.Found.{Found}
 use Rattle.grade_submissions.specs.declared.disk.Found.TheVariants as found
 use Rattle.grade_submissions.specs.declared.submission.HandedIn.{HandedIn}
@@ -66,10 +67,6 @@ text_file text = record { name = string_bytes text.name; bytes = string_bytes te
 
 -- ---- a file that is handed in
 
--- bytes without a byte order mark before them
-abbrev pub without_mark : List ℕ → List ℕ
-without_mark bytes = if starts_with eqb bytes (0xef ∷ 0xbb ∷ 0xbf ∷ []) then drop 3 bytes else bytes
-
 abbrev pub is_return : ℕ → Bool
 is_return byte = byte == 13
 
@@ -118,12 +115,17 @@ abbrev pub IsGiven : (file bytes : List ℕ) → Option HandedIn → Type 0
 IsGiven file bytes (Some h) = IsTakenAs file bytes h
 IsGiven file bytes None = ⊥
 
+-- if these are its bytes in UTF-8; none if it begins as UTF-16, and isn't
+abbrev pub IsReadAs : (file : List ℕ) → (plain : Option (List ℕ)) → Option HandedIn → Type 0
+IsReadAs file (Some bytes) o = IsGiven file bytes o
+IsReadAs file None o = IsRefusedAs (unfit_text file (codes "begins as a text of UTF-16, and isn't one")) o
+
 -- what is handed in under this name, if a look at it finds this: nothing if nothing is there
 abbrev pub IsFoundAs : (file : List ℕ) → Found → Option HandedIn → Type 0
 IsFoundAs file found.Nothing o = o ≡ None
 IsFoundAs file found.NoFile o = IsRefusedAs (unfit_text file (codes "not a plain file")) o
 IsFoundAs file found.TooLong o = IsRefusedAs (unfit_text file (codes "too long")) o
-IsFoundAs file (found.File bytes) o = IsGiven file (without_mark bytes.items) o
+IsFoundAs file (found.File bytes) o = IsReadAs file (plain_bytes bytes.items) o
 
 -- ---- the files that may be handed in
 

@@ -1,5 +1,5 @@
 -- What a kernel call was given, told of the machine before a step of it (RISC-V Calling Conventions, "Integer Register Convention"; the xv6 book, "Operating system interfaces").
-use Rattle.std.specs.Prelude.{ℕ, ℤ, pos, negsuc, ◌&&◌, if◌then◌else◌, int_le, nat_lt, slice_get, option_map, Option, None, Some}
+use Rattle.std.specs.Prelude.{ℕ, ℤ, pos, negsuc, ◌&&◌, if◌then◌else◌, int_le, nat_lt, slice_get, Option, None, Some}
 use Rattle.std.specs.Int.{cast_signed, w64}
 use Rattle.std.specs.Ordering.{int_eq}
 use Rattle.xk_base.specs.declared.limits.TheConstants.{NOFILE}
@@ -25,6 +25,7 @@ use Rattle.call_reasons.specs.declared.asked.Asked.{Asked}
 use Rattle.grade_rules.specs.declared.given.Given.{Given}
 use Rattle.grade_rules.specs.declared.given.Thing.{Thing}
 use Rattle.grade_rules.specs.declared.given.Thing.TheVariants.{Nothing, Console, File, ReadEnd, WriteEnd}
+use Rattle.grade_submissions.specs.Pipes.{Made, number_on}
 
 -- ---- arguments
 
@@ -63,19 +64,24 @@ thing_of target.Console = Console
 thing_of (target.Program program offset) = File
 thing_of (target.Pipe pipe end) = end_thing end
 
-abbrev pub thing_on : Option Descriptor → Thing
+abbrev pub thing_on : Option Target → Thing
 thing_on None = Nothing
-thing_on (Some descriptor) = thing_of descriptor.open_file.target
+thing_on (Some target) = thing_of target
+
+-- what a descriptor names
+abbrev pub target_on : Option Descriptor → Option Target
+target_on None = None
+target_on (Some descriptor) = Some descriptor.open_file.target
 
 -- what a number names as a descriptor of process p
-abbrev pub thing_named : State → (p : ℕ) → ℤ → Thing
-thing_named s p (pos d) = if nat_lt d NOFILE then thing_on (descriptor_of s p d) else Nothing
-thing_named s p (negsuc k) = Nothing
+abbrev pub target_named : State → (p : ℕ) → ℤ → Option Target
+target_named s p (pos d) = if nat_lt d NOFILE then target_on (descriptor_of s p d) else None
+target_named s p (negsuc k) = None
 
 -- what the first argument of a call names, if that is a descriptor
-abbrev pub thing_given : State → (p : ℕ) → Option Argument → (register : ℕ) → Thing
-thing_given s p (Some argument.Descriptor) register = thing_named s p (c_int register)
-thing_given s p _ register = Nothing
+abbrev pub target_given : State → (p : ℕ) → Option Argument → (register : ℕ) → Option Target
+target_given s p (Some argument.Descriptor) register = target_named s p (c_int register)
+target_given s p _ register = None
 
 -- ---- the first byte of a write
 
@@ -89,27 +95,28 @@ byte_given s p call = if int_eq call.number WRITE && int_le (pos 1) (c_int call.
 
 -- ---- all of it
 
-abbrev pub given_to : State → (p : ℕ) → Asked → Given
-given_to s p call = record {
+abbrev pub given_to : Made → State → (p : ℕ) → Asked → Given
+given_to made s p call = record {
   first = taken (argument_of call.number 0) call.a0;
   second = taken (argument_of call.number 1) call.a1;
   third = taken (argument_of call.number 2) call.a2;
   byte = byte_given s p call;
-  on = thing_given s p (argument_of call.number 0) call.a0;
+  on = thing_on (target_given s p (argument_of call.number 0) call.a0);
+  pipe = number_on made (target_given s p (argument_of call.number 0) call.a0);
 }
 
 -- what is told where no call is
 abbrev pub nothing_given : Given
-nothing_given = record { first = pos 0; second = pos 0; third = pos 0; byte = negsuc 0; on = Nothing }
+nothing_given = record { first = pos 0; second = pos 0; third = pos 0; byte = negsuc 0; on = Nothing; pipe = 0 }
 
-abbrev pub given_if : State → (p : ℕ) → Option Asked → Given
-given_if s p None = nothing_given
-given_if s p (Some call) = given_to s p call
+abbrev pub given_if : Made → State → (p : ℕ) → Option Asked → Given
+given_if made s p None = nothing_given
+given_if made s p (Some call) = given_to made s p call
 
-abbrev pub given_by : World → Option ℕ → Given
-given_by w None = nothing_given
-given_by w (Some p) = given_if w.state p (asked_of w p)
+abbrev pub given_by : Made → World → Option ℕ → Given
+given_by made w None = nothing_given
+given_by made w (Some p) = given_if made w.state p (asked_of w p)
 
--- what the call of the process that runs was given: the call that it is in, with the arguments that it had at its first step; or, if it is in none, the one that its next instruction, if that is an ECALL, begins
-abbrev pub given_in : World → Given
-given_in w = given_by w w.turns.current
+-- what the call of the process that runs was given, in a run that has made these pipes: the call that it is in, with the arguments that it had at its first step; or, if it is in none, the one that its next instruction, if that is an ECALL, begins
+abbrev pub given_in : Made → World → Given
+given_in made w = given_by made w w.turns.current

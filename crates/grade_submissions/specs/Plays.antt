@@ -20,6 +20,7 @@ use Rattle.run_work.specs.declared.cost.Before.{Before}
 use Rattle.xv_machine.specs.Drives.{StopsInRound, done_by}
 use Rattle.xv_machine.specs.Reached.{IsReached}
 use Rattle.grade_submissions.specs.Givens.{given_in, nothing_given}
+use Rattle.grade_submissions.specs.Pipes.{Made, made_of, none_made, pipes_after}
 use Rattle.grade_submissions.specs.declared.playing.TheConstants.{NOTES_MAX, SHOWN_MAX}
 use Rattle.grade_submissions.specs.declared.playing.Kept.{Kept}
 use Rattle.grade_submissions.specs.declared.playing.Plan.{Plan}
@@ -44,9 +45,9 @@ note_with given (Typed echo) = None
 note_with given (Sent byte) = None
 note_with given Halted = None
 
--- the note of what came of an event, of the world before it
-abbrev pub note_of : World → Outcome → Option Note
-note_of w o = note_with (given_in w) o
+-- the note of what came of an event, of the world before it, in a run that has made these pipes
+abbrev pub note_of : Made → World → Outcome → Option Note
+note_of made w o = note_with (given_in made w) o
 
 abbrev pub all_of : Option Note → List Note
 all_of None = []
@@ -87,22 +88,29 @@ pub record Noted : Type 0 where
   pub fault : Option ℕ
   -- how many events there were: the place of the next one
   pub events : ℕ
+  -- the pipes that were made
+  pub pipes : Made
 
 abbrev pub nothing_noted : Noted
-nothing_noted = record { notes = []; fault = None; events = 0 }
+nothing_noted = record { notes = []; fault = None; events = 0; pipes = none_made }
 
--- behind an event of which this came: its note, of the world before it, stands behind those before, and the fault that is told has its place
-abbrev pub noted_with : World → Outcome → Noted → Noted
-noted_with w o n = record { notes = n.notes ++ all_of (note_of w o); fault = fault_after n.fault n.events o; events = n.events + 1 }
+-- behind an event, of which this came, from the world w to t: its note, of the world before it, stands behind those before, the fault that is told has its place, and a pipe that it made is the next one
+abbrev pub noted_with : (w t : World) → Outcome → Noted → Noted
+noted_with w t o n = record {
+  notes = n.notes ++ all_of (note_of n.pipes w o);
+  fault = fault_after n.fault n.events o;
+  events = n.events + 1;
+  pipes = pipes_after (given_in n.pipes w) t o n.pipes;
+}
 
 -- The world goes from w to t by these events, each as promised, and what is noted of them goes from `before` to `after`
 abbrev pub NotesGo : World → List (Event × Outcome) → World → (before after : Noted) → Type 0
 NotesGo w [] t before after = (t ≡ w) × (after ≡ before)
-NotesGo w (e ∷ es) t before after = (mid : World) × Promised w e.0 e.1 mid × NotesGo mid es t (noted_with w e.1 before) after
+NotesGo w (e ∷ es) t before after = (mid : World) × Promised w e.0 e.1 mid × NotesGo mid es t (noted_with w mid e.1 before) after
 
 -- what is noted of a run
 abbrev pub noted_of : Played → Noted
-noted_of p = record { notes = p.kept.notes.items; fault = p.kept.fault; events = length p.session.events }
+noted_of p = record { notes = p.kept.notes.items; fault = p.kept.fault; events = length p.session.events; pipes = made_of p.kept.pipes }
 
 -- ---- what is known behind each event
 

@@ -2,8 +2,10 @@
 ghost use Rattle.std.specs.Prelude.{◌≡◌};
 ghost use Rattle.kernel_spec.specs.views.Words.{c_int};
 ghost use Rattle.kcall_core.specs.Observers.{descriptor_of};
-ghost use Rattle.grade_submissions.specs.Givens.{argument_of, taken, end_thing, thing_of, thing_on, thing_named, thing_given, byte_or_none, byte_given, given_to, nothing_given, given_in};
+ghost use Rattle.grade_submissions.specs.Givens.{argument_of, taken, end_thing, thing_of, thing_on, target_on, target_named, target_given, byte_or_none, byte_given, given_to, nothing_given, given_in};
+ghost use Rattle.grade_submissions.specs.Pipes.{made_of};
 
+use crate::pipes::MadePipes;
 use call_reasons::{Asked, asked_of, c_int};
 use grade_rules::{Given, Thing};
 use kernel_calls::numbers::WRITE;
@@ -57,33 +59,48 @@ fn thing_of(target: &Target) -> Thing
     }
 }
 
-// What a descriptor of a live process names.
-fn thing_at(machine: &Machine, pid: Pid, fd: Fd) -> Thing
-    ensures { result ≡ thing_on (descriptor_of machine.now.world.state pid fd) }
+// What is named, as a thing.
+fn thing_on(target: &Option<Target>) -> Thing
+    ensures { result ≡ thing_on target.now }
 {
-    match machine.descriptor(pid, fd) {
-        Some(Descriptor { open_file, .. }) => thing_of(&open_file.target),
+    match target {
+        Some(target) => thing_of(target),
         None => Thing::Nothing,
     }
 }
 
+// What a descriptor of a live process names.
+fn target_at(machine: &Machine, pid: Pid, fd: Fd) -> Option<Target>
+    ensures { result ≡ target_on (descriptor_of machine.now.world.state pid fd) }
+{
+    match machine.descriptor(pid, fd) {
+        Some(Descriptor { open_file, .. }) => Some(open_file.target),
+        None => None,
+    }
+}
+
 // What a number names as a descriptor of a process.
-fn thing_named(machine: &Machine, pid: Pid, number: i32) -> Thing
-    ensures { result ≡ thing_named machine.now.world.state pid number }
+fn target_named(machine: &Machine, pid: Pid, number: i32) -> Option<Target>
+    ensures { result ≡ target_named machine.now.world.state pid number }
 {
     if number < 0 || number as usize >= NOFILE {
-        return Thing::Nothing;
+        return None;
     }
-    thing_at(machine, pid, Fd::new(number as u8))
+    target_at(machine, pid, Fd::new(number as u8))
 }
 
 // What the first argument of a call names, if that is a descriptor.
-fn thing_given(machine: &Machine, pid: Pid, argument: Option<Argument>, register: u64) -> Thing
-    ensures { result ≡ thing_given machine.now.world.state pid argument register }
+fn target_given(
+    machine: &Machine,
+    pid: Pid,
+    argument: Option<Argument>,
+    register: u64,
+) -> Option<Target>
+    ensures { result ≡ target_given machine.now.world.state pid argument register }
 {
     match argument {
-        Some(Argument::Descriptor) => thing_named(machine, pid, c_int(register)),
-        _ => Thing::Nothing,
+        Some(Argument::Descriptor) => target_named(machine, pid, c_int(register)),
+        _ => None,
     }
 }
 
@@ -108,16 +125,18 @@ fn byte_given(machine: &Machine, pid: Pid, call: &Asked) -> i64
 }
 
 // What the call of a process was given.
-fn given_to(machine: &Machine, pid: Pid, call: &Asked) -> Given
-    ensures { result ≡ given_to machine.now.world.state pid call.now }
+fn given_to(machine: &Machine, pipes: &MadePipes, pid: Pid, call: &Asked) -> Given
+    ensures { result ≡ given_to (made_of pipes.now) machine.now.world.state pid call.now }
 {
     let first = argument_of(call.number, 0);
+    let target = target_given(machine, pid, first, call.a0);
     Given {
         first: taken(first, call.a0),
         second: taken(argument_of(call.number, 1), call.a1),
         third: taken(argument_of(call.number, 2), call.a2),
         byte: byte_given(machine, pid, call),
-        on: thing_given(machine, pid, first, call.a0),
+        on: thing_on(&target),
+        pipe: pipes.number_on(&target),
     }
 }
 
@@ -131,19 +150,20 @@ pub(crate) fn nothing_given() -> Given
         third: 0,
         byte: -1,
         on: Thing::Nothing,
+        pipe: 0,
     }
 }
 
 /// What the call of the process that runs was given: of the call that it is in, or else of the one that its next
-/// instruction begins, if that is an ECALL. If nobody runs, it tells of nothing.
-pub(crate) fn given_now(machine: &Machine) -> Given
-    ensures { result ≡ given_in machine.now.world }
+/// instruction begins, if that is an ECALL. If nobody runs, it tells of nothing. The pipes are those that the run has made.
+pub(crate) fn given_now(machine: &Machine, pipes: &MadePipes) -> Given
+    ensures { result ≡ given_in (made_of pipes.now) machine.now.world }
 {
     let Some(pid) = machine.current() else {
         return nothing_given();
     };
     match asked_of(machine, pid) {
-        Some(call) => given_to(machine, pid, &call),
+        Some(call) => given_to(machine, pipes, pid, &call),
         None => nothing_given(),
     }
 }

@@ -3,7 +3,8 @@
 //!
 //! `play` of `playing.rt` boots a machine and plays the rounds of a plan, each with the next key. It keeps a note of each
 //! turn, call, sleep, exit and fault, and the bytes that the console showed. With a call and a sleep stands what the call
-//! was given, as the machine had it before that step (`givens.rt`, `specs/Givens.antt`). That these are the notes and the
+//! was given, as the machine had it before that step (`givens.rt`, `specs/Givens.antt`), and of a pipe's end of which pipe it is
+//! (`pipes.rt`, `specs/Pipes.antt`). That these are the notes and the
 //! bytes of just the events that the machine got, and that these events are those of the plan, is `IsRunOf` in
 //! `specs/Plays.antt`. What is handed in, and when it isn't run, is `IsHandedIn` in `specs/Files.antt`. That a line is
 //! that of the submission, the exercise and the runs, is `IsLineShown` in `specs/Results.antt`.
@@ -13,10 +14,12 @@ ghost use Rattle.program_files.specs.Statuses.{IsPlainStatus};
 
 mod command_line;
 mod disk;
+mod encodings;
 mod exercise_file;
 mod givens;
 mod grading;
 mod host_files;
+mod pipes;
 mod playing;
 mod reasons;
 mod results;

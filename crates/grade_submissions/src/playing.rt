@@ -9,14 +9,16 @@ ghost use Rattle.xv_machine.specs.RoundParts.{events_of_parts};
 ghost use Rattle.xv_session.specs.Recorded.{IsRecorded};
 ghost use Rattle.grade_submissions.specs.Plays.{note_with, all_of, passed_notes, nothing, runs_in, runs_among, told_of, told_with, told_runs, last_after, idle_after, sending_after};
 ghost use Rattle.grade_submissions.specs.Plays.{is_full, is_over, PlaysOn, PlaysFirst, IsPlayed, end_of, fault_after, fault_behind, AreInstructions, WorksOff, LastWorksOff};
+ghost use Rattle.grade_submissions.specs.Pipes.{made_of, none_made, pipes_after};
 ghost use Rattle.run_work.specs.Work.{with_more};
 
 use crate::givens::{given_now, nothing_given};
+use crate::pipes::MadePipes;
 use grade_rules::{End, Given, Note};
 use run_work::{Before, cost_of};
 use std::alloc::Global;
 use xk_base::{BootError, Pid, Program};
-use xv_machine::{Config, Event, Outcome, RoundPart, round_parts};
+use xv_machine::{Config, Event, Machine, Outcome, RoundPart, round_parts};
 use xv_session::{Session, SessionError};
 
 /// The most notes that are kept of a run.
@@ -56,6 +58,8 @@ pub struct Kept {
     pub budget: u64,
     /// The place of the event that was a fault: that of process 1, if there is one, or else the first.
     pub fault: Option<u64>,
+    /// The pipes that were made.
+    pub pipes: MadePipes,
 }
 
 /// A run.
@@ -169,6 +173,7 @@ impl Kept {
         ensures budget { result.budget ≡ budget }
         ensures work { result.work ≡ 0 }
         ensures fault { result.fault ≡ None }
+        ensures pipes { made_of result.pipes ≡ none_made }
     {
         Kept {
             notes: Vec::new(alloc),
@@ -180,6 +185,7 @@ impl Kept {
             work: 0,
             budget,
             fault: None,
+            pipes: MadePipes::none(alloc),
         }
     }
 
@@ -204,6 +210,7 @@ impl Kept {
         ensures budget { self.new.budget ≡ self.old.budget }
         ensures work { self.new.work ≡ with_more self.old.work cost }
         ensures fault { self.new.fault ≡ self.old.fault }
+        ensures pipes { made_of self.new.pipes ≡ made_of self.old.pipes }
     {
         self.work = self.work.saturating_add(cost);
     }
@@ -216,6 +223,7 @@ impl Kept {
         ensures budget { IfOk result (λ _. self.new.budget ≡ self.old.budget) }
         ensures work { IfOk result (λ _. self.new.work ≡ self.old.work) }
         ensures fault { IfOk result (λ _. self.new.fault ≡ fault_after self.old.fault place (outcome_of outcome.now)) }
+        ensures pipes { made_of self.new.pipes ≡ made_of self.old.pipes }
     {
         add_bytes(&mut self.shown, outcome.shown())?;
         self.runs += u64::from(sent);
@@ -234,6 +242,7 @@ impl Kept {
         ensures budget { self.new.budget ≡ self.old.budget }
         ensures work { self.new.work ≡ self.old.work }
         ensures fault { self.new.fault ≡ self.old.fault }
+        ensures pipes { made_of self.new.pipes ≡ made_of self.old.pipes }
     {
         self.runs += u64::from(sent);
         self.idle = false;
@@ -253,10 +262,28 @@ impl Kept {
         ensures budget { IfOk result (λ _. self.new.budget ≡ self.old.budget) }
         ensures work { IfOk result (λ _. self.new.work ≡ self.old.work) }
         ensures fault { IfOk result (λ _. self.new.fault ≡ fault_after self.old.fault place (outcome_of outcome.now)) }
+        ensures pipes { made_of self.new.pipes ≡ made_of self.old.pipes }
     {
         add_note(&mut self.notes, note_with(given, outcome))?;
         self.keep(sent, place, outcome)?;
         Ok(())
+    }
+
+    // Keeps the pipe that a call has made, if it was one of `pipe` that answered 0: of the machine as it is after it.
+    fn keep_pipe(
+        &mut self,
+        machine: &Machine,
+        given: &Given,
+        outcome: &Outcome,
+    ) -> Result<(), SessionError>
+        ensures told { IfOk result (λ _. told_of self.new ≡ told_of self.old) }
+        ensures notes { IfOk result (λ _. self.new.notes.items ≡ self.old.notes.items) }
+        ensures budget { IfOk result (λ _. self.new.budget ≡ self.old.budget) }
+        ensures work { IfOk result (λ _. self.new.work ≡ self.old.work) }
+        ensures fault { IfOk result (λ _. self.new.fault ≡ self.old.fault) }
+        ensures pipes { IfOk result (λ _. made_of self.new.pipes ≡ pipes_after given.now machine.now.world (outcome_of outcome.now) (made_of self.old.pipes)) }
+    {
+        self.pipes.keep(machine, given, outcome)
     }
 
     // Keeps what came of Runs that were sent at once as nobody ran; the last one of them was the event at a place.
@@ -272,6 +299,7 @@ impl Kept {
         ensures budget { IfOk result (λ _. self.new.budget ≡ self.old.budget) }
         ensures work { IfOk result (λ _. self.new.work ≡ self.old.work) }
         ensures fault { IfOk result (λ _. self.new.fault ≡ fault_behind self.old.fault place (option_map outcome_of last.now)) }
+        ensures pipes { made_of self.new.pipes ≡ made_of self.old.pipes }
     {
         match last {
             Some(outcome) => self.keep_noted(nothing_given(), sent, place, outcome),
@@ -310,10 +338,12 @@ impl Played {
         ensures runs { IfOk result (λ _. self.new.kept.runs ≡ self.old.kept.runs + 1) }
         ensures work { IfOk result (λ _. LastWorksOff (sent + 1) before.now self.old self.new) }
     {
-        let given = given_now(self.session.machine());
+        let given = given_now(self.session.machine(), &self.kept.pipes);
         let outcome = self.session.send(Event::Run)?;
         let place = self.session.at().saturating_sub(1);
         self.kept.keep_noted(given, 1, place, &outcome)?;
+        self.kept
+            .keep_pipe(self.session.machine(), &given, &outcome)?;
         let last = Some(outcome);
         let cost = cost_of(self.session.machine(), before, sent + 1, &last);
         self.kept.add_work(cost);
@@ -495,6 +525,7 @@ fn begin(alloc: Global, session: Session, budget: u64) -> Played
     ensures kept { told_of result.kept ≡ nothing }
     ensures notes { result.kept.notes.items ≡ [] }
     ensures fault { result.kept.fault ≡ None }
+    ensures pipes { made_of result.kept.pipes ≡ none_made }
     ensures budget { result.kept.budget ≡ budget }
     ensures work { result.kept.work ≡ 0 }
     ensures recorded { IsRecorded session }

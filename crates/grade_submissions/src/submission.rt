@@ -3,11 +3,13 @@ ghost use Rattle.std.specs.Prelude.{◌≡◌, ◌≢◌, ◌==◌, ◌++◌, ma
 ghost use Rattle.std.specs.List.{concat, find, starts_with, slice_split};
 ghost use Rattle.kernel_spec.specs.views.State.{named_file};
 ghost use Rattle.grade_sheets.specs.Blanks.{without_blanks};
+ghost use Rattle.grade_submissions.specs.Encodings.{plain_bytes};
 ghost use Rattle.program_files.specs.declared.refusal.FileRefusal.TheVariants.{OutOfMemory};
-ghost use Rattle.grade_submissions.specs.Files.{path_in, text_file, programs_of, without_mark, is_return, without_returns, unfit_text, no_file_text};
-ghost use Rattle.grade_submissions.specs.Files.{IsFoundIn, AreFoundIn, IsTextOf, IsTakenAs, IsRefusedAs, IsFoundAs, IsLookedAt, IsUnder, IsHandedIn};
+ghost use Rattle.grade_submissions.specs.Files.{path_in, text_file, programs_of, is_return, without_returns, unfit_text, no_file_text};
+ghost use Rattle.grade_submissions.specs.Files.{IsFoundIn, AreFoundIn, IsTextOf, IsTakenAs, IsRefusedAs, IsReadAs, IsFoundAs, IsLookedAt, IsUnder, IsHandedIn};
 
 use crate::disk::{Disk, Found};
+use crate::encodings::plain_bytes;
 use grade_sheets::Text;
 use program_files::{Failure, FileRefusal, SourcedProgram, program_of_bytes};
 use std::alloc::{AllocError, Global};
@@ -19,7 +21,7 @@ use xk_base::Program;
 pub struct Submission {
     /// The file's name.
     pub file: String,
-    /// Its bytes, without a byte order mark before them.
+    /// Its bytes: without a byte order mark before them, and in UTF-8 if they were of UTF-16.
     pub bytes: Vec<u8>,
     /// Its text, without carriage returns; empty if it isn't UTF-8.
     pub text: String,
@@ -66,16 +68,6 @@ fn unfit(alloc: Global, file: &str, why: &str) -> Result<String, AllocError>
     ensures { IfOk result (λ text. string_bytes text ≡ unfit_text file.now why.now) }
 {
     format!(in alloc; "{file}: {why}")
-}
-
-// Bytes without the byte order mark that an editor may have put before them.
-fn without_mark(bytes: &[u8]) -> &[u8]
-    ensures { result.now ≡ without_mark bytes.now }
-{
-    if bytes.starts_with(&[0xef, 0xbb, 0xbf]) {
-        return &bytes[3..];
-    }
-    bytes
 }
 
 // Whether bytes are nothing but blanks.
@@ -162,6 +154,16 @@ fn refused_for(alloc: Global, file: &str, why: &str) -> Result<Option<HandedIn>,
     Ok(Some(HandedIn::Refused(unfit(alloc, file, why)?)))
 }
 
+// What is handed in under this name, if a file of these bytes lies there.
+fn read_as(alloc: Global, file: &str, bytes: &[u8]) -> Result<Option<HandedIn>, Failure<'static>>
+    ensures { IfOk result (IsReadAs file.now (plain_bytes bytes.now)) }
+{
+    match plain_bytes(alloc, bytes)? {
+        Some(plain) => Ok(Some(taken(alloc, file, plain.as_slice())?)),
+        None => refused_for(alloc, file, "begins as a text of UTF-16, and isn't one"),
+    }
+}
+
 // What is handed in under this name, if this lies there: `None` if nothing does.
 fn given(alloc: Global, file: &str, found: Found) -> Result<Option<HandedIn>, Failure<'static>>
     ensures { IfOk result (IsFoundAs file.now found) }
@@ -170,7 +172,7 @@ fn given(alloc: Global, file: &str, found: Found) -> Result<Option<HandedIn>, Fa
         Found::Nothing => Ok(None),
         Found::NoFile => refused_for(alloc, file, "not a plain file"),
         Found::TooLong => refused_for(alloc, file, "too long"),
-        Found::File(bytes) => Ok(Some(taken(alloc, file, without_mark(bytes.as_slice()))?)),
+        Found::File(bytes) => read_as(alloc, file, bytes.as_slice()),
     }
 }
 

@@ -3,11 +3,13 @@ ghost use Rattle.std.specs.Prelude.{◌≡◌, IfErr, IfOk, map};
 ghost use Rattle.program_files.specs.Failures.{failure_status};
 ghost use Rattle.xv_record.specs.Chosen.{AreThere};
 ghost use Rattle.xv_record.specs.Told.{program_told, told_program};
-ghost use Rattle.recorded_runs.specs.Cuts.{IsCutOfText, IsOfText, IsTakenFromText};
+ghost use Rattle.recorded_runs.specs.Cuts.{IsCutOf, IsCutOfText, IsOfText, IsTakenFromText, events_in};
 
 use crate::cutting::{CutError, first_events};
+use crate::recording::recording_of;
 use crate::words::Replay;
 use program_files::{Failure, FileRefusal};
+use recordings::{Recording, RecordingError};
 use std::alloc::Global;
 use std::fs;
 use std::io::{ErrorKind, Write};
@@ -82,6 +84,45 @@ pub fn whole_record<'a>(rt: &HostRuntime, name: &str, path: &'a str) -> Result<R
     Ok(record)
 }
 
+/// A record up to the event that is asked for.
+///
+/// # Errors
+///
+/// It has fewer events than are asked for, or the host has too little memory.
+pub fn cut_record(
+    alloc: Global,
+    whole: Record,
+    replay: &Replay<'_>,
+) -> Result<Record, Failure<'static>>
+    ensures cut { IfOk result (λ part. IsCutOf replay.now.at whole part) }
+    ensures refused { IfErr result (λ e. failure_status e ≡ 2) }
+{
+    match first_events(alloc, whole, replay.at) {
+        Ok(record) => Ok(record),
+        Err(why) => Err(uncut(alloc, replay.path, why)),
+    }
+}
+
+/// The events of a record, each by its place; the path is the one of its file.
+///
+/// # Errors
+///
+/// It has 2^64 events or more, or the host has too little memory.
+pub fn recorded_events(
+    alloc: Global,
+    path: &str,
+    kept: &Record,
+) -> Result<Recording, Failure<'static>>
+    ensures events { IfOk result (λ recording. recording ≡ events_in kept.now) }
+    ensures refused { IfErr result (λ e. failure_status e ≡ 2) }
+{
+    match recording_of(alloc, kept.events.as_slice()) {
+        Ok(recording) => Ok(recording),
+        Err(RecordingError::Memory) => Err(Failure::OutOfMemory),
+        Err(why) => Err(Failure::in_words(format!(in alloc; "{path}: {why}"))),
+    }
+}
+
 /// The record that is to be played, up to the event that is asked for. What is left out of its file is told, under the
 /// name of the program that plays it.
 ///
@@ -96,12 +137,8 @@ pub fn record_of<'a>(
     ensures cut { IfOk result (λ part. IsCutOfText replay.now.at part) }
     ensures refused { IfErr result (λ e. failure_status e ≡ 2) }
 {
-    let path = replay.path;
-    let record = whole_record(rt, name, path)?;
-    match first_events(rt.alloc(), record, replay.at) {
-        Ok(record) => Ok(record),
-        Err(why) => Err(uncut(rt.alloc(), path, why)),
-    }
+    let record = whole_record(rt, name, replay.path)?;
+    cut_record(rt.alloc(), record, replay)
 }
 
 /// Of these programs those that a record names, in its order. Others are left out.

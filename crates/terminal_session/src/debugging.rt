@@ -7,7 +7,7 @@
 ghost use Rattle.std.specs.Prelude.{◌≡◌, [], IfOk, map};
 ghost use Rattle.program_files.specs.Statuses.{IsPlainStatus};
 ghost use Rattle.xv_record.specs.Told.{program_told, told_program};
-ghost use Rattle.terminal_session.specs.Begun.{IsBegunBy, IsOfRecord};
+ghost use Rattle.terminal_session.specs.Begun.{IsBegunBy, IsFollowed, IsFollowedIf, IsOfRecord};
 ghost use Rattle.terminal_session.specs.DebugSettings.{IsPlanOf};
 
 mod command_line;
@@ -16,10 +16,13 @@ mod keys;
 
 use crate::debugging::command_line::{Settings, read_settings};
 use crate::debugging::conversation::Conversation;
-use crate::debugging::keys::keys_of;
 use program_files::exit_statuses::DONE;
 use program_files::{Failure, line_table, programs, put};
-use recorded_runs::{RecordedFiles, Replay, play_quietly, record_of, recorded_files};
+use recorded_runs::{
+    RecordedFiles, Replay, cut_record, keys_of, play_quietly, recorded_events, recorded_files,
+    whole_record,
+};
+use recordings::Recording;
 use std::alloc::Global;
 use std::io::Write;
 use std::rt::Env;
@@ -33,9 +36,19 @@ use xv_session::Session;
 /// The name under which the program tells what is wrong.
 const NAME: &str = "xv_debugger";
 
-/// By what the run goes on.
+/// A record on which the run is.
+#[derive(Drop)]
+pub(crate) struct FollowedRecord {
+    /// Its first events, which are sent before the first word.
+    pub kept: Record,
+    /// All of its events.
+    pub events: Recording,
+}
+
+/// By what the run goes on without a record.
 fn plan_of<'a>(rt: &HostRuntime, settings: &'a Settings) -> Result<Plan, Failure<'a>>
-    ensures { IfOk result (IsPlanOf settings.now) }
+    ensures plan { IfOk result (IsPlanOf settings.now) }
+    ensures none { IfOk result (λ plan. plan.recorded ≡ []) }
 {
     let keys = keys_of(rt, &settings.keys)?;
     Ok(Plan::with_keys(settings.quantum, keys))
@@ -44,6 +57,7 @@ fn plan_of<'a>(rt: &HostRuntime, settings: &'a Settings) -> Result<Plan, Failure
 /// A conversation about a machine of the settings, which has got no event yet.
 fn begun_anew<'a>(rt: &HostRuntime, settings: &'a Settings) -> Result<Conversation, Failure<'a>>
     ensures plan { IfOk result (λ c. IsPlanOf settings.now c.debugger.plan) }
+    ensures none { IfOk result (λ c. c.debugger.plan.recorded ≡ []) }
     ensures events { IfOk result (λ c. c.session.events ≡ []) }
 {
     let plan = plan_of(rt, settings)?;
@@ -82,20 +96,22 @@ fn led(
     Ok(session)
 }
 
-/// A conversation about the machine that was recorded, which has got just the events of the record.
+/// A conversation about the machine that was recorded, which has got just the first events of the record, and goes on by
+/// the others.
 fn begun_by<'a>(
     rt: &HostRuntime,
     settings: &'a Settings,
-    kept: &Record,
+    followed: FollowedRecord,
 ) -> Result<Conversation, Failure<'a>>
     ensures plan { IfOk result (λ c. IsPlanOf settings.now c.debugger.plan) }
-    ensures led { IfOk result (λ c. IsOfRecord kept.now c.session) }
+    ensures along { IfOk result (λ c. c.debugger.plan.recorded ≡ followed.events) }
+    ensures led { IfOk result (λ c. IsOfRecord followed.kept c.session) }
 {
-    let plan = plan_of(rt, settings)?;
+    let FollowedRecord { kept, events } = followed;
     let given = settings.files.as_slice();
     let made = programs(rt, given)?;
     let table = line_table(rt, &settings.lines)?;
-    let files = recorded_files(rt.alloc(), given, made, table.as_str(), kept)?;
+    let files = recorded_files(rt.alloc(), given, made, table.as_str(), &kept)?;
     let RecordedFiles {
         programs,
         paths,
@@ -103,37 +119,49 @@ fn begun_by<'a>(
         table,
     } = files;
     let sources = Sources::of_files(rt, paths.as_slice(), lines, table.as_str())?;
-    let session = led(rt.alloc(), settings.trace, programs, kept)?;
+    let session = led(rt.alloc(), settings.trace, programs, &kept)?;
     Ok(Conversation {
         session,
-        debugger: Debugger::alone(sources, plan),
+        debugger: Debugger::alone(sources, Plan::along(settings.quantum, events)),
         prompt: settings.prompt,
     })
 }
 
 /// A conversation about a machine of the settings that has got no event yet; or, if a record is given, about the machine
-/// that was recorded, which has got just the events of the record.
+/// that was recorded, which has got just the record's first events, and goes on by the others.
 fn begun<'a>(
     rt: &HostRuntime,
     settings: &'a Settings,
-    kept: &Option<Record>,
+    followed: Option<FollowedRecord>,
 ) -> Result<Conversation, Failure<'a>>
     ensures plan { IfOk result (λ c. IsPlanOf settings.now c.debugger.plan) }
-    ensures begun { IfOk result (λ c. IsBegunBy kept.now c.session) }
+    ensures begun { IfOk result (λ c. IsBegunBy followed c.debugger.plan c.session) }
 {
-    match kept {
-        Some(kept) => begun_by(rt, settings, kept),
+    match followed {
+        Some(followed) => begun_by(rt, settings, followed),
         None => begun_anew(rt, settings),
     }
+}
+
+/// A record that is asked for: its events up to the one that `--at` names, and all of them.
+fn followed_record<'a>(rt: &HostRuntime, asked: &Replay<'a>) -> Result<FollowedRecord, Failure<'a>>
+    ensures { IfOk result (IsFollowed asked.now.at) }
+{
+    let whole = whole_record(rt, NAME, asked.path)?;
+    let events = recorded_events(rt.alloc(), asked.path, &whole)?;
+    let kept = cut_record(rt.alloc(), whole, asked)?;
+    Ok(FollowedRecord { kept, events })
 }
 
 /// The record that is asked for, if one is.
 fn record_asked<'a>(
     rt: &HostRuntime,
     asked: Option<Replay<'a>>,
-) -> Result<Option<Record>, Failure<'a>> {
+) -> Result<Option<FollowedRecord>, Failure<'a>>
+    ensures { IfOk result (λ followed. IsFollowedIf asked.entry followed) }
+{
     match asked {
-        Some(asked) => Ok(Some(record_of(rt, NAME, &asked)?)),
+        Some(asked) => Ok(Some(followed_record(rt, &asked)?)),
         None => Ok(None),
     }
 }
@@ -162,7 +190,7 @@ fn converse<'a>(
     asked: Option<Replay<'a>>,
 ) -> Result<(), Failure<'a>> {
     let record = record_asked(rt, asked)?;
-    let mut conversation = begun(rt, settings, &record)?;
+    let mut conversation = begun(rt, settings, record)?;
     tell_played(
         rt.alloc(),
         &conversation.session,

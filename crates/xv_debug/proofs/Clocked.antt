@@ -27,7 +27,7 @@ use Rattle.xv_session.specs.Steps.{Advances}
 use Rattle.xv_session.specs.Until.{is_done}
 use Rattle.xv_session.specs.declared.running.Running.{Running}
 use Rattle.xv_debug.specs.motion.Backwards.{is_run}
-use Rattle.xv_debug.specs.motion.Clock.{IsNext, begun, is_key, is_tick, round_after, round_by, round_of, runs_among}
+use Rattle.xv_debug.specs.motion.Clock.{IsByClock, begun, is_key, is_tick, round_after, round_by, round_of, runs_among}
 use Rattle.xv_debug.specs.motion.Effects.{Adds, AddsRuns}
 use Rattle.xv_debug.specs.motion.Plan.{Planned, key_due}
 use Rattle.xv_debug.specs.declared.motion.clock.Round.{Round}
@@ -58,6 +58,10 @@ runs-taken q round zero = let none : round.left ≡ round.left - 0 = omega arith
 runs-taken q round (suc n) =
     let less : (round.left - 1) - n ≡ round.left - suc n = omega arith in
     runs-taken q (fewer round 1) n ∙ ap (λ (k : ℕ). record { left = k; keyed = round.keyed }) less
+
+-- behind events, so many Runs
+pub round-more : (q : ℕ) (list : List Event) (n : ℕ) → round_of q (list ++ replicate n Run) ≡ fewer (round_of q list) n
+round-more q list n = round-join q (begun q) list (replicate n Run) ∙ runs-taken q (round_of q list) n
 
 pub round_ran : (q : ℕ) (round : Round) (n : ℕ) (now : Round) (a b : Recorded) → AddsRuns n a b → round ≡ round_of q a.events → now ≡ fewer round n → now ≡ round_of q b.events
 round_ran q round n now a b adds is next =
@@ -259,11 +263,11 @@ awaited_there w p awaits = by (contains w.turns.sleepers p) refl (live w.state p
 
 -- ---- an event that is a Run
 
-pub next_run : (plan : Planned) (round : Round) (w : World) (e : Event) → is_run e ≡ true → IsNext plan round w e → IsNext plan round w Run
-next_run plan round w Run is next = next
-next_run plan round w Tick is next = let bad : ⊥ = cc in absurd bad
-next_run plan round w (runs.Key byte) is next = let bad : ⊥ = cc in absurd bad
-next_run plan round w runs.Send is next = let bad : ⊥ = cc in absurd bad
+pub clock-run : (plan : Planned) (round : Round) (w : World) (e : Event) → is_run e ≡ true → IsByClock plan round w e → IsByClock plan round w Run
+clock-run plan round w Run is next = next
+clock-run plan round w Tick is next = let bad : ⊥ = cc in absurd bad
+clock-run plan round w (runs.Key byte) is next = let bad : ⊥ = cc in absurd bad
+clock-run plan round w runs.Send is next = let bad : ⊥ = cc in absurd bad
 
 -- ---- the keys of rounds
 

@@ -1,6 +1,10 @@
+pub mod AllKept
+pub mod Along
 pub mod Backwards
 pub mod Clocked
 pub mod Conversed
+pub mod Displayed
+pub mod FrameLines
 pub mod HeldEnds
 pub mod Left
 pub mod Looking

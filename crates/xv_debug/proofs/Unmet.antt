@@ -28,7 +28,7 @@ use Rattle.xv_debug.specs.motion.Marks as marked
 use Rattle.xv_debug.specs.motion.Places.{IsFar, all_of, of_aim, of_mark}
 use Rattle.xv_debug.specs.motion.Reaching.{is_turn_of, meets_one}
 use Rattle.xv_debug.specs.declared.motion.aiming.Aim.{Aim}
-use Rattle.xv_debug.specs.declared.motion.aiming.Aim.TheVariants.{Anything, On, Answer, Return, Outside}
+use Rattle.xv_debug.specs.declared.motion.aiming.Aim.TheVariants.{Anything, Nothing, On, Answer, Return, Outside}
 use Rattle.xv_debug.specs.declared.motion.places.Kind.TheVariants.{Instructions, Bytes}
 
 -- ---- none of the addresses is stood at, and none of the bytes stored to
@@ -154,6 +154,7 @@ not-back s current p pc stack true is e =
 no-aim : (aim : Aim) (o : Outcome) (m : Meaning) → IsFar aim → is_done o ≡ true → list_any (at_in m.world.state m.world.turns.current) (option_to_list (of_aim Instructions aim)) ≡ false
     → aims.meets_with aim false o m ≡ false
 no-aim Anything o m far done none = absurd far
+no-aim Nothing o m far done none = refl
 no-aim (On (waits_for.StepOf p)) o m far done none = absurd far
 no-aim (On (waits_for.Call n)) o m far done none = not-on-call n o done
 no-aim (On (waits_for.At p pc)) o m far done none =
@@ -171,6 +172,7 @@ no-aim (Outside p first last) o m far done none = absurd far
 
 no-aim-due : (aim : Aim) (m : Meaning) → list_any (λ a. is_storing a m.world) (option_to_list (of_aim Bytes aim)) ≡ false → aims.is_due aim m ≡ false
 no-aim-due Anything m none = refl
+no-aim-due Nothing m none = refl
 no-aim-due (On (waits_for.StepOf p)) m none = refl
 no-aim-due (On (waits_for.Call n)) m none = refl
 no-aim-due (On (waits_for.At p pc)) m none = refl

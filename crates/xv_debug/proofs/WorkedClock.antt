@@ -1,9 +1,9 @@
 -- Worked cases of the clock.
-use Rattle.std.proofs.Common.{◌≡◌, ◌∙◌, ℕ, ℤ, true, false, List, [], ◌∷◌, Option, None, Some, is_some, inl, inr, refl, sym, ap, arith}
+use Rattle.std.proofs.Common.{◌≡◌, ◌∙◌, ℕ, ℤ, true, false, List, [], ◌∷◌, ◌++◌, Option, None, Some, is_some, inl, inr, refl, sym, ap, arith}
 use Rattle.kernel_spec.specs.runs.Run as runs
 use Rattle.kernel_spec.specs.runs.Run.{Event, Run, Tick, Send, Key, World}
 use Rattle.xv_report.specs.declared.waits.Wait.TheVariants.{Until, Child}
-use Rattle.xv_debug.specs.motion.Clock.{IsNext, begun, round_of}
+use Rattle.xv_debug.specs.motion.Clock.{HasAhead, IsAhead, IsByClock, IsNext, NoneAhead, begun, round_of}
 use Rattle.xv_debug.specs.motion.Plan.{Planned, key_due, later_keys}
 use Rattle.xv_debug.specs.motion.Reaching.{is_turn_of}
 use Rattle.xv_debug.specs.motion.Resting.{RestsBy, RestsQuiet, SomebodyMayGoOn, is_clock}
@@ -30,7 +30,7 @@ keyed_round = refl
 -- ---- which key is due
 
 abbrev ab : Planned
-ab = record { quantum = 1000; keys = 97 ∷ 98 ∷ [] }
+ab = record { recorded = []; quantum = 1000; keys = 97 ∷ 98 ∷ [] }
 
 -- in the first round the first, and a later one has one more
 first_key : (w : World) → w.state.clock ≡ 0 → w.turns.halted ≡ None → (key_due ab (begun 1000) w ≡ Key 97 ∷ []) × (later_keys ab w ≡ 98 ∷ [])
@@ -68,8 +68,8 @@ first-of other (e ∷ es) = e
 same-key : (a b : Event) → a ∷ [] ≡ b ∷ [] → a ≡ b
 same-key a b is = ap (first-of a) is
 
--- the plan settles the event
-one_comes : (plan : Planned) (round : Round) (w : World) (e f : Event) → IsNext plan round w e → IsNext plan round w f → e ≡ f
+-- the clock settles the event
+one_comes : (plan : Planned) (round : Round) (w : World) (e f : Event) → IsByClock plan round w e → IsByClock plan round w f → e ≡ f
 one_comes plan round w Send Send a b = refl
 one_comes plan round w Send Tick a (quiet, keyless, b) = absurd (a quiet)
 one_comes plan round w Send Run a (quiet, keyless, some, on) = absurd (a quiet)
@@ -90,7 +90,7 @@ one_comes plan round w (Key k) Run (quiet, due) (still, keyless, some, on) = abs
 one_comes plan round w (Key k) (Key m) (quiet, due) (still, also) = same-key (Key k) (Key m) (sym due ∙ also)
 
 -- and none comes where it rests
-none_at_rest : (plan : Planned) (round : Round) (w : World) (e : Event) → RestsQuiet plan round Asleep w → IsNext plan round w e → ⊥
+none_at_rest : (plan : Planned) (round : Round) (w : World) (e : Event) → RestsQuiet plan round Asleep w → IsByClock plan round w e → ⊥
 none_at_rest plan round w Send (rests, quiet, nobody, keyless) next = next quiet
 none_at_rest plan round w Tick (rests, quiet, nobody, keyless) (still, no_key, inl (none, goes)) = resting w goes rests
 none_at_rest plan round w Tick (rests, quiet, nobody, keyless) (still, no_key, inr (asleep, inl (p, waits))) = nobody p waits
@@ -106,3 +106,56 @@ clocks = (refl, refl, refl)
 
 own_turn : (is_turn_of (Some 2) (runs.Turn 2) ≡ true) × (is_turn_of (Some 2) (runs.Turn 3) ≡ false) × (is_turn_of None (runs.Turn 2) ≡ false) × (is_turn_of (Some 2) runs.Ticked ≡ false)
 own_turn = (refl, refl, refl, refl)
+
+-- ---- along a record
+
+abbrev tail : List Event → List Event
+tail [] = []
+tail (e ∷ es) = es
+
+-- behind the same events the same one stands
+same-behind : (before : List Event) (e f : Event) (xs ys : List Event) → (before ++ e ∷ []) ++ xs ≡ (before ++ f ∷ []) ++ ys → e ≡ f
+same-behind [] e f xs ys is = ap (first-of e) is
+same-behind (x ∷ before) e f xs ys is = same-behind before e f xs ys (ap tail is)
+
+-- the plan settles the event: whatever stands in the record, and else what the clock says
+plan_settles : (plan : Planned) (before : List Event) (w : World) (e f : Event) → IsNext plan before w e → IsNext plan before w f → e ≡ f
+plan_settles plan before w e f (inl (xs, is)) (inl (ys, also)) = same-behind before e f xs ys (sym is ∙ also)
+plan_settles plan before w e f (inl some) (inr (none, clock)) = absurd (none (e, some))
+plan_settles plan before w e f (inr (none, clock)) (inl some) = absurd (none (f, some))
+plan_settles plan before w e f (inr (none, clock)) (inr (also, other)) = one_comes plan (round_of plan.quantum before) w e f clock other
+
+-- two Runs, a Tick and a key
+abbrev played : List Event
+played = Run ∷ Run ∷ Tick ∷ Key 97 ∷ []
+
+-- its tick comes after its two Runs, whatever the quantum is
+its_tick_comes : IsAhead played (Run ∷ Run ∷ []) Tick
+its_tick_comes = (Key 97 ∷ [], refl)
+
+its_first_event_comes_at_the_boot : IsAhead played [] Run
+its_first_event_comes_at_the_boot = (Run ∷ Tick ∷ Key 97 ∷ [], refl)
+
+abbrev second-of : List Event → Event
+second-of (a ∷ b ∷ more) = b
+second-of _ = Send
+
+-- a tick by hand has left it
+left_by_another_event : NoneAhead played (Run ∷ Tick ∷ [])
+left_by_another_event (e, (rest, is)) = let no : Run ≡ Tick = ap second-of is in let bad : ⊥ = cc in bad
+
+-- one that is the record's own hasn't
+not_left_by_its_own : HasAhead played (Run ∷ Run ∷ Tick ∷ [])
+not_left_by_its_own = (Key 97, ([], refl))
+
+abbrev behind-four : List Event → List Event
+behind-four (a ∷ b ∷ c ∷ d ∷ more) = more
+behind-four _ = []
+
+-- it is over after its last event
+over_behind_its_last : NoneAhead played played
+over_behind_its_last (e, (rest, is)) = let no : [] ≡ e ∷ rest = ap behind-four is in let bad : ⊥ = cc in bad
+
+without_a_record : (before : List Event) → NoneAhead [] before
+without_a_record [] (e, (rest, is)) = let bad : ⊥ = cc in bad
+without_a_record (x ∷ before) (e, (rest, is)) = let bad : ⊥ = cc in bad

@@ -7,6 +7,7 @@ use Rattle.xv_session.specs.Answers.{IsUnplayedBy, WentBack}
 use Rattle.xv_session.specs.Recorded.{Recorded}
 use Rattle.xv_session.specs.declared.session.PlayError.{PlayError}
 use Rattle.xv_session.specs.declared.until.Condition.TheVariants.{Fault}
+use Rattle.debug_words.specs.declared.vocabulary.TheConstants.{EVENTS_MOST}
 use Rattle.debug_words.specs.declared.vocabulary.Goal.{Goal}
 use Rattle.debug_words.specs.declared.vocabulary.Word.{Word}
 use Rattle.debug_words.specs.declared.vocabulary.Word.TheVariants.{Step, Next, Back, Goto, BackUntil, Until, Run, Tick, Key, Send, ToMark, Finish}
@@ -16,16 +17,16 @@ use Rattle.xv_report.specs.declared.sources.Sources.{Sources}
 use Rattle.xv_debug.specs.motion.Finishing.{IsFinishAim}
 use Rattle.xv_debug.specs.motion.Backwards.{GoesBackUntil}
 use Rattle.xv_debug.specs.declared.motion.aiming.Aim.{Aim}
-use Rattle.xv_debug.specs.declared.motion.aiming.Aim.TheVariants.{On}
+use Rattle.xv_debug.specs.declared.motion.aiming.Aim.TheVariants.{Nothing, On}
 use Rattle.xv_debug.specs.motion.Plan.{Planned}
 use Rattle.xv_debug.specs.motion.Reaching.{Test, met_from}
 use Rattle.xv_debug.specs.declared.motion.journey.Stop.{Stop}
 use Rattle.xv_debug.specs.declared.motion.output.Output.{Output}
-use Rattle.xv_debug.specs.Effects.{IsAimOf, Plays, Searches, SendsFirst, Steps}
+use Rattle.xv_debug.specs.Effects.{ByRecord, IsAimOf, Plays, SearchesWithin, SendsFirst, Steps, events_ahead}
 use Rattle.xv_debug.specs.LookText.{Shows}
 use Rattle.xv_debug.specs.OutputText.{output_text}
 use Rattle.xv_debug.specs.ReasonText.{IsReasonText}
-use Rattle.xv_debug.specs.StopText.{ahead_text, back_text, journey_text, never, no_return, unplayed_text}
+use Rattle.xv_debug.specs.StopText.{back_text, journey_text, never, no_return, unplayed_text}
 use Rattle.xv_debug.specs.WhereText.{IsWhereOf, nobody}
 
 -- ---- words that send events
@@ -42,9 +43,16 @@ StepTells may_end word count old new before after = (d : Steps may_end count old
 abbrev pub IsEmpty : Output → Type 0
 IsEmpty o = (o.last ≡ buffer [] 512) × (o.count ≡ 0)
 
+abbrev pub SearchTellsWithin : (may_end : Bool) → (plan : Planned) → Word → Test → (most : ℕ) → (old new : Recorded) → (before after : List ℕ) → Type 0
+SearchTellsWithin may_end plan word test most old new before after =
+    (d : SearchesWithin may_end plan test most old new) × IsEmpty d.had × Writes before after (IsSentText word new d.sent d.stop d.last (output_text d.has))
+
 abbrev pub SearchTells : (may_end : Bool) → (plan : Planned) → Word → Test → (old new : Recorded) → (before after : List ℕ) → Type 0
-SearchTells may_end plan word test old new before after =
-    (d : Searches may_end plan test old new) × IsEmpty d.had × Writes before after (IsSentText word new d.sent d.stop d.last (output_text d.has))
+SearchTells may_end plan word test old new before after = SearchTellsWithin may_end plan word test EVENTS_MOST old new before after
+
+-- of events that came by the plan, so many at most, whatever came of them
+abbrev pub GoesOnTells : (may_end : Bool) → (plan : Planned) → Word → (most : ℕ) → (old new : Recorded) → (before after : List ℕ) → Type 0
+GoesOnTells may_end plan word most old new before after = SearchTellsWithin may_end plan word (met_from old Nothing []) most old new before after
 
 -- where there is no process of which it is asked, or it isn't known where the function ends, none is sent
 abbrev pub AimTells : (may_end : Bool) → (plan : Planned) → Word → Option Aim → (why : List ℕ) → (old new : Recorded) → (before after : List ℕ) → Type 0
@@ -67,6 +75,15 @@ RoundsTell may_end plan word rounds old new before after =
     (d : Plays may_end plan rounds old new) × IsEmpty d.had
     × ((o : Option Outcome) × Writes before after (IsSentText word new (length new.events - length old.events) d.stop o (output_text d.has)))
 
+-- on a record of its events, and else of Runs, or of rounds
+abbrev pub StepsOnTell : (may_end : Bool) → (plan : Planned) → Word → (count : ℕ) → (old new : Recorded) → (before after : List ℕ) → Type 0
+StepsOnTell may_end plan word count old new before after =
+    ByRecord plan old (GoesOnTells may_end plan word (min count (events_ahead plan old)) old new before after) (StepTells may_end word count old new before after)
+
+abbrev pub PlaysOnTell : (may_end : Bool) → (plan : Planned) → Word → (rounds : ℕ) → (old new : Recorded) → (before after : List ℕ) → Type 0
+PlaysOnTell may_end plan word rounds old new before after =
+    ByRecord plan old ((most : ℕ) × (most ≤ events_ahead plan old) × GoesOnTells may_end plan word most old new before after) (RoundsTell may_end plan word rounds old new before after)
+
 -- ---- the word that goes back
 
 -- how many events were taken back, and where the run is now
@@ -82,10 +99,10 @@ abbrev pub BackTells : (may_end : Bool) → (count : ℕ) → (old new : Recorde
 BackTells may_end count old new before after =
     (WentBack (length old.events - count) old new × Writes before after (IsBackText new (min count (length old.events)))) ⊎ StaysTelling may_end old new before after
 
--- It has gone back to the place after so many events, and tells by how many; or how many there are, if there are fewer
-pub record GotoTells (may_end : Bool) (place : ℕ) (old new : Recorded) (before after : List ℕ) : Type 0 where
+-- It has gone to the place after so many events, back or on, and tells by how many
+pub record GotoTells (may_end : Bool) (plan : Planned) (word : Word) (place : ℕ) (old new : Recorded) (before after : List ℕ) : Type 0 where
   pub back : place ≤ length old.events → BackTells may_end (length old.events - place) old new before after
-  pub ahead : length old.events < place → (new ≡ old) × (after ≡ before ++ ahead_text (length old.events))
+  pub ahead : length old.events < place → GoesOnTells may_end plan word (min (place - length old.events) EVENTS_MOST) old new before after
 
 -- it tells by how many events, or that there is no such place; or it stays
 abbrev pub IsBackUntilText : Recorded → (taken : Option ℕ) → List ℕ → Type 0
@@ -107,10 +124,10 @@ SeekBackTells may_end goal old new before after = (aim : Option Aim) × IsAimOf 
 
 -- What is written behind an answer, of the session as the word found it and as it left it; `shown` is where the memory that was shown last ends, `known` is what is known of the sources of programs, `may_end` says whether the word may be broken off, and `plan` by what the run goes on
 abbrev pub Answers : (known : Option Sources) → (may_end : Bool) → (plan : Planned) → (shown : ℕ) → Word → (old new : Recorded) → (before after : List ℕ) → Type 0
-Answers known may_end plan shown (Step count) old new before after = StepTells may_end (Step count) count old new before after
+Answers known may_end plan shown (Step count) old new before after = StepsOnTell may_end plan (Step count) count old new before after
 Answers known may_end plan shown Next old new before after = SearchTells may_end plan Next (met_from old (aim_in old.machine.world) []) old new before after
 Answers known may_end plan shown (Until goal) old new before after = GoalTells may_end plan (Until goal) goal old new before after
-Answers known may_end plan shown (Run rounds) old new before after = RoundsTell may_end plan (Run rounds) rounds old new before after
+Answers known may_end plan shown (Run rounds) old new before after = PlaysOnTell may_end plan (Run rounds) rounds old new before after
 Answers known may_end plan shown (Tick count) old new before after = SendsTell may_end (Tick count) (λ n. replicate n runs.Tick) count old new before after
 Answers known may_end plan shown (Send count) old new before after = SendsTell may_end (Send count) (λ n. replicate n runs.Send) count old new before after
 Answers known may_end plan shown (Key keys) old new before after = SendsTell false (Key keys) (λ n. map runs.Key (take n keys.items)) (length keys.items) old new before after
@@ -118,5 +135,5 @@ Answers known may_end plan shown (ToMark marks) old new before after = SearchTel
 Answers known may_end plan shown Finish old new before after = FinishTells known may_end plan Finish old new before after
 Answers known may_end plan shown (BackUntil goal) old new before after = SeekBackTells may_end goal old new before after
 Answers known may_end plan shown (Back count) old new before after = BackTells may_end count old new before after
-Answers known may_end plan shown (Goto place) old new before after = GotoTells may_end place old new before after
+Answers known may_end plan shown (Goto place) old new before after = GotoTells may_end plan (Goto place) place old new before after
 Answers known may_end plan shown word old new before after = Shows shown old word before after

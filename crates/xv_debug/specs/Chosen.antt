@@ -41,9 +41,6 @@ number_of c p at = if is_this p c.pid && (c.at == at) then c.number else 0
 abbrev pub left : (before after : ℕ) → Chosen → Chosen
 left before after c = if before == after then c else none
 
-abbrev pub IsLeft : (before after : ℕ) → Chosen → Type 0
-IsLeft before after c = (was : Chosen) × (c ≡ left before after was)
-
 -- ---- the call after a word; `last` is the number of the first call that led there, `now` that of the call at which words look
 
 abbrev pub steps : Option ℕ → ℕ
@@ -135,10 +132,8 @@ seen_call number tables s p = if number == 0 then Some Last else caller_seen (ca
 abbrev pub IsSeenCall : ProgramSource → Recorded → (p number : ℕ) → Option SeenCall → Type 0
 IsSeenCall source s p number call = call ≡ seen_call number (frames_known source.symbols.now) s.machine.world.state p
 
--- A variable is looked up in the call at which words look, of the process at which they do
-pub record IsLookedAt (known : Option Sources) (c : Chosen) (s : Recorded) (call : Option SeenCall) : Type 0 where
-  pub pid : ℕ
-  pub source : ProgramSource
+-- this is the call at which words look, of the process at which they do, whose program has this source
+pub record IsLookedAt (known : Option Sources) (c : Chosen) (s : Recorded) (pid : ℕ) (source : ProgramSource) (call : Option SeenCall) : Type 0 where
   pub looks : IsFocus None s (Some pid)
   pub of : IsSourceOf known s.machine.world.state.programs (place_in pid s.names) source
   pub is : IsSeenCall source s pid (number_of c pid (length s.events)) call

@@ -3,6 +3,8 @@ use Rattle.std.specs.Prelude.{◌≡◌, ℕ, ◌+◌, ◌-◌, ◌^◌, ◌==�
 use Rattle.arrayvec.specs.ArrayString.{ArrayString as Text}
 use Rattle.xv_debug.specs.declared.frame_words.Display.{Display}
 use Rattle.xv_debug.specs.declared.frame_words.Display.TheVariants as asks
+use Rattle.xv_debug.specs.declared.frame_words.FrameWord.{FrameWord}
+use Rattle.xv_debug.specs.declared.frame_words.FrameWord.TheVariants as words
 use Rattle.xv_debug.specs.declared.displays.TheConstants.{DISPLAYS_MOST}
 use Rattle.xv_debug.specs.declared.displays.Displayed.{Displayed}
 use Rattle.xv_debug.specs.declared.displays.KeptDisplays.{KeptDisplays}
@@ -37,3 +39,8 @@ displays_after (asks.Add line) displays = kept_after displays line
 displays_after (asks.Forget number) displays = left_without number displays.kept.items
 displays_after asks.Show displays = displays.kept.items
 displays_after asks.List displays = displays.kept.items
+
+-- of the words of calls only these do anything to them
+abbrev pub displays_by : FrameWord → KeptDisplays → List Displayed
+displays_by (words.Display display) shown = displays_after display shown
+displays_by _ shown = shown.kept.items

@@ -1,5 +1,5 @@
 -- What the words do to a session: words that look leave it as it was; the others send events, or go back.
-use Rattle.std.specs.Prelude.{◌≡◌, ◌≢◌, ◌⊎◌, ◌≤◌, ◌<◌, ◌-◌, ℕ, Bool, true, false, List, [], map, take, length, replicate, Option, None, Some, IfSome}
+use Rattle.std.specs.Prelude.{◌≡◌, ◌≢◌, ◌⊎◌, ◌≤◌, ◌<◌, ◌-◌, ℕ, Bool, true, false, List, [], map, take, length, min, replicate, Option, None, Some, IfSome}
 use Rattle.kernel_spec.specs.runs.Run as runs
 use Rattle.kernel_spec.specs.runs.Run.{Event, Outcome}
 use Rattle.xv_session.specs.Answers.{WentBack}
@@ -17,7 +17,8 @@ use Rattle.xv_debug.specs.motion.Finishing.{IsFinishAim}
 use Rattle.xv_debug.specs.motion.Backwards.{GoesBackUntil}
 use Rattle.xv_debug.specs.motion.Lines.{IsLineOf}
 use Rattle.xv_debug.specs.declared.motion.aiming.Aim.{Aim}
-use Rattle.xv_debug.specs.declared.motion.aiming.Aim.TheVariants.{On}
+use Rattle.xv_debug.specs.declared.motion.aiming.Aim.TheVariants.{Nothing, On}
+use Rattle.xv_debug.specs.motion.Clock.{HasAhead, NoneAhead}
 use Rattle.xv_debug.specs.motion.Plan.{Planned}
 use Rattle.xv_debug.specs.motion.Ran.{Ran}
 use Rattle.xv_debug.specs.motion.Reaching.{Reaches, IsRefusal, IsRefusedBy, Test, met_from}
@@ -61,14 +62,18 @@ pub record Steps (may_end : Bool) (count : ℕ) (old new : Recorded) : Type 0 wh
   pub rests : RestsIf stop new.machine.world
   pub reason : IsRefusedBy stop new
 
--- Events were sent by the plan, up to the first Run that is what is waited for; or fewer than that, where nobody may go on, none waits for a tick and no key is left, it was broken off, the session keeps no more events, or all that a word may send were sent
-pub record Searches (may_end : Bool) (plan : Planned) (test : Test) (old new : Recorded) : Type 0 where
+-- Events were sent by the plan, up to the first Run that is what is waited for; or fewer than that, where the record has no event, nobody may go on, none waits for a tick and no key is left, it was broken off, the session keeps no more events, or `most` were sent
+pub record SearchesWithin (may_end : Bool) (plan : Planned) (test : Test) (most : ℕ) (old new : Recorded) : Type 0 where
   pub stop : Stop
   pub sent : ℕ
   pub last : Option Outcome
   pub had : Output
   pub has : Output
-  pub reaches : Reaches may_end plan test EVENTS_MOST stop sent last old new had has
+  pub reaches : Reaches may_end plan test most stop sent last old new had has
+
+-- all that a word may send, at most
+abbrev pub Searches : (may_end : Bool) → (plan : Planned) → Test → (old new : Recorded) → Type 0
+Searches may_end plan test old new = SearchesWithin may_end plan test EVENTS_MOST old new
 
 -- up to this aim; where there is none, all stays
 abbrev pub SearchesAim : (may_end : Bool) → (plan : Planned) → Option Aim → Recorded → Recorded → Type 0
@@ -114,10 +119,34 @@ pub record Plays (may_end : Bool) (plan : Planned) (most : ℕ) (old new : Recor
 abbrev pub GoesBack : (count : ℕ) → Recorded → Recorded → Type 0
 GoesBack count old new = (new ≡ old) ⊎ WentBack (length old.events - count) old new
 
--- It has gone back to the place after so many events; it is as it was, if there were fewer, or if it was broken off, or the host had too little memory
-pub record GoesTo (place : ℕ) (old new : Recorded) : Type 0 where
+-- Events were sent by the plan, so many, whatever came of them; or fewer than that, where no event comes next, it was broken off, or the session keeps no more
+abbrev pub GoesOn : (may_end : Bool) → (plan : Planned) → (most : ℕ) → (old new : Recorded) → Type 0
+GoesOn may_end plan most old new = SearchesWithin may_end plan (met_from old Nothing []) most old new
+
+-- as many as lead to the place after so many events, or all that a word may send
+abbrev pub GoesOnTo : (may_end : Bool) → (plan : Planned) → (place : ℕ) → (old new : Recorded) → Type 0
+GoesOnTo may_end plan place old new = GoesOn may_end plan (min (place - length old.events) EVENTS_MOST) old new
+
+-- the one, if the record has an event for the place where the run is, and else the other
+abbrev pub ByRecord : (plan : Planned) → Recorded → (along apart : Type 0) → Type 0
+ByRecord plan s along apart = (HasAhead plan.recorded s.events → along) × (NoneAhead plan.recorded s.events → apart)
+
+-- how many events the record has for it
+abbrev pub events_ahead : Planned → Recorded → ℕ
+events_ahead plan s = length plan.recorded - length s.events
+
+-- On a record as many of its events were sent, to its end at most; and else so many Runs
+abbrev pub StepsOn : (may_end : Bool) → (plan : Planned) → (count : ℕ) → (old new : Recorded) → Type 0
+StepsOn may_end plan count old new = ByRecord plan old (GoesOn may_end plan (min count (events_ahead plan old)) old new) (Steps may_end count old new)
+
+-- On a record some of its events were sent, none behind its end; and else rounds were played
+abbrev pub PlaysOn : (may_end : Bool) → (plan : Planned) → (rounds : ℕ) → (old new : Recorded) → Type 0
+PlaysOn may_end plan rounds old new = ByRecord plan old ((most : ℕ) × (most ≤ events_ahead plan old) × GoesOn may_end plan most old new) (Plays may_end plan rounds old new)
+
+-- It has gone to the place after so many events: back, or on
+pub record GoesTo (may_end : Bool) (plan : Planned) (place : ℕ) (old new : Recorded) : Type 0 where
   pub back : place ≤ length old.events → GoesBack (length old.events - place) old new
-  pub ahead : length old.events < place → new ≡ old
+  pub ahead : length old.events < place → GoesOnTo may_end plan place old new
 
 -- It has gone back to the last Run that was this aim, if there is one
 abbrev pub GoesBackTo : Option Aim → Recorded → Recorded → Type 0
@@ -132,15 +161,15 @@ pub record SeeksBack (goal : Goal) (old new : Recorded) : Type 0 where
 
 -- What a word leaves
 abbrev pub Does : (may_end : Bool) → (plan : Planned) → words.Word → Recorded → Recorded → Type 0
-Does may_end plan (Step count) old new = Steps may_end count old new
+Does may_end plan (Step count) old new = StepsOn may_end plan count old new
 Does may_end plan Next old new = Searches may_end plan (met_from old (aim_in old.machine.world) []) old new
 Does may_end plan (Until goal) old new = SearchesGoal may_end plan goal old new
-Does may_end plan (Run rounds) old new = Plays may_end plan rounds old new
+Does may_end plan (Run rounds) old new = PlaysOn may_end plan rounds old new
 Does may_end plan (Tick count) old new = SendsFirst may_end (λ n. replicate n runs.Tick) count old new
 Does may_end plan (Send count) old new = SendsFirst may_end (λ n. replicate n runs.Send) count old new
 Does may_end plan (Key keys) old new = SendsFirst false (λ n. map runs.Key (take n keys.items)) (length keys.items) old new
 Does may_end plan (Back count) old new = GoesBack count old new
-Does may_end plan (Goto place) old new = GoesTo place old new
+Does may_end plan (Goto place) old new = GoesTo may_end plan place old new
 Does may_end plan (BackUntil goal) old new = SeeksBack goal old new
 Does may_end plan (ToMark marks) old new = Searches may_end plan (met_from old (On waits_for.Fault) marks.items) old new
 Does may_end plan Finish old new = Finishes may_end plan old new

@@ -1,5 +1,5 @@
 -- The marks that are kept, and what words do to them.
-use Rattle.std.specs.Prelude.{◌≡◌, ℕ, ◌+◌, ◌-◌, ◌^◌, ◌==◌, ◌&&◌, ◌||◌, Bool, true, false, not, nat_lt, if◌then◌else◌, List, [], ◌∷◌, ◌++◌, length, map, filter, min, Option, None, Some}
+use Rattle.std.specs.Prelude.{◌≡◌, ℕ, ◌+◌, ◌-◌, ◌^◌, ◌==◌, ◌&&◌, ◌||◌, Bool, true, false, not, nat_lt, if◌then◌else◌, List, [], ◌∷◌, ◌++◌, length, map, filter, min, take, Option, None, Some}
 use Rattle.std.specs.List.{list_any}
 use Rattle.xv_session.specs.declared.running.Running.{Running}
 use Rattle.debug_words.specs.declared.vocabulary.Mark.{Mark}
@@ -19,13 +19,20 @@ abbrev pub left_at : Running → List Kept → List Kept
 left_at r marks = filter (is_left r) marks
 
 -- the next mark: its number is one more than that of the last that was made
-abbrev pub next_mark : KeptMarks → Mark → (once : Bool) → Kept
-next_mark marks mark once = record { number = min (marks.made + 1) (2 ^ 32 - 1); mark = mark; once = once }
+abbrev pub next_number : (made : ℕ) → ℕ
+next_number made = min (made + 1) (2 ^ 32 - 1)
 
--- the marks after one more is kept, if there is room
-abbrev pub kept_after : KeptMarks → Mark → (once : Bool) → List Kept
-kept_after marks mark once =
-    if nat_lt (length marks.kept.items) MARKS_MOST then marks.kept.items ++ next_mark marks mark once ∷ [] else marks.kept.items
+abbrev pub next_mark : (made : ℕ) → Mark → (once : Bool) → Kept
+next_mark made mark once = record { number = next_number made; mark = mark; once = once }
+
+-- new marks, each with the number after that of the one before; so many were made before them
+abbrev pub numbered_from : (made : ℕ) → List Mark → (once : Bool) → List Kept
+numbered_from made [] once = []
+numbered_from made (m ∷ ms) once = next_mark made m once ∷ numbered_from (next_number made) ms once
+
+-- the marks after more are kept: as many as there is room for
+abbrev pub kept_after : KeptMarks → List Mark → (once : Bool) → List Kept
+kept_after marks new once = take MARKS_MOST (marks.kept.items ++ numbered_from marks.made new once)
 
 -- it has this number
 abbrev pub is_numbered : (number : ℕ) → Kept → Bool
@@ -49,7 +56,7 @@ marks_of marks = map (λ k. k.mark) marks
 
 -- a word that keeps one, forgets some, or lists them
 abbrev pub marks_after : Word → KeptMarks → List Kept
-marks_after (words.Mark mark once) marks = kept_after marks mark once
+marks_after (words.Mark new once) marks = kept_after marks new.items once
 marks_after (words.Delete number) marks = left_without number marks.kept.items
 marks_after _ marks = marks.kept.items
 

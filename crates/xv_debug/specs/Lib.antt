@@ -1,9 +1,11 @@
 pub mod AnswerText
+pub mod CallWords
 pub mod Chosen
 pub mod Conversations
 pub mod Displays
 pub mod Effects
 pub mod Focus
+pub mod FrameWords
 pub mod Instructions
 pub mod Kept
 pub mod LookText
@@ -15,5 +17,6 @@ pub mod PipeText
 pub mod ProcessText
 pub mod ReasonText
 pub mod StopText
+pub mod ToldOfC
 pub mod Variables
 pub mod WhereText

@@ -1,5 +1,5 @@
 -- What a word has sent, and why no more, as it is told.
-use Rattle.std.specs.Prelude.{ℕ, List, [], ◌++◌, codes, decimal, Option, None, Some, option_map}
+use Rattle.std.specs.Prelude.{ℕ, Bool, true, false, List, [], ◌++◌, codes, decimal, Option, None, Some, option_map}
 use Rattle.kernel_spec.specs.runs.Run.{Outcome}
 use Rattle.xv_machine.specs.Events.{outcome_of}
 use Rattle.xv_session.specs.declared.session.PlayError.{PlayError}
@@ -74,9 +74,10 @@ no_return = codes "no process runs whose function has a known return address: bt
 abbrev pub back_text : (taken : ℕ) → List ℕ
 back_text taken = many taken (codes "event") ++ codes " back\n"
 
--- where a run hasn't so many events
-abbrev pub ahead_text : (at : ℕ) → List ℕ
-ahead_text at = codes "the run has " ++ many at (codes "event") ++ codes ": until, c and run go on\n"
+-- where the record that a run was on has no event for it any more: a word that goes by the plan has come past its end; another one has sent an event that isn't the record's
+abbrev pub off_text : (by_plan : Bool) → (recorded : ℕ) → List ℕ
+off_text true recorded = codes "the record is over after " ++ many recorded (codes "event") ++ codes ": from there on the run has gone by the clock\n"
+off_text false recorded = codes "the run has left the record: back leads onto it again\n"
 
 -- why a word didn't go back
 abbrev pub unplayed_text : PlayError → List ℕ

@@ -20,8 +20,8 @@ use crate::pipes::show_pipes;
 use crate::processes::{show_process, show_processes, show_where};
 use crate::reasons::show_reason;
 use crate::shown_output::show_output;
-use crate::stops::{show_ahead, show_sent, show_unplayed};
-use crate::variables::{ToldInCall, is_of_c_alone, told_of_c};
+use crate::stops::{show_off, show_sent, show_unplayed};
+use crate::variables::{ToldInCall, is_of_c_alone, text_told, told_of_c};
 use debug_views::{show_console, show_events, show_frames, show_memory, show_trace, show_value};
 use debug_words::texts::Many;
 use debug_words::{
@@ -30,7 +30,7 @@ use debug_words::{
 use std::alloc::{AllocError, Global};
 use xk_base::Pid;
 use xv_machine::Event;
-use xv_report::{ProgramSource, Sources, source_of};
+use xv_report::{LineNamed, ProgramSource, Sources, source_of};
 use xv_session::{Condition, Patience, Session};
 
 /// The instructions that `where` lists.
@@ -96,7 +96,7 @@ fn see_to_marks<'a>(
         focus: None,
     };
     match word {
-        Word::Mark { mark, once } => marks.keep(&known, *mark, *once, answer),
+        Word::Mark { marks: asked, once } => marks.keep(&known, asked.as_slice(), *once, answer),
         Word::Delete { number } => marks.delete(&known, *number, answer),
         _ => marks.show(&known, answer),
     }
@@ -112,6 +112,27 @@ fn goes_on(word: &Word) -> bool
     }
 }
 
+/// Whether it is a word that goes on by the plan.
+fn goes_by_plan(word: &Word) -> bool {
+    match word {
+        Word::Next
+        | Word::Until(_)
+        | Word::Finish
+        | Word::Continue
+        | Word::ToMark(_)
+        | Word::Goto { .. } => true,
+        _ => false,
+    }
+}
+
+/// Whether it is a word that sends the events that it names.
+fn sends_by_hand(word: &Word) -> bool {
+    match word {
+        Word::Tick { .. } | Word::Send { .. } | Word::Key(_) => true,
+        _ => false,
+    }
+}
+
 /// Writes what a word does; of no word a line for each, and for each of those that ask of calls and variables.
 fn show_all_help(topic: Option<Topic>, answer: &mut String) -> Result<(), AllocError> {
     show_help(topic, answer)?;
@@ -119,6 +140,13 @@ fn show_all_help(topic: Option<Topic>, answer: &mut String) -> Result<(), AllocE
         Some(_) => Ok(()),
         None => show_frame_topics(answer),
     }
+}
+
+/// Writes a text.
+fn put_text(text: &str, answer: &mut String) -> Result<(), AllocError>
+    ensures { OnOk result (string_bytes answer.new ≡ string_bytes answer.old ++ text.now) }
+{
+    answer.push_str(text)
 }
 
 /// Writes that it isn't known where a function ends.
@@ -143,18 +171,24 @@ fn has_names(session: &Session) -> bool {
     }
 }
 
-/// Writes why a register or a name isn't known, if it is since nobody lives.
+/// Writes why a line isn't known, or a register or a name, if it is since nobody lives.
 fn show_nameless(
-    session: &Session,
+    known: &Known<'_>,
     error: &WordError<'_>,
     answer: &mut String,
 ) -> Result<(), AllocError> {
-    match error.kind {
-        WordErrorKind::NotANumber(_) if !has_names(session) => answer.push_str(
-            "no process lives that could have it: back goes back, or name it PROGRAM:NAME\n",
-        ),
-        _ => Ok(()),
+    let WordErrorKind::NotANumber(text) = error.kind else {
+        return Ok(());
+    };
+    if LineNamed::of(text).is_some() {
+        return known.show_lineless(text, answer);
     }
+    if has_names(known.session) {
+        return Ok(());
+    }
+    answer.push_str(
+        "no process lives that could have it: back goes back, or name it PROGRAM:NAME\n",
+    )
 }
 
 impl Debugger {
@@ -173,13 +207,15 @@ impl Debugger {
     ghost use Rattle.xv_debug.specs.motion.Reaching.{met_from};
     ghost use Rattle.debug_views.specs.MemoryText.{memory_shown};
     ghost use Rattle.debug_views.specs.Written.{Writes};
-    ghost use Rattle.xv_debug.specs.AnswerText.{Answers, BackTells, BackUntilTells, FinishTells, GoalTells, GotoTells, IsBackText};
-    ghost use Rattle.xv_debug.specs.AnswerText.{IsSentText, RoundsTell, SearchTells, SeekBackTells, SendsTell, StepTells};
-    ghost use Rattle.xv_debug.specs.Effects.{Does, DoesOrStays, DoesSome, Finishes, GoesBack, GoesTo, IsAimOf, Obeys, Plays, Searches, SearchesGoal, SeeksBack, SendsFirst, Steps, next_of};
+    ghost use Rattle.xv_debug.specs.AnswerText.{Answers, BackTells, BackUntilTells, FinishTells, GoalTells, GoesOnTells, GotoTells, IsBackText};
+    ghost use Rattle.xv_debug.specs.AnswerText.{IsSentText, PlaysOnTell, RoundsTell, SearchTells, SearchTellsWithin, SeekBackTells, SendsTell, StepTells, StepsOnTell};
+    ghost use Rattle.xv_debug.specs.Effects.{Does, DoesOrStays, DoesSome, Finishes, GoesBack, GoesOn, GoesTo, IsAimOf, Obeys, Plays, PlaysOn, Searches, SearchesGoal, SearchesWithin, SeeksBack, SendsFirst, Steps, StepsOn, next_of};
     ghost use Rattle.xv_debug.specs.Kept.{IsToMarks, goes_to_none, left_after, marks_of};
     ghost use Rattle.xv_debug.specs.LookText.{IsOfFocus, Shows};
-    ghost use Rattle.xv_debug.specs.Chosen.{Chooses, IsLeft, IsLookedAt};
-    ghost use Rattle.xv_debug.specs.Displays.{displays_after};
+    ghost use Rattle.xv_debug.specs.CallWords.{LeavesChosen, TellsOfCalls};
+    ghost use Rattle.xv_debug.specs.Chosen.{Chooses, left};
+    ghost use Rattle.xv_debug.specs.Displays.{displays_after, displays_by};
+    ghost use Rattle.xv_debug.specs.ToldOfC.{AreDisplaysTold, IsDisplayTold, IsLineRead, IsLineTold, IsToldOf, ShowsIfMoved, ShowsRead, TellsOfC};
     ghost use Rattle.xv_debug.specs.Focus.{IsSourceLookedAt};
     ghost use Rattle.xv_report.specs.Locations.{IsSourceOf};
     ghost use Rattle.xv_debug.specs.OutputText.{output_text};
@@ -286,7 +322,7 @@ impl Debugger {
         answer: &mut String,
     ) -> Result<Next, AllocError>
         ensures done { IfOk result (λ next. Obeys P.may_end self.old.plan session.old session.new next) }
-        ensures moved { IfOk result (λ _. IsLeft (length session.old.events) (length session.new.events) self.new.chosen) }
+        ensures chosen { IfOk result (λ _. LeavesChosen self.old.sources line.now session.old (length session.old.events) (length session.new.events) self.old.chosen self.new.chosen) }
         ensures failed { IfErr result (λ _. (session.new ≡ session.old) ⊎ DoesSome P.may_end self.old.plan session.old session.new) }
         ensures plan { self.new.plan ≡ self.old.plan }
     {
@@ -300,7 +336,7 @@ impl Debugger {
             Ok(word) => self.answer_displayed(alloc, session, word, patience, answer),
             Err(error) => {
                 writeln!(answer, "{error}")?;
-                show_nameless(session, &error, answer)?;
+                self.tell_nameless(session, &error, answer)?;
                 Ok(Next::Stays)
             }
         }
@@ -314,6 +350,8 @@ impl Debugger {
         line: &str,
         answer: &mut String,
     ) -> Result<bool, AllocError>
+        ensures told { IfOk result (TellsOfCalls self.old.sources line.now session.now self.old.chosen self.new.chosen self.old.displays self.new.displays) }
+        ensures sources { self.new.sources ≡ self.old.sources }
         ensures plan { self.new.plan ≡ self.old.plan }
     {
         match frame_word_of(line) {
@@ -338,6 +376,8 @@ impl Debugger {
         answer: &mut String,
     ) -> Result<(), AllocError>
         ensures chosen { OnOk result (Chooses self.old.sources word session.now self.old.chosen self.new.chosen) }
+        ensures displays { self.new.displays.kept.items ≡ displays_by word self.old.displays }
+        ensures sources { self.new.sources ≡ self.old.sources }
         ensures plan { self.new.plan ≡ self.old.plan }
     {
         match word {
@@ -361,7 +401,7 @@ impl Debugger {
         session: &Session,
         line: &str,
     ) -> Result<Option<ToldInCall>, AllocError>
-        ensures { IfOk result (λ told. IfSome told (λ t. IsLookedAt self.now.sources self.now.chosen session.now t.call)) }
+        ensures { IfOk result (IsToldOf self.now.sources self.now.chosen session.now line.now) }
     {
         told_of_c(alloc, session, self.sources.as_ref(), &self.chosen, line)
     }
@@ -374,18 +414,34 @@ impl Debugger {
         session: &Session,
         line: &str,
         answer: &mut String,
-    ) -> Result<bool, AllocError> {
-        if let Some(told) = self.told_in_call(alloc, session, line)? {
-            if let Some(text) = &told.text {
-                answer.push_str(text.as_str())?;
-                return Ok(true);
-            }
+    ) -> Result<bool, AllocError>
+        ensures { IfOk result (TellsOfC self.now.sources self.now.chosen session.now line.now (string_bytes answer.old) (string_bytes answer.new)) }
+    {
+        let told = self.told_in_call(alloc, session, line)?;
+        if let Some(text) = text_told(&told) {
+            put_text(text, answer)?;
+            return Ok(true);
         }
         if is_of_c_alone(line) {
             self.show_focus(alloc, session, None, 0, answer)?;
             return Ok(true);
         }
         Ok(false)
+    }
+
+    /// Writes why what a line names isn't known.
+    fn tell_nameless(
+        &self,
+        session: &Session,
+        error: &WordError<'_>,
+        answer: &mut String,
+    ) -> Result<(), AllocError> {
+        let known = Known {
+            session,
+            sources: self.sources.as_ref(),
+            focus: focus(session, None),
+        };
+        show_nameless(&known, error, answer)
     }
 
     /// The word of a line.
@@ -415,8 +471,8 @@ impl Debugger {
         Word::ToMark(self.marks.marks())
     }
 
-    /// Does what a word of a line asks for, and writes its answer; if the run is at another place then, what is shown after
-    /// each word that moves it, too.
+    /// Does what a word of a line asks for, and writes its answer; if the run isn't on the record any more, that; and if it is
+    /// at another place, what is shown after each word that moves it, too.
     fn answer_displayed<P: Patience>(
         &mut self,
         alloc: Global,
@@ -426,13 +482,19 @@ impl Debugger {
         answer: &mut String,
     ) -> Result<Next, AllocError>
         requires { IsInRange word }
+        ensures shown { OnOk result (ShowsIfMoved self.new.sources self.new.chosen (length session.old.events) session.new self.new.displays.kept.items (string_bytes answer.new)) }
         ensures done { IfOk result (λ next. Obeys P.may_end self.old.plan session.old session.new next) }
-        ensures moved { IsLeft (length session.old.events) (length session.new.events) self.new.chosen }
+        ensures chosen { self.new.chosen ≡ left (length session.old.events) (length session.new.events) self.old.chosen }
         ensures failed { IfErr result (λ _. (session.new ≡ session.old) ⊎ DoesSome P.may_end self.old.plan session.old session.new) }
         ensures plan { self.new.plan ≡ self.old.plan }
     {
         let at = session.at();
+        let by_plan = goes_by_plan(&word);
+        let along = (by_plan || sends_by_hand(&word)) && self.plan.has_ahead(session);
         let next = self.answer_marked(alloc, session, word, patience, answer)?;
+        if along && !self.plan.is_followed(session) {
+            show_off(by_plan, self.plan.recorded(), answer)?;
+        }
         if session.at() != at {
             self.show_displays(alloc, session, answer)?;
         }
@@ -451,16 +513,34 @@ impl Debugger {
     ) -> Result<Next, AllocError>
         requires { IsInRange word }
         ensures done { IfOk result (λ next. Obeys P.may_end self.old.plan session.old session.new next) }
-        ensures moved { IsLeft (length session.old.events) (length session.new.events) self.new.chosen }
+        ensures chosen { self.new.chosen ≡ left (length session.old.events) (length session.new.events) self.old.chosen }
         ensures failed { IfErr result (λ _. (session.new ≡ session.old) ⊎ DoesSome P.may_end self.old.plan session.old session.new) }
         ensures plan { self.new.plan ≡ self.old.plan }
     {
         let word = self.with_marks(word);
         let at = session.at();
+        let chosen = self.chosen;
         let next = self.obey_word(alloc, session, &word, patience, answer);
+        let told = self.tell_met(alloc, session, &word, answer);
         self.forget_met(session, &word);
-        self.chosen = self.chosen.left(at, session.at());
-        next
+        self.chosen = chosen.left(at, session.at());
+        let next = next?;
+        told?;
+        Ok(next)
+    }
+
+    /// Writes which marks are met where the session is, after the word that goes on to them.
+    fn tell_met(
+        &self,
+        alloc: Global,
+        session: &Session,
+        word: &Word,
+        answer: &mut String,
+    ) -> Result<(), AllocError> {
+        match word {
+            Word::ToMark(_) => self.marks.show_met(alloc, session, answer),
+            _ => Ok(()),
+        }
     }
 
     /// Forgets the marks for once that are met where the session is, after the word that goes on to them.
@@ -533,12 +613,12 @@ impl Debugger {
     {
         match word {
             Word::Back { count } => self.go_back(alloc, session, *count, patience, answer),
-            Word::Goto { place } => self.go_to(alloc, session, *place, patience, answer),
+            Word::Goto { place } => self.go_to(alloc, session, word, *place, patience, answer),
             Word::BackUntil(goal) => self.seek_back(alloc, session, goal, patience, answer),
-            Word::Step { count } => self.step(alloc, session, word, *count, patience, answer),
+            Word::Step { count } => self.step_on(alloc, session, word, *count, patience, answer),
             Word::Next => self.next(alloc, session, word, patience, answer),
             Word::Until(goal) => self.seek(alloc, session, word, goal, patience, answer),
-            Word::Run { rounds } => self.play(alloc, session, word, *rounds, patience, answer),
+            Word::Run { rounds } => self.play_on(alloc, session, word, *rounds, patience, answer),
             Word::Tick { count } => self.send_often(
                 alloc,
                 session,
@@ -606,23 +686,26 @@ impl Debugger {
         }
     }
 
-    /// Goes back to the place after so many events, and tells where that is; if there are fewer, it tells how many.
+    /// Goes to the place after so many events, back or on by the plan, and tells where that is.
     fn go_to<P: Patience>(
         &self,
         alloc: Global,
         session: &mut Session,
+        word: &Word,
         place: u64,
         patience: &mut P,
         answer: &mut String,
     ) -> Result<(), AllocError>
-        ensures done { GoesTo place session.old session.new }
+        ensures done { IfOk result (λ _. GoesTo P.may_end self.now.plan place session.old session.new) }
         ensures told { OnOk result
-            (GotoTells P.may_end place session.old session.new
+            (GotoTells P.may_end self.now.plan word.now place session.old session.new
             (string_bytes answer.old) (string_bytes answer.new)) }
+        ensures failed { IfErr result (λ _. (session.new ≡ session.old) ⊎ GoesTo P.may_end self.now.plan place session.old session.new) }
     {
         let at = session.at();
         if at < place {
-            return show_ahead(at, answer);
+            let most = (place - at).min(u64::from(EVENTS_MOST)) as u32;
+            return self.go_on_by(alloc, session, word, most, patience, answer);
         }
         self.go_back(alloc, session, at - place, patience, answer)
     }
@@ -644,6 +727,84 @@ impl Debugger {
         self.show_focus(alloc, session, None, 1, answer)
     }
 
+    /// Goes on by the plan, by so many events at most, and tells what came of them.
+    fn go_on_by<P: Patience>(
+        &self,
+        alloc: Global,
+        session: &mut Session,
+        word: &Word,
+        most: u32,
+        patience: &mut P,
+        answer: &mut String,
+    ) -> Result<(), AllocError>
+        ensures done { IfOk result (λ _. GoesOn P.may_end self.now.plan most session.old session.new) }
+        ensures told { OnOk result
+            (GoesOnTells P.may_end self.now.plan word.now most session.old session.new
+            (string_bytes answer.old) (string_bytes answer.new)) }
+        ensures failed { IfErr result (λ _. (session.new ≡ session.old) ⊎ GoesOn P.may_end self.now.plan most session.old session.new) }
+    {
+        self.search_within(
+            alloc,
+            session,
+            word,
+            most,
+            &Aim::Nothing,
+            &[],
+            patience,
+            answer,
+        )
+    }
+
+    /// Sends as many events of the record as `step` has to, if it has some for this place, and else so many Runs, and tells
+    /// what came of them.
+    fn step_on<P: Patience>(
+        &self,
+        alloc: Global,
+        session: &mut Session,
+        word: &Word,
+        count: u32,
+        patience: &mut P,
+        answer: &mut String,
+    ) -> Result<(), AllocError>
+        ensures done { IfOk result (λ _. StepsOn P.may_end self.now.plan count session.old session.new) }
+        ensures told { OnOk result
+            (StepsOnTell P.may_end self.now.plan word.now count session.old session.new
+            (string_bytes answer.old) (string_bytes answer.new)) }
+        ensures failed { IfErr result (λ _. (session.new ≡ session.old) ⊎ StepsOn P.may_end self.now.plan count session.old session.new) }
+    {
+        if self.plan.has_ahead(session) {
+            let ahead = self.plan.recorded().saturating_sub(session.at());
+            let most = u64::from(count).min(ahead) as u32;
+            return self.go_on_by(alloc, session, word, most, patience, answer);
+        }
+        self.step(alloc, session, word, count, patience, answer)
+    }
+
+    /// Sends the events of the record up to so many Ticks, if it has some for this place, and else plays so many rounds, and
+    /// tells what came of them.
+    fn play_on<P: Patience>(
+        &self,
+        alloc: Global,
+        session: &mut Session,
+        word: &Word,
+        rounds: u32,
+        patience: &mut P,
+        answer: &mut String,
+    ) -> Result<(), AllocError>
+        ensures done { IfOk result (λ _. PlaysOn P.may_end self.now.plan rounds session.old session.new) }
+        ensures told { OnOk result
+            (PlaysOnTell P.may_end self.now.plan word.now rounds session.old session.new
+            (string_bytes answer.old) (string_bytes answer.new)) }
+        ensures failed { IfErr result (λ _. (session.new ≡ session.old) ⊎ PlaysOn P.may_end self.now.plan rounds session.old session.new) }
+    {
+        if self.plan.has_ahead(session) {
+            let ahead = self.plan.up_to_ticks(session.at(), rounds);
+            let most = ahead.min(u64::from(EVENTS_MOST)) as u32;
+            return self.go_on_by(alloc, session, word, most, patience, answer);
+        }
+        self.play(alloc, session, word, rounds, patience, answer)
+    }
+
     /// Sends so many Runs, and tells what came of them.
     fn step<P: Patience>(
         &self,
@@ -663,7 +824,30 @@ impl Debugger {
         self.tell(alloc, session, word, &journey, answer)
     }
 
-    /// Sends events by the plan up to an aim or a mark, and tells what came of them.
+    /// Sends events by the plan, so many at most, up to an aim or a mark, and tells what came of them.
+    fn search_within<P: Patience>(
+        &self,
+        alloc: Global,
+        session: &mut Session,
+        word: &Word,
+        most: u32,
+        aim: &Aim,
+        marks: &[Mark],
+        patience: &mut P,
+        answer: &mut String,
+    ) -> Result<(), AllocError>
+        ensures done { IfOk result (λ _. SearchesWithin P.may_end self.now.plan (met_from session.old aim.now marks.now) most session.old session.new) }
+        ensures told { OnOk result
+            (SearchTellsWithin P.may_end self.now.plan word.now (met_from session.old aim.now marks.now) most
+            session.old session.new (string_bytes answer.old) (string_bytes answer.new)) }
+        ensures failed { IfErr result (λ _. (session.new ≡ session.old) ⊎ SearchesWithin P.may_end self.now.plan (met_from session.old aim.now marks.now) most session.old session.new) }
+    {
+        let mut output = Output::new(alloc)?;
+        let journey = motion::search(session, &self.plan, most, aim, marks, patience, &mut output);
+        self.tell_shown(alloc, session, word, &journey, &output, answer)
+    }
+
+    /// Sends events by the plan, as many as a word may send, up to an aim or a mark, and tells what came of them.
     fn search<P: Patience>(
         &self,
         alloc: Global,
@@ -680,17 +864,16 @@ impl Debugger {
             session.old session.new (string_bytes answer.old) (string_bytes answer.new)) }
         ensures failed { IfErr result (λ _. (session.new ≡ session.old) ⊎ Searches P.may_end self.now.plan (met_from session.old aim.now marks.now) session.old session.new) }
     {
-        let mut output = Output::new(alloc)?;
-        let journey = motion::search(
+        self.search_within(
+            alloc,
             session,
-            &self.plan,
+            word,
             EVENTS_MOST,
             aim,
             marks,
             patience,
-            &mut output,
-        );
-        self.tell_shown(alloc, session, word, &journey, &output, answer)
+            answer,
+        )
     }
 
     /// Sends events by the plan up to the end of an instruction, and of the call that it makes.
@@ -1018,6 +1201,7 @@ impl Debugger {
     ) -> Result<(), AllocError>
         ensures kept { self.new.displays.kept.items ≡ displays_after display self.old.displays }
         ensures chosen { self.new.chosen ≡ self.old.chosen }
+        ensures sources { self.new.sources ≡ self.old.sources }
         ensures plan { self.new.plan ≡ self.old.plan }
     {
         match display {
@@ -1054,7 +1238,9 @@ impl Debugger {
         alloc: Global,
         session: &Session,
         answer: &mut String,
-    ) -> Result<(), AllocError> {
+    ) -> Result<(), AllocError>
+        ensures { OnOk result (AreDisplaysTold self.now.sources self.now.chosen session.now self.now.displays.kept.items (string_bytes answer.old) (string_bytes answer.new)) }
+    {
         for displayed in self.displays.as_slice() {
             self.show_displayed(alloc, session, displayed, answer)?;
         }
@@ -1068,18 +1254,38 @@ impl Debugger {
         session: &Session,
         displayed: &Displayed,
         answer: &mut String,
-    ) -> Result<(), AllocError> {
+    ) -> Result<(), AllocError>
+        ensures { OnOk result (IsDisplayTold self.now.sources self.now.chosen session.now displayed.now (string_bytes answer.old) (string_bytes answer.new)) }
+    {
         let number = displayed.number;
         let line = displayed.line.as_str();
         write!(answer, "{number}: ")?;
         if self.tells_of_c(alloc, session, line, answer)? {
             return Ok(());
         }
+        self.show_line(alloc, session, line, answer)?;
+        Ok(())
+    }
+
+    /// Writes a line, and what its word tells of numbers or instructions, or why it is none.
+    fn show_line(
+        &self,
+        alloc: Global,
+        session: &Session,
+        line: &str,
+        answer: &mut String,
+    ) -> Result<(), AllocError>
+        ensures { OnOk result (IsLineTold session.now line.now (string_bytes answer.old) (string_bytes answer.new)) }
+    {
         match self.read(session, line) {
-            Ok(word) => self.show_read(alloc, session, line, &word, answer),
+            Ok(word) => {
+                self.show_read(alloc, session, line, &word, answer)?;
+                Ok(())
+            }
             Err(error) => {
                 let kind = error.kind;
-                writeln!(answer, "{line}: {kind}")
+                let why = format!(in alloc; "{kind}")?;
+                writeln!(answer, "{line}: {why}")
             }
         }
     }
@@ -1092,8 +1298,24 @@ impl Debugger {
         line: &str,
         word: &Word,
         answer: &mut String,
-    ) -> Result<(), AllocError> {
+    ) -> Result<(), AllocError>
+        ensures { OnOk result (IsLineRead session.now line.now word.now (string_bytes answer.old) (string_bytes answer.new)) }
+    {
         writeln!(answer, "{line}")?;
+        self.show_word(alloc, session, word, answer)?;
+        Ok(())
+    }
+
+    /// Writes what a word tells of numbers or instructions.
+    fn show_word(
+        &self,
+        alloc: Global,
+        session: &Session,
+        word: &Word,
+        answer: &mut String,
+    ) -> Result<(), AllocError>
+        ensures { OnOk result (ShowsRead session.now word.now (string_bytes answer.old) (string_bytes answer.new)) }
+    {
         match word {
             Word::Value(value) => show_value(*value, answer),
             Word::Numbers {

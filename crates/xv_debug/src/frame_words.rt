@@ -1,6 +1,13 @@
 //! Words that ask of calls, of variables of C, and of what is shown again and again: what a line asks, and what help
 //! tells of each (Debugging with GDB, "Selecting a Frame" and "Automatic Display").
+ghost use Rattle.std.specs.Prelude.{◌≡◌, ◌≢◌, ◌∷◌, ◌++◌, [], ℕ, None, IfErr, IfOk, IfSome, option_map};
+ghost use Rattle.std.specs.List.{concat};
+ghost use Rattle.xv_debug.specs.FrameWords as meant;
+ghost use Rattle.xv_debug.specs.declared.frame_words.FrameTopic.TheVariants as topics;
+ghost use Rattle.xv_debug.specs.declared.frame_words.FrameWord.TheVariants as words;
+
 use arrayvec::ArrayString;
+use c_expressions::parted;
 use debug_words::WordErrorKind;
 use std::alloc::AllocError;
 use std::fmt;
@@ -189,13 +196,22 @@ bytes each with the word that tells it.",
     }
 
     /// The topic of this name.
-    fn named(name: &str) -> Option<FrameTopic> {
-        for topic in FRAME_TOPICS {
-            if topic.page().name == name {
-                return Some(topic);
-            }
+    fn named(name: &str) -> Option<FrameTopic>
+        ensures { result ≡ meant.topic_named name.now }
+    {
+        match name {
+            "up" => Some(FrameTopic::Up),
+            "down" => Some(FrameTopic::Down),
+            "frame" => Some(FrameTopic::Frame),
+            "info locals" => Some(FrameTopic::Locals),
+            "info args" => Some(FrameTopic::Arguments),
+            "whatis" => Some(FrameTopic::Whatis),
+            "ptype" => Some(FrameTopic::Ptype),
+            "display" => Some(FrameTopic::Display),
+            "undisplay" => Some(FrameTopic::Undisplay),
+            "info display" => Some(FrameTopic::Displays),
+            _ => None,
         }
-        None
     }
 }
 
@@ -230,7 +246,10 @@ impl<'a> fmt::Display for FrameWordError<'a> {
 }
 
 /// The number that a text writes, at least this.
-fn number_of(text: &str, least: u32) -> Result<u32, WordErrorKind<'_>> {
+fn number_of(text: &str, least: u32) -> Result<u32, WordErrorKind<'_>>
+    ensures is { IfOk result (meant.IsNumberFrom least text.now) }
+    ensures refused { IfErr result (λ _. (number : ℕ) → ¬ (meant.IsNumberFrom least text.now number)) }
+{
     match text.parse::<u32>() {
         Ok(number) if number >= least => Ok(number),
         Ok(_) => Err(WordErrorKind::OutOfRange {
@@ -246,7 +265,10 @@ fn number_of(text: &str, least: u32) -> Result<u32, WordErrorKind<'_>> {
 }
 
 /// The number behind a word, at least this, which may be left out.
-fn number_if(text: &str, least: u32) -> Result<Option<u32>, WordErrorKind<'_>> {
+fn number_if(text: &str, least: u32) -> Result<Option<u32>, WordErrorKind<'_>>
+    ensures is { IfOk result (meant.IsNumberIf least text.now) }
+    ensures refused { IfErr result (λ _. meant.HasNoNumber least text.now) }
+{
     if text.is_empty() {
         return Ok(None);
     }
@@ -256,53 +278,81 @@ fn number_if(text: &str, least: u32) -> Result<Option<u32>, WordErrorKind<'_>> {
     }
 }
 
-/// The texts one behind another, if they are short enough for a line that is shown again and again.
-fn joined(texts: [&str; 4]) -> Option<DisplayLine> {
-    let mut line = DisplayLine::new();
-    for text in texts {
-        if line.try_push_str(text).is_err() {
-            return None;
-        }
+/// Adds a text to a line that is shown again and again, if there is room.
+fn add_text(line: &mut DisplayLine, text: &str) -> Option<()>
+    ensures { IfSome result (λ _. line.new.bytes ≡ line.old.bytes ++ text.now) }
+{
+    match line.try_push_str(text) {
+        Ok(()) => Some(()),
+        Err(_) => None,
     }
+}
+
+/// The texts one behind another, if they are short enough for a line that is shown again and again.
+fn joined(one: &str, two: &str, three: &str, four: &str) -> Option<DisplayLine>
+    ensures { IfSome result (λ line. line.bytes ≡ concat (one.now ∷ two.now ∷ three.now ∷ four.now ∷ [])) }
+{
+    let mut line = DisplayLine::new();
+    add_text(&mut line, one)?;
+    add_text(&mut line, two)?;
+    add_text(&mut line, three)?;
+    add_text(&mut line, four)?;
     Some(line)
 }
 
 /// The line that tells what a text is about, in a form: `print` tells an expression, also as a hexadecimal number, and
 /// `x` what stands in memory at a place.
-fn line_of(form: &str, text: &str) -> Option<DisplayLine> {
+fn line_of(form: &str, text: &str) -> Option<DisplayLine>
+    ensures { IfSome result (λ line. line.bytes ≡ meant.line_of form.now text.now) }
+{
     match form {
-        "" => joined(["print ", text, "", ""]),
-        "x" => joined(["print/x ", text, "", ""]),
-        _ => joined(["x/", form, " ", text]),
+        "" => joined("print ", text, "", ""),
+        "x" => joined("print/x ", text, "", ""),
+        _ => joined("x/", form, " ", text),
     }
 }
 
 /// What `up` asks for, with the text behind it.
-fn up_by(text: &str) -> Result<Option<FrameWord>, WordErrorKind<'_>> {
+fn up_by(text: &str) -> Result<Option<FrameWord>, WordErrorKind<'_>>
+    ensures asked { IfOk result (meant.IsAskedBy topics.Up [] text.now) }
+    ensures refused { IfErr result (λ _. meant.IsRefusedBy topics.Up [] text.now) }
+{
     let count = number_if(text, 1)?;
     Ok(Some(FrameWord::Choose(Choice::Up { count })))
 }
 
 /// What `down` asks for, with the text behind it.
-fn down_by(text: &str) -> Result<Option<FrameWord>, WordErrorKind<'_>> {
+fn down_by(text: &str) -> Result<Option<FrameWord>, WordErrorKind<'_>>
+    ensures asked { IfOk result (meant.IsAskedBy topics.Down [] text.now) }
+    ensures refused { IfErr result (λ _. meant.IsRefusedBy topics.Down [] text.now) }
+{
     let count = number_if(text, 1)?;
     Ok(Some(FrameWord::Choose(Choice::Down { count })))
 }
 
 /// What `frame` asks for, with the text behind it.
-fn frame_of(text: &str) -> Result<Option<FrameWord>, WordErrorKind<'_>> {
+fn frame_of(text: &str) -> Result<Option<FrameWord>, WordErrorKind<'_>>
+    ensures asked { IfOk result (meant.IsAskedBy topics.Frame [] text.now) }
+    ensures refused { IfErr result (λ _. meant.IsRefusedBy topics.Frame [] text.now) }
+{
     let number = number_if(text, 0)?;
     Ok(Some(FrameWord::Choose(Choice::Frame { number })))
 }
 
 /// What `undisplay` asks for, with the text behind it.
-fn undisplay_of(text: &str) -> Result<Option<FrameWord>, WordErrorKind<'_>> {
+fn undisplay_of(text: &str) -> Result<Option<FrameWord>, WordErrorKind<'_>>
+    ensures asked { IfOk result (meant.IsAskedBy topics.Undisplay [] text.now) }
+    ensures refused { IfErr result (λ _. meant.IsRefusedBy topics.Undisplay [] text.now) }
+{
     let number = number_if(text, 1)?;
     Ok(Some(FrameWord::Display(Display::Forget { number })))
 }
 
 /// What `display` asks for, with a form and the text behind it.
-fn display_of<'a>(form: &str, text: &'a str) -> Result<Option<FrameWord>, WordErrorKind<'a>> {
+fn display_of<'a>(form: &str, text: &'a str) -> Result<Option<FrameWord>, WordErrorKind<'a>>
+    ensures asked { IfOk result (meant.IsAskedBy topics.Display form.now text.now) }
+    ensures refused { IfErr result (λ _. meant.IsRefusedBy topics.Display form.now text.now) }
+{
     if text.is_empty() {
         return Ok(Some(FrameWord::Display(Display::Show)));
     }
@@ -316,7 +366,10 @@ fn display_of<'a>(form: &str, text: &'a str) -> Result<Option<FrameWord>, WordEr
 }
 
 /// That something has to stand behind `whatis` and `ptype`: what they ask then is another word's.
-fn type_of(text: &str) -> Result<Option<FrameWord>, WordErrorKind<'_>> {
+fn type_of(text: &str) -> Result<Option<FrameWord>, WordErrorKind<'_>>
+    ensures asked { IfOk result (λ word. (text.now ≢ []) × (word ≡ None)) }
+    ensures refused { IfErr result (λ _. text.now ≡ []) }
+{
     if text.is_empty() {
         return Err(WordErrorKind::Missing("an expression or a type"));
     }
@@ -328,7 +381,10 @@ fn word_of<'a>(
     topic: FrameTopic,
     form: &str,
     text: &'a str,
-) -> Result<Option<FrameWord>, WordErrorKind<'a>> {
+) -> Result<Option<FrameWord>, WordErrorKind<'a>>
+    ensures asked { IfOk result (meant.IsAskedBy topic form.now text.now) }
+    ensures refused { IfErr result (λ _. meant.IsRefusedBy topic form.now text.now) }
+{
     match topic {
         FrameTopic::Up => up_by(text),
         FrameTopic::Down => down_by(text),
@@ -341,7 +397,9 @@ fn word_of<'a>(
 }
 
 /// What `info` and a text behind it ask for, if it is of these.
-fn info_of(text: &str) -> Option<FrameWord> {
+fn info_of(text: &str) -> Option<FrameWord>
+    ensures { result ≡ meant.info_word text.now }
+{
     match text {
         "display" => Some(FrameWord::Display(Display::List)),
         "frame" | "f" => Some(FrameWord::Choose(Choice::Frame { number: None })),
@@ -350,7 +408,9 @@ fn info_of(text: &str) -> Option<FrameWord> {
 }
 
 /// What `help` and a text behind it ask for, if it is of these.
-fn help_of(text: &str) -> Option<FrameWord> {
+fn help_of(text: &str) -> Option<FrameWord>
+    ensures { result ≡ option_map words.Help (meant.topic_named text.now) }
+{
     match FrameTopic::named(text) {
         Some(topic) => Some(FrameWord::Help(topic)),
         None => None,
@@ -358,7 +418,9 @@ fn help_of(text: &str) -> Option<FrameWord> {
 }
 
 /// The topic that a word is the name of.
-fn topic_of(name: &str) -> Option<FrameTopic> {
+fn topic_of(name: &str) -> Option<FrameTopic>
+    ensures { result ≡ meant.topic_of name.now }
+{
     match name {
         "f" => Some(FrameTopic::Frame),
         _ => FrameTopic::named(name),
@@ -370,7 +432,10 @@ fn read_word<'a>(
     word: &str,
     form: &str,
     text: &'a str,
-) -> Result<Option<FrameWord>, FrameWordError<'a>> {
+) -> Result<Option<FrameWord>, FrameWordError<'a>>
+    ensures asked { IfOk result (meant.IsAskedIf (meant.topic_of word.now) form.now text.now) }
+    ensures refused { IfErr result (λ _. meant.IsRefusedIf (meant.topic_of word.now) form.now text.now) }
+{
     let Some(topic) = topic_of(word) else {
         return Ok(None);
     };
@@ -380,21 +445,57 @@ fn read_word<'a>(
     }
 }
 
+/// A word, and the form behind its slash.
+fn form_of(first: &str) -> (&str, &str)
+    ensures word { result.0.now ≡ meant.before 47 first.now }
+    ensures form { result.1.now ≡ meant.behind 47 first.now }
+{
+    match first.split_once('/') {
+        Some(parts) => parts,
+        None => (first, ""),
+    }
+}
+
+/// Whether a word is `info`.
+fn is_info(word: &str) -> bool
+    ensures { result ≡ meant.is_info word.now }
+{
+    match word {
+        "info" | "i" => true,
+        _ => false,
+    }
+}
+
+/// Whether a word is `help`.
+fn is_help(word: &str) -> bool
+    ensures { result ≡ meant.is_help word.now }
+{
+    match word {
+        "help" | "h" => true,
+        _ => false,
+    }
+}
+
 /// What a line asks for; `None` if it begins with none of these words.
 ///
 /// # Errors
 ///
 /// What is wrong with the line, if it begins with one, and is none of the forms that `help` lists.
-pub(crate) fn frame_word_of(line: &str) -> Result<Option<FrameWord>, FrameWordError<'_>> {
-    let line = line.trim();
-    let (first, text) = line.split_once(' ').unwrap_or((line, ""));
+pub(crate) fn frame_word_of(line: &str) -> Result<Option<FrameWord>, FrameWordError<'_>>
+    ensures asked { IfOk result (meant.IsAsked line.now) }
+    ensures refused { IfErr result (λ _. meant.IsRefused line.now) }
+{
+    let (first, text) = parted(line.trim());
     let text = text.trim();
-    match first {
-        "info" | "i" => Ok(info_of(text)),
-        "help" | "h" => Ok(help_of(text)),
-        _ => {
-            let (word, form) = first.split_once('/').unwrap_or((first, ""));
-            read_word(word, form, text)
-        }
+    if is_info(first) {
+        return Ok(info_of(text));
+    }
+    if is_help(first) {
+        return Ok(help_of(text));
+    }
+    let (word, form) = form_of(first);
+    match read_word(word, form, text) {
+        Ok(word) => Ok(word),
+        Err(error) => Err(error),
     }
 }

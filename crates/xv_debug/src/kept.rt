@@ -4,12 +4,13 @@ ghost use Rattle.std.specs.List.{list_any};
 ghost use Rattle.xv_session.specs.Recorded.{running_of};
 ghost use Rattle.xv_debug.specs.Kept.{is_left, is_numbered};
 
-use crate::motion::is_at_mark;
+use crate::motion::{is_at_mark, is_store_due};
 use crate::names::Known;
+use crate::stores::last_store;
 use arrayvec::ArrayVec;
 use debug_words::texts::Plain;
 use debug_words::{MARKS_MOST, Mark, Marks};
-use std::alloc::AllocError;
+use std::alloc::{AllocError, Global};
 use xv_report::source_of;
 use xv_session::Session;
 
@@ -78,6 +79,14 @@ fn is_left(session: &Session, kept: &Kept) -> bool
     !kept.once || !is_at_mark(session, &kept.mark)
 }
 
+/// Whether a mark waits for a store.
+fn waits_for_store(kept: &Kept) -> bool {
+    match kept.mark {
+        Mark::Store(_) => true,
+        Mark::At { .. } => false,
+    }
+}
+
 /// Whether one of them has this number.
 fn has_number(kept: &[Kept], number: u32) -> bool
     ensures { result ≡ list_any (is_numbered number) kept.now }
@@ -86,9 +95,10 @@ fn has_number(kept: &[Kept], number: u32) -> bool
 }
 
 impl KeptMarks {
-    ghost use Rattle.std.specs.Prelude.{◌≡◌, ◌==◌, ◌∷◌, [], ◌++◌, IfSome, IfNone, length};
+    ghost use Rattle.std.specs.Prelude.{◌≡◌, ◌==◌, ◌∷◌, [], ◌++◌, length, true, false};
+    ghost use Rattle.debug_words.specs.declared.vocabulary.TheConstants.{MARKS_MOST};
     ghost use Rattle.xv_session.specs.Recorded.{running_of};
-    ghost use Rattle.xv_debug.specs.Kept.{has, kept_after, left_at, left_without, marks_of};
+    ghost use Rattle.xv_debug.specs.Kept.{has, kept_after, left_at, left_without, marks_of, next_mark, next_number};
 
     /// None yet.
     pub fn new() -> KeptMarks
@@ -107,14 +117,12 @@ impl KeptMarks {
         self.kept.is_empty()
     }
 
-    /// Keeps a mark from now on; `None` if there are as many as may be.
-    fn add(&mut self, mark: Mark, once: bool) -> Option<Kept>
-        ensures added { IfSome result (λ kept. self.new.kept.items ≡ self.old.kept.items ++ kept ∷ []) }
-        ensures mark { IfSome result (λ kept. kept.mark ≡ mark) }
-        ensures once { IfSome result (λ kept. kept.once ≡ once) }
-        ensures full { IfNone result (self.new.kept.items ≡ self.old.kept.items) }
-        ensures kept { self.new.kept.items ≡ kept_after self.old mark once }
-        ensures made { IfSome result (λ kept. self.new.made ≡ kept.number) }
+    /// Keeps a mark from now on; `false` if there are as many as may be.
+    fn add(&mut self, mark: Mark, once: bool) -> bool
+        ensures added { result ≡ true → self.new.kept.items ≡ self.old.kept.items ++ next_mark self.old.made mark once ∷ [] }
+        ensures made { result ≡ true → self.new.made ≡ next_number self.old.made }
+        ensures full { result ≡ false → length self.old.kept.items ≡ MARKS_MOST }
+        ensures stays { result ≡ false → self.new.kept.items ≡ self.old.kept.items }
     {
         let kept = Kept {
             number: self.made.saturating_add(1),
@@ -122,26 +130,84 @@ impl KeptMarks {
             once,
         };
         let Ok(()) = self.kept.try_push(kept) else {
-            return None;
+            return false;
         };
         self.made = kept.number;
-        Some(kept)
+        true
     }
 
-    /// Keeps a mark from now on, and tells it.
+    /// Keeps marks from now on, as many as there is room for. The answer tells whether these are all.
+    fn add_all(&mut self, marks: &[Mark], once: bool) -> bool
+        ensures { self.new.kept.items ≡ kept_after self.old marks.now once }
+    {
+        for mark in marks {
+            if !self.add(*mark, once) {
+                return false;
+            }
+        }
+        let count = self.kept.len();
+        prove!(count <= MARKS_MOST);
+        true
+    }
+
+    /// Keeps marks from now on, and tells them.
     pub fn keep(
         &mut self,
         known: &Known<'_>,
-        mark: Mark,
+        marks: &[Mark],
         once: bool,
         answer: &mut String,
     ) -> Result<(), AllocError>
-        ensures { self.new.kept.items ≡ kept_after self.old mark once }
+        ensures { self.new.kept.items ≡ kept_after self.old marks.now once }
     {
-        match self.add(mark, once) {
-            Some(kept) => show_kept(known, &kept, answer),
-            None => answer.push_str("there are 16 marks, and no more: delete forgets them\n"),
+        let before = self.kept.len();
+        let are_all = self.add_all(marks, once);
+        for kept in self.kept.as_slice().get(before..).unwrap_or(&[]) {
+            show_kept(known, kept, answer)?;
         }
+        if are_all {
+            return Ok(());
+        }
+        answer.push_str("there are 16 marks, and no more: delete forgets them\n")
+    }
+
+    /// Writes which of them are met where the session is.
+    pub(crate) fn show_met(
+        &self,
+        alloc: Global,
+        session: &Session,
+        answer: &mut String,
+    ) -> Result<(), AllocError> {
+        for kept in self.kept.as_slice() {
+            if is_at_mark(session, &kept.mark) {
+                let number = kept.number;
+                writeln!(answer, "mark {number} is met")?;
+            }
+        }
+        if self.kept.as_slice().iter().any(waits_for_store) {
+            return self.show_stored(alloc, session, answer);
+        }
+        Ok(())
+    }
+
+    /// Writes which of them waited for the store that was done last, and what that has changed.
+    fn show_stored(
+        &self,
+        alloc: Global,
+        session: &Session,
+        answer: &mut String,
+    ) -> Result<(), AllocError> {
+        let Some(stored) = last_store(alloc, session) else {
+            return Ok(());
+        };
+        for kept in self.kept.as_slice() {
+            if is_store_due(&stored.before, &kept.mark) {
+                let number = kept.number;
+                write!(answer, "mark {number} is met")?;
+                stored.show(session.machine(), answer)?;
+            }
+        }
+        Ok(())
     }
 
     /// Whether there is a mark of this number; of none, whether there is one.

@@ -26,6 +26,7 @@ mod processes;
 mod reasons;
 mod shown_output;
 mod stops;
+mod stores;
 mod variables;
 mod waits;
 

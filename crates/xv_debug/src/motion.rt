@@ -3,7 +3,8 @@
 //! [`step`] sends so many Runs (`specs/motion/Ran.antt`), and none if nobody may run (`specs/motion/Resting.antt`).
 //! [`search`] goes by a plan (`specs/motion/Plan.antt`, `specs/motion/Clock.antt`) up to a Run that is what is waited for,
 //! types the plan's keys, and takes the bytes that wait in the console (`specs/motion/Reaching.antt`,
-//! `specs/motion/Aims.antt`, `specs/motion/Marks.antt`). It ends if nobody may go on, no tick wakes one, and no key is left.
+//! `specs/motion/Aims.antt`, `specs/motion/Marks.antt`). On a record the plan has its events. It ends if the record has none,
+//! nobody may go on, no tick wakes one, and no key is left.
 //! [`send_often`], [`type_keys`] and [`play_rounds`]
 //! send the other events. [`go_back`] takes the last ones back, [`back_until`] those after the last Run that is the aim
 //! (`specs/motion/Backwards.antt`). All but [`type_keys`] ask a `Patience` now and then (`pace.rt`), and end if it is over.
@@ -33,7 +34,7 @@ pub(crate) use backwards::back_until;
 pub(crate) use finishing::finish_aim;
 pub(crate) use journey::{Journey, Stop};
 pub(crate) use lines::line_aim;
-pub(crate) use marks::is_at_mark;
+pub(crate) use marks::{is_at_mark, is_store_due};
 pub(crate) use output::Output;
 pub use plan::Plan;
 pub(crate) use rounds::play_rounds;

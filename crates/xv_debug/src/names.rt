@@ -2,12 +2,18 @@
 ghost use Rattle.std.specs.Prelude.{◌≡◌};
 
 use crate::focus::place_of;
-use debug_words::{Names, Spot};
+use debug_words::texts::Plain;
+use debug_words::{Names, Spot, Spots};
+use elf_symbols::function_start;
 use rv64i_core::Regs;
+use std::alloc::AllocError;
 use uasm_text::register_name;
 use xk_base::{Pid, Program, Reg};
-use xv_report::{LineNamed, Sources, source_of};
+use xv_report::{LineNamed, ProgramSource, Sources, source_of};
 use xv_session::Session;
+
+/// In so many places of a program, at most, instructions of a line are looked for.
+const STRETCHES_MOST: u32 = 4096;
 
 /// What is known where a line is read: the session, the sources of its programs, and the process that words look at.
 #[derive(Clone, Copy)]
@@ -58,21 +64,93 @@ impl<'a> Known<'a> {
         place_of(self.session, self.pid(pid))
     }
 
-    /// Where the instructions of a line begin in the program at a place.
-    fn line_in(&self, line: &LineNamed<'_>, program: usize) -> Option<Spot> {
-        let source = source_of(self.sources, self.session, Some(program));
-        let address = source.line_start(line)?;
-        Some(Spot { program, address })
+    /// What is known of the source of the program at a place.
+    fn source(&self, program: usize) -> ProgramSource<'a> {
+        source_of(self.sources, self.session, Some(program))
     }
 
-    /// Where the instructions of a line begin, in the first program that has it.
-    fn line(&self, line: &LineNamed<'_>) -> Option<Spot> {
+    /// Whether the program at a place has instructions of a line.
+    fn has_line(&self, line: &LineNamed<'_>, program: usize) -> bool {
+        self.source(program).line_start(line, None).is_some()
+    }
+
+    /// The program of a line: the one that words look at if it has the line, or else the first that has.
+    fn program_with(&self, line: &LineNamed<'_>) -> Option<usize> {
+        if let Some(own) = self.program_of(&None) {
+            if self.has_line(line, own) {
+                return Some(own);
+            }
+        }
+        (0..self.session.machine().programs().len()).find(|program| self.has_line(line, *program))
+    }
+
+    /// The next line of the same file that has instructions, in the program that words look at, or else in the first that
+    /// has one.
+    fn line_after(&self, line: &LineNamed<'_>) -> Option<(usize, LineNamed<'a>)> {
+        if let Some(own) = self.program_of(&None) {
+            if let Some(found) = self.source(own).line_after(line) {
+                return Some((own, found));
+            }
+        }
         for program in 0..self.session.machine().programs().len() {
-            if let Some(spot) = self.line_in(line, program) {
-                return Some(spot);
+            if let Some(found) = self.source(program).line_after(line) {
+                return Some((program, found));
             }
         }
         None
+    }
+
+    /// Whether a program is known to have instructions of the file of a line.
+    fn has_file(&self, line: &LineNamed<'_>) -> bool {
+        let first = LineNamed { number: 0, ..*line };
+        self.program_with(&first).is_some() || self.line_after(&first).is_some()
+    }
+
+    /// Writes why a text names no line that has instructions; nothing of a text that names no line.
+    pub(crate) fn show_lineless(&self, text: &str, answer: &mut String) -> Result<(), AllocError> {
+        let Some(line) = LineNamed::of(text) else {
+            return Ok(());
+        };
+        let file = Plain(line.file.as_bytes());
+        if self.has_file(&line) {
+            let number = line.number;
+            return writeln!(answer, "{file} has no instructions from line {number} on");
+        }
+        writeln!(
+            answer,
+            "no lines of {file} are known: of a program in C they come from NAME.debug beside it"
+        )
+    }
+
+    /// The places of a line in the program at a place: in each function that has instructions of it the first.
+    fn line_spots(&self, line: &LineNamed<'_>, program: usize) -> Spots {
+        let source = self.source(program);
+        let mut spots = Spots::new();
+        let mut after = None;
+        let mut last = None;
+        for _ in 0..STRETCHES_MOST {
+            let Some(address) = source.line_start(line, after) else {
+                return spots;
+            };
+            let function = function_start(source.symbols, address);
+            if function.is_none() || function != last {
+                let _ = spots.try_push(Spot { program, address });
+            }
+            last = function;
+            after = Some(address);
+        }
+        spots
+    }
+
+    /// The places of a line, or of the next one that has instructions.
+    fn spots_of_line(&self, line: &LineNamed<'_>) -> Spots {
+        if let Some(program) = self.program_with(line) {
+            return self.line_spots(line, program);
+        }
+        match self.line_after(line) {
+            Some((program, next)) => self.line_spots(&next, program),
+            None => Spots::new(),
+        }
     }
 
     /// The address of a name of the program at a place.
@@ -83,10 +161,22 @@ impl<'a> Known<'a> {
         Some(Spot { program, address })
     }
 
+    /// The places of a line, which may stand behind a program's name: `wc.c:12`, `wc:print.c:22`.
+    fn line_named(&self, name: &str) -> Option<Spots> {
+        let line = LineNamed::of(name)?;
+        if let Some((program, rest)) = name.split_once(':') {
+            if let Some(own) = LineNamed::of(rest) {
+                let place = place_named(self.session.machine().programs(), program)?;
+                return Some(self.line_spots(&own, place));
+            }
+        }
+        Some(self.spots_of_line(&line))
+    }
+
     /// The address of a line, of a program's name, or of a name of the program that a process runs.
     fn spot_of(&self, name: &str, pid: &Option<Pid>) -> Option<Spot> {
-        if let Some(line) = LineNamed::of(name) {
-            return self.line(&line);
+        if let Some(spots) = self.line_named(name) {
+            return spots.as_slice().first().copied();
         }
         match name.split_once(':') {
             Some((program, name)) => {
@@ -116,6 +206,17 @@ impl<'a> Names for Known<'a> {
 
     fn spot(&self, name: &str) -> Option<Spot> {
         self.spot_of(name, &None)
+    }
+
+    fn spots(&self, name: &str) -> Spots {
+        if let Some(spots) = self.line_named(name) {
+            return spots;
+        }
+        let mut spots = Spots::new();
+        if let Some(spot) = self.spot_of(name, &None) {
+            let _ = spots.try_push(spot);
+        }
+        spots
     }
 
     fn program(&self) -> Option<usize> {

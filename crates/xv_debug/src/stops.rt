@@ -1,7 +1,7 @@
 //! What a word has sent, and why no more, in words.
 ghost use Rattle.std.specs.Prelude.{◌≡◌, ◌++◌, OnOk, option_map, string_bytes};
 ghost use Rattle.xv_machine.specs.Events.{outcome_of};
-ghost use Rattle.xv_debug.specs.StopText.{ahead_text, asleep_text, broken_text, done_text, last_text, met_text, not_yet, refusal_text, stop_text, told_journey, unplayed_text};
+ghost use Rattle.xv_debug.specs.StopText.{asleep_text, broken_text, done_text, last_text, met_text, not_yet, off_text, refusal_text, stop_text, told_journey, unplayed_text};
 
 use crate::happened::Happened;
 use crate::motion::{Journey, Stop};
@@ -108,12 +108,19 @@ pub(crate) fn show_sent(
     show_stop(word, &journey.stop, answer)
 }
 
-/// Writes that a run has only so many events.
-pub(crate) fn show_ahead(at: u64, answer: &mut String) -> Result<(), AllocError>
-    ensures { OnOk result (string_bytes answer.new ≡ string_bytes answer.old ++ ahead_text at) }
+/// Writes that the record of so many events, on which a run was, has none for it any more: a word that goes by the plan has
+/// come past its end, or another one has sent an event that isn't the record's.
+pub(crate) fn show_off(by_plan: bool, recorded: u64, answer: &mut String) -> Result<(), AllocError>
+    ensures { OnOk result (string_bytes answer.new ≡ string_bytes answer.old ++ off_text by_plan recorded) }
 {
-    let events = Many(at, "event");
-    writeln!(answer, "the run has {events}: until, c and run go on")
+    if !by_plan {
+        return answer.push_str("the run has left the record: back leads onto it again\n");
+    }
+    let events = Many(recorded, "event");
+    writeln!(
+        answer,
+        "the record is over after {events}: from there on the run has gone by the clock"
+    )
 }
 
 /// Writes why the session took no more events.

@@ -1,7 +1,9 @@
 //! What a line asks of a program in C: variables and types, by the compiler's tables (`c_expressions`).
-ghost use Rattle.std.specs.Prelude.{◌≡◌, IfOk, IfSome, option_map};
+ghost use Rattle.std.specs.Prelude.{◌≡◌, IfOk, option_map, string_bytes};
+ghost use Rattle.c_expressions.specs.Asked.{asked_in};
 ghost use Rattle.kcall_core.specs.Observers.{byte_at};
-ghost use Rattle.xv_debug.specs.Chosen.{IsLookedAt, address_in, registers_in};
+ghost use Rattle.xv_debug.specs.Chosen.{address_in, registers_in};
+ghost use Rattle.xv_debug.specs.ToldOfC.{IsToldIn, IsToldOf, IsToldSeen, is_of_c_alone, text_told};
 ghost use Rattle.xv_debug.specs.Variables.{register_held};
 
 use crate::choosing::{Chosen, SeenCall, call_seen};
@@ -83,12 +85,15 @@ fn told_seen(
     pid: Pid,
     call: SeenCall,
     asked: Asked,
-) -> Result<Option<String>, AllocError> {
-    let Some(regs) = session.machine().registers(pid) else {
+) -> Result<Option<String>, AllocError>
+    ensures { IfOk result (λ text. IsToldSeen source.now session.now pid call asked.entry (option_map string_bytes text)) }
+{
+    let machine = session.machine();
+    let Some(regs) = machine.registers(pid) else {
         return Ok(None);
     };
     let seen = ProcessSeen {
-        machine: session.machine(),
+        machine,
         pid,
         regs,
         call,
@@ -98,7 +103,8 @@ fn told_seen(
         address: address_in(&regs, &call),
         sight: &seen,
     };
-    answer(alloc, &scene, asked)
+    let text = answer(alloc, &scene, asked)?;
+    Ok(text)
 }
 
 /// What is told in a call of a process of what is asked, with the call.
@@ -110,13 +116,22 @@ fn told_in(
     call: Option<SeenCall>,
     asked: Asked,
 ) -> Result<ToldInCall, AllocError>
-    ensures { IfOk result (λ told. told.call ≡ call) }
+    ensures call { IfOk result (λ told. told.call ≡ call) }
+    ensures text { IfOk result (λ told. IsToldIn source.now session.now pid call asked.entry (option_map string_bytes told.text)) }
 {
-    let text = match call {
-        Some(seen) => told_seen(alloc, session, source, pid, seen, asked)?,
-        None => Some(String::from_str(alloc, "the call at which words look is not there\n")?),
-    };
-    Ok(ToldInCall { call, text })
+    match call {
+        Some(seen) => {
+            let text = told_seen(alloc, session, source, pid, seen, asked)?;
+            Ok(ToldInCall { call, text })
+        }
+        None => {
+            let text = String::from_str(alloc, "the call at which words look is not there\n")?;
+            Ok(ToldInCall {
+                call,
+                text: Some(text),
+            })
+        }
+    }
 }
 
 /// What is told of what a line asks of the program in C that the process runs which words look at, in the call at which they
@@ -128,7 +143,7 @@ pub(crate) fn told_of_c(
     chosen: &Chosen,
     line: &str,
 ) -> Result<Option<ToldInCall>, AllocError>
-    ensures { IfOk result (λ told. IfSome told (λ t. IsLookedAt (option_map (λ s. s.now) sources.entry) chosen.now session.now t.call)) }
+    ensures { IfOk result (IsToldOf (option_map (λ s. s.now) sources.entry) chosen.now session.now line.now) }
 {
     let Some(asked) = Asked::of(line) else {
         return Ok(None);
@@ -143,8 +158,23 @@ pub(crate) fn told_of_c(
     Ok(Some(told))
 }
 
+/// The text of what is told, if anything is.
+pub(crate) fn text_told(told: &Option<ToldInCall>) -> Option<&str>
+    ensures { option_map (λ text. text.now) result ≡ text_told told.now }
+{
+    let Some(told) = told else {
+        return None;
+    };
+    match &told.text {
+        Some(text) => Some(text.as_str()),
+        None => None,
+    }
+}
+
 /// Whether a line asks of a call, or of a type: of what no other word tells.
-pub(crate) fn is_of_c_alone(line: &str) -> bool {
+pub(crate) fn is_of_c_alone(line: &str) -> bool
+    ensures { result ≡ is_of_c_alone (asked_in line.now) }
+{
     let Some(asked) = Asked::of(line) else {
         return false;
     };

@@ -1,7 +1,8 @@
 -- Worked cases of names and lines of sources.
-use Rattle.std.proofs.Common.{◌≡◌, ◌-◌, ◌^◌, [], codes, None, Some, refl}
+use Rattle.std.proofs.Common.{◌≡◌, ℕ, ◌-◌, ◌^◌, [], ◌∷◌, true, false, codes, None, Some, refl}
 use Rattle.xv_report.specs.Locations.{distance, or_own, unless_empty}
-use Rattle.xv_report.specs.Places.{assembled_name}
+use Rattle.xv_report.specs.Places.{assembled_name, is_after, line_start_once}
+use Rattle.uasm_core.specs.declared.source_lines.CodeLine.{CodeLine}
 
 -- the source of `wc` is `wc.s`; a file of C is assembled of nothing
 of_a_source : assembled_name (codes "wc.s") ≡ Some (codes "wc")
@@ -31,3 +32,17 @@ beside_first = refl
 
 own_alone : or_own [] (codes "own") ≡ codes "own"
 own_alone = refl
+
+-- a line begins again above an address, and not at it
+above : is_after 0x18 (Some 0x14) ≡ true
+above = refl
+
+not_at_it : is_after 0x14 (Some 0x14) ≡ false
+not_at_it = refl
+
+the_first : is_after 0 None ≡ true
+the_first = refl
+
+-- an assembled line begins once
+once : (code : CodeLine) → line_start_once 3 (Some 8) (code ∷ []) ≡ None
+once code = refl

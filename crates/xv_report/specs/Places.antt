@@ -1,5 +1,5 @@
 -- Which addresses names and lines of sources have.
-use Rattle.std.specs.Prelude.{ℕ, ◌+◌, ◌-◌, ◌&&◌, Bool, false, codes, if◌then◌else◌, length, take, nat_eq, nat_le, nat_lt, bytes_eq, find, List, [], slice_get, string_bytes, Option, None, Some, option_map, String}
+use Rattle.std.specs.Prelude.{◌≡◌, ℕ, ◌+◌, ◌-◌, ◌<◌, ◌&&◌, Bool, true, false, codes, if◌then◌else◌, length, take, nat_eq, nat_le, nat_lt, bytes_eq, find, List, [], slice_get, string_bytes, Option, None, Some, option_map, String}
 use Rattle.std.specs.List.{ends_with}
 use Rattle.std.specs.declared.alloc.Global.{Global}
 use Rattle.elf_symbols.specs.Symbols.{address_of, symbol_count, symbol_name}
@@ -29,9 +29,23 @@ is_text text (Some told) = bytes_eq (string_bytes told) text
 abbrev pub is_told : List (String Global) → (program : ℕ) → (text : List ℕ) → LineRow → Bool
 is_told texts program text row = nat_eq row.program program && is_text text (slice_get texts row.text)
 
--- where the first row begins of which this text is told
-abbrev pub line_told : List (String Global) → (program : ℕ) → (text : List ℕ) → List LineRow → Option ℕ
-line_told texts program text rows = option_map (λ (row : LineRow). row.address) (find (is_told texts program text) rows)
+-- what is told of the line of a row, if it is one of the program's
+abbrev pub text_of : List (String Global) → (place : ℕ) → Option (List ℕ)
+text_of texts place = option_map string_bytes (slice_get texts place)
+
+abbrev pub told_of : List (String Global) → (program : ℕ) → Option LineRow → Option (List ℕ)
+told_of texts program None = None
+told_of texts program (Some row) = if nat_eq row.program program then text_of texts row.text else None
+
+-- it is above another address, or there is no other
+abbrev pub is_after : (address : ℕ) → (after : Option ℕ) → Bool
+is_after address None = true
+is_after address (Some other) = nat_lt other address
+
+-- where the first row begins of which this text is told, above an address, if one is given
+abbrev pub line_told : List (String Global) → (program : ℕ) → (text : List ℕ) → (after : Option ℕ) → List LineRow → Option ℕ
+line_told texts program text after rows =
+    option_map (λ (row : LineRow). row.address) (find (λ (row : LineRow). is_after row.address after && is_told texts program text row) rows)
 
 -- ---- by what is known of a program
 
@@ -67,9 +81,24 @@ abbrev pub is_name : (name : List ℕ) → Option (List ℕ) → Bool
 is_name name None = false
 is_name name (Some own) = bytes_eq own name
 
--- where the instructions of a line begin, if it is one of the program's: of a table the row of which its text is told, of an assembled source by its number
-abbrev pub line_begins : ProgramLines → LineNamed → Option ℕ
-line_begins Unknown line = None
-line_begins (Table lines place) line = line_told lines.now.texts.items place line.text.now lines.now.rows.items
-line_begins (Source lines name) line =
-    if is_name name.now (assembled_name line.file.now) then line_start line.number lines.now.code.items else None
+-- of an assembled source a line's instructions stand together: they begin once
+abbrev pub line_start_once : (number : ℕ) → (after : Option ℕ) → List CodeLine → Option ℕ
+line_start_once number None code = line_start number code
+line_start_once number (Some other) code = None
+
+-- where instructions of a line begin, above an address, if one is given: of a table by the rows of which its text is told, of an assembled source by its number; of a source that isn't the program's nowhere
+abbrev pub line_begins : ProgramLines → LineNamed → (after : Option ℕ) → Option ℕ
+line_begins Unknown line after = None
+line_begins (Table lines place) line after = line_told lines.now.texts.items place line.text.now after lines.now.rows.items
+line_begins (Source lines name) line after =
+    if is_name name.now (assembled_name line.file.now) then line_start_once line.number after lines.now.code.items else None
+
+-- its lines are those of a compiler's table
+abbrev pub has_table : ProgramLines → Bool
+has_table (Table lines place) = true
+has_table _ = false
+
+-- a line of the same file, further down
+pub record IsFurther (line found : LineNamed) : Type 0 where
+  pub file : found.file.now ≡ line.file.now
+  pub number : line.number < found.number

@@ -1,6 +1,6 @@
 //! The lines of sources, by a table of rows.
-ghost use Rattle.std.specs.Prelude.{◌≡◌, ◌+◌, ◌<◌, ◌++◌, ◌∷◌, [], OnOk, length, map, option_map, string_bytes};
-ghost use Rattle.xv_report.specs.Places.{is_told, line_told};
+ghost use Rattle.std.specs.Prelude.{◌≡◌, ◌+◌, ◌<◌, ◌++◌, ◌∷◌, [], OnOk, length, map, option_map, slice_get, string_bytes};
+ghost use Rattle.xv_report.specs.Places.{is_after, is_told, line_told, told_of};
 ghost use Rattle.xv_report.specs.Lines.{IsNearest, IsNearestBelow, begins_before};
 ghost use Rattle.xv_report.specs.Locations.{IsTextOf, row_kept};
 
@@ -101,11 +101,28 @@ fn is_told(texts: &[String], row: &LineRow, program: u64, text: &str) -> bool
     }
 }
 
-/// Where the first row of the program begins of which this text is told.
-fn first_told(rows: &[LineRow], texts: &[String], program: u64, text: &str) -> Option<u64>
-    ensures { result ≡ line_told texts.now program text.now rows.now }
+/// Whether an address is above another one, or there is no other.
+fn is_after(address: u64, after: Option<u64>) -> bool
+    ensures { result ≡ is_after address after }
 {
-    let row = rows.iter().find(|row| is_told(texts, row, program, text))?;
+    match after {
+        Some(other) => other < address,
+        None => true,
+    }
+}
+
+/// Where the first row of the program begins of which this text is told, above an address, if one is given.
+fn first_told(
+    rows: &[LineRow],
+    texts: &[String],
+    program: u64,
+    text: &str,
+    after: Option<u64>,
+) -> Option<u64>
+    ensures { result ≡ line_told texts.now program text.now after rows.now }
+{
+    let row = rows.iter().find(|row| is_after(row.address, after)
+        && is_told(texts, row, program, text))?;
     Some(row.address)
 }
 
@@ -153,16 +170,36 @@ impl Lines {
         Ok(())
     }
 
-    /// Where the instructions begin of the line of the program at a place of which this is told.
-    pub(crate) fn start(&self, program: usize, text: &str) -> Option<u64>
-        ensures { result ≡ line_told self.now.texts.items program text.now self.now.rows.items }
+    /// Where instructions begin of the line of the program at a place of which this is told, above an address, if one is
+    /// given: the first row.
+    pub(crate) fn start_after(&self, program: usize, text: &str, after: Option<u64>) -> Option<u64>
+        ensures { result ≡ line_told self.now.texts.items program text.now after self.now.rows.items }
     {
         first_told(
             self.rows.as_slice(),
             self.texts.as_slice(),
             program as u64,
             text,
+            after,
         )
+    }
+
+    /// How many rows there are, of all programs.
+    pub(crate) fn row_count(&self) -> usize
+        ensures { result ≡ length self.now.rows.items }
+    {
+        self.rows.len()
+    }
+
+    /// What is told of the line of the row at a place, if it is of the program at another place.
+    pub(crate) fn row_text(&self, program: usize, place: usize) -> Option<&str>
+        ensures { option_map (λ t. t.now) result ≡ told_of self.now.texts.items program (slice_get self.now.rows.items place) }
+    {
+        let row = self.rows.get(place)?;
+        if row.program != program as u64 {
+            return None;
+        }
+        Some(self.texts.get(row.text)?.as_str())
     }
 
     /// What is told of the line of an address of the program at a place; `None` if no line is known.

@@ -1,6 +1,6 @@
 //! From names and lines to addresses.
-ghost use Rattle.std.specs.Prelude.{◌≡◌, option_map};
-ghost use Rattle.xv_report.specs.Places.{address_named, assembled_name, is_name, label_at, label_named, labels_in, line_begins, line_start, name_count, nth_name};
+ghost use Rattle.std.specs.Prelude.{◌≡◌, IfSome, None, false, option_map, true};
+ghost use Rattle.xv_report.specs.Places.{IsFurther, address_named, assembled_name, has_table, is_name, label_at, label_named, labels_in, line_begins, line_start, line_start_once, name_count, nth_name};
 
 use crate::sources::{ProgramLines, ProgramSource};
 use elf_symbols::{address_of, symbol_count, symbol_name};
@@ -30,6 +30,16 @@ fn line_start(code: &[CodeLine], number: usize) -> Option<u64>
     Some(row.start)
 }
 
+/// Where the instructions of such a line begin, if no address is given above which: they stand together.
+fn line_start_once(code: &[CodeLine], number: usize, after: Option<u64>) -> Option<u64>
+    ensures { result ≡ line_start_once number after code.now }
+{
+    match after {
+        None => line_start(code, number),
+        Some(_) => None,
+    }
+}
+
 /// A line of a source: `wc.c:12` is line 12 of `wc.c`.
 #[derive(Clone, Copy)]
 pub struct LineNamed<'a> {
@@ -44,6 +54,30 @@ impl<'a> LineNamed<'a> {
         let (file, digits) = text.rsplit_once(':')?;
         let number = digits.parse::<usize>().ok()?;
         Some(LineNamed { text, file, number })
+    }
+
+    /// Whether another line is of the same file, and further down.
+    fn is_before(&self, other: &LineNamed<'_>) -> bool
+        ensures { result ≡ true → IsFurther self.now other.now }
+    {
+        (self.number < other.number) && (self.file == other.file)
+    }
+
+    /// The nearer of two lines that are further down: the one that a text names, or the one that was found before.
+    fn nearer<'b>(&self, found: Option<LineNamed<'b>>, text: &'b str) -> Option<LineNamed<'b>>
+        requires { IfSome found (λ line. IsFurther self.now line) }
+        ensures { IfSome result (λ line. IsFurther self.now line) }
+    {
+        let Some(other) = LineNamed::of(text) else {
+            return found;
+        };
+        if !self.is_before(&other) {
+            return found;
+        }
+        match found {
+            Some(line) if line.number <= other.number => found,
+            _ => Some(other),
+        }
     }
 
     /// Whether it is of the source that the program of this name was assembled of.
@@ -102,20 +136,38 @@ impl<'a> ProgramSource<'a> {
         address_of(self.symbols, name)
     }
 
-    /// Where the instructions of a line begin, if it is one of the program's.
-    pub fn line_start(&self, line: &LineNamed<'_>) -> Option<u64>
-        ensures { result ≡ line_begins self.now.lines line.now }
+    /// Where instructions of a line begin, if it is one of the program's: at the least address, or at the first one above
+    /// `after`. A compiler may put a line's instructions in several places; those of an assembler's line stand together.
+    pub fn line_start(&self, line: &LineNamed<'_>, after: Option<u64>) -> Option<u64>
+        ensures { result ≡ line_begins self.now.lines line.now after }
     {
         match self.lines {
             ProgramLines::Unknown => None,
-            ProgramLines::Table { lines, place } => lines.start(place, line.text),
+            ProgramLines::Table { lines, place } => lines.start_after(place, line.text, after),
             ProgramLines::Source { lines, name } => {
                 if line.is_of(name) {
-                    line_start(lines.code.as_slice(), line.number)
+                    line_start_once(lines.code.as_slice(), line.number, after)
                 } else {
                     None
                 }
             }
         }
+    }
+
+    /// The next line of the same file that has instructions, by a compiler's table: `None` if there is none further down.
+    pub fn line_after(&self, line: &LineNamed<'_>) -> Option<LineNamed<'a>>
+        ensures found { IfSome result (λ found. IsFurther line.now found) }
+        ensures without { has_table self.now.lines ≡ false → result ≡ None }
+    {
+        let ProgramLines::Table { lines, place } = self.lines else {
+            return None;
+        };
+        let mut found = None;
+        for row in 0..lines.row_count() {
+            if let Some(text) = lines.row_text(place, row) {
+                found = line.nearer(found, text);
+            }
+        }
+        found
     }
 }

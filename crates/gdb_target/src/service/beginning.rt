@@ -9,17 +9,16 @@ ghost use Rattle.gdb_target.specs.Beginning.{IsKnownBy, IsTakenUp, IsTargetOf, e
 
 use crate::plan::Plan;
 use crate::played::Played;
-use crate::recording::RecordingError;
 use crate::rounds::Rounds;
 use crate::service::NAME;
 use crate::service::command_line::Settings;
 use crate::target::Target;
 use gdb_packets::StopReason;
 use program_files::{Failure, FileRefusal, SourcedPrograms, programs};
-use recorded_runs::{CutError, RecordedFiles, Replay, recorded_files, whole_record};
+use recorded_runs::{CutError, RecordedFiles, Replay, keys_of, recorded_files, whole_record};
+use recordings::RecordingError;
 use std::alloc::{AllocError, Global};
-use std::fs;
-use std::io::{self, ErrorKind, Write};
+use std::io::{self, Write};
 use std::rt::Files;
 use xk_base::Program;
 use xv_record::Record;
@@ -88,28 +87,6 @@ fn path_copied(alloc: Global, paths: &[String], place: usize) -> Result<String, 
     }
 }
 
-/// The keys of a file.
-fn keys_in<'a, R: Files + AllocGlobal>(rt: &R, path: &'a str) -> Result<Vec<u8>, Failure<'a>> {
-    match fs::read(rt, path) {
-        Ok(keys) => Ok(keys),
-        Err(error) if error.kind() == ErrorKind::OutOfMemory => Err(Failure::OutOfMemory),
-        Err(_) => Err(Failure::File(FileRefusal::CannotBeRead(path))),
-    }
-}
-
-/// The keys that are typed first: those of a file, if one is named.
-fn first_keys<'a, R: Files + AllocGlobal>(
-    rt: &R,
-    settings: &'a Settings,
-) -> Result<Vec<u8>, Failure<'a>>
-    ensures { IfOk result (λ keys. settings.now.keys ≡ None → keys.items ≡ []) }
-{
-    match &settings.keys {
-        Some(path) => keys_in(rt, path.as_str()),
-        None => Ok(Vec::new(rt.alloc())),
-    }
-}
-
 /// Adds a line and its end, if there is one.
 fn push_line(keys: &mut Vec<u8>, line: &Option<String>) -> Result<(), AllocError>
     ensures { OnOk result (keys.new.items ≡ keys.old.items ++ line_typed line.now) }
@@ -125,7 +102,7 @@ fn push_line(keys: &mut Vec<u8>, line: &Option<String>) -> Result<(), AllocError
 fn keys<'a, R: Files + AllocGlobal>(rt: &R, settings: &'a Settings) -> Result<Vec<u8>, Failure<'a>>
     ensures { IfOk result (λ keys. AreKeys settings.now keys.items) }
 {
-    let mut keys = first_keys(rt, settings)?;
+    let mut keys = keys_of(rt, &settings.keys)?;
     push_line(&mut keys, &settings.line)?;
     Ok(keys)
 }

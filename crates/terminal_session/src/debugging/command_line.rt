@@ -48,8 +48,8 @@ The words next, finish, until and c go by rounds. With --keys each round begins 
 until there is none left.
 
 With --replay the events of a record that a terminal has kept are sent first, by its programs among
-the FILEs: all of them, or with --at the first N. Nothing is shown of them. The words go on from
-there, and back as far as the record's beginning.
+the FILEs: all of them, or with --at the first N. Nothing is shown of them. The words next, finish,
+until, c and goto go on by the other events, and by rounds after the last one.
 
 Example:
   printf 'until exit\\nback\\nwhere\\n' | xv_debugger init.s

@@ -16,7 +16,7 @@ use Rattle.xv_session.specs.Until.{store_awaited}
 use Rattle.xv_session.specs.declared.looking.NextStep.{NextStep}
 use Rattle.xv_session.specs.declared.until.Condition.TheVariants.{StepOf}
 use Rattle.xv_debug.specs.declared.motion.aiming.Aim.{Aim}
-use Rattle.xv_debug.specs.declared.motion.aiming.Aim.TheVariants.{Anything, On, Answer as Answers, Return, Outside}
+use Rattle.xv_debug.specs.declared.motion.aiming.Aim.TheVariants.{Anything, Nothing, On, Answer as Answers, Return, Outside}
 use Rattle.xv_debug.specs.declared.motion.aiming.Leads.{Leads}
 use Rattle.xv_debug.specs.declared.motion.aiming.Leads.TheVariants.{Kernel, Function, Other}
 
@@ -113,6 +113,7 @@ is_due _ m = false
 -- an event of which this came, and which left this machine, is what is waited for; before it that store was the next step, or not
 abbrev pub meets_with : Aim → (due : Bool) → Outcome → Meaning → Bool
 meets_with Anything due o m = true
+meets_with Nothing due o m = false
 meets_with (On condition) due o m = searched.meets_with condition due o m
 meets_with (Answers pid) due o m = is_answer_to pid o
 meets_with (Return pid pc stack) due o m = has_returned pid pc stack m.world || ends_of pid o

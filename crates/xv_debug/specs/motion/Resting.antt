@@ -58,8 +58,3 @@ NoKeyIsLeft plan round w = (key_due plan round w ≡ []) × (later_keys plan w �
 abbrev pub RestsQuiet : Planned → Round → Stop → World → Type 0
 RestsQuiet plan round Asleep w = RestsBy Asleep w × (w.state.console.to_send ≡ []) × NobodyAwaitsTick w × NoKeyIsLeft plan round w
 RestsQuiet plan round stop w = RestsBy stop w × (w.state.console.to_send ≡ [])
-
-abbrev pub RestsQuietIf : Planned → Round → Stop → World → Type 0
-RestsQuietIf plan round Halted w = RestsQuiet plan round Halted w
-RestsQuietIf plan round Asleep w = RestsQuiet plan round Asleep w
-RestsQuietIf plan round _ w = Unit {0}

@@ -23,6 +23,8 @@ pub(crate) const STACK_POINTER: u8 = 2;
 pub enum Aim {
     /// Any event.
     Anything,
+    /// No event.
+    Nothing,
     /// What a search of the session waits for.
     On(Condition),
     /// An answer of the kernel to the process, or its end.
@@ -181,6 +183,7 @@ pub(crate) fn is_met(aim: &Aim, due: bool, outcome: &Outcome, machine: &Machine)
 {
     match aim {
         Aim::Anything => true,
+        Aim::Nothing => false,
         Aim::On(condition) => condition.is_met(due, outcome, machine),
         Aim::Answer(pid) => is_answer(outcome, *pid),
         Aim::Return { pid, pc, stack } => {

@@ -1,8 +1,9 @@
-//! The clock of a way: how far its round is, and which event comes next.
+//! Which event comes next on a way: the record's, or else the clock's; and how far the clock's round is.
 ghost use Rattle.std.specs.Prelude.{◌≡◌, ◌≤◌, ◌<◌, ◌-◌, ◌||◌, ◌&&◌, [], ◌∷◌, IfOk, IfErr, IfNone, IfSome, drop, false, is_none, is_some, length, not, replicate, slice_get, take, true};
 ghost use Rattle.kernel_spec.specs.runs.Run as runs;
 ghost use Rattle.xv_machine.specs.Events.{event_of};
-ghost use Rattle.xv_debug.specs.motion.Clock.{IsNext, is_key, is_tick, round_by, round_of, runs_among};
+ghost use Rattle.recordings.specs.Recording.{Begins};
+ghost use Rattle.xv_debug.specs.motion.Clock.{Comes, EndsQuiet, HasAhead, IsByClock, IsFar, IsHere, NoneAhead, is_key, is_tick, round_by, round_of, runs_among};
 ghost use Rattle.xv_debug.specs.motion.Plan.{key_due};
 ghost use Rattle.xv_debug.specs.motion.Resting.{AreAwaitingTicks, RestsBy, RestsQuiet};
 
@@ -20,6 +21,24 @@ pub(crate) struct Round {
     pub left: u32,
     /// Whether a key was typed in it.
     pub keyed: bool,
+}
+
+/// How far a way is.
+#[derive(Clone, Copy)]
+pub(crate) struct Far {
+    /// How far the round is.
+    pub round: Round,
+    /// Whether the run is on the record.
+    pub along: bool,
+}
+
+/// What comes next.
+#[derive(Clone, Copy)]
+pub(crate) enum Coming {
+    /// So many Runs, one after another, as long as each does an instruction.
+    Runs(u32),
+    /// An event of another kind.
+    Other(Event),
 }
 
 /// How often the count of equal events is doubled that are looked for at once.
@@ -70,7 +89,7 @@ fn equal_before(session: &Session, end: u64) -> Equal
 }
 
 /// Whether an event is a Tick.
-fn is_tick(event: Event) -> bool
+pub(crate) fn is_tick(event: Event) -> bool
     ensures { result ≡ is_tick (event_of event) }
 {
     match event {
@@ -171,7 +190,7 @@ fn is_tick_awaited_at(stop: Stop, machine: &Machine, plan: &Plan, round: Round) 
     }
 }
 
-/// The event that comes next, if no byte waits, and no key is due.
+/// The event that comes next by the clock, if no byte waits, and no key is due.
 ///
 /// # Errors
 ///
@@ -179,7 +198,7 @@ fn is_tick_awaited_at(stop: Stop, machine: &Machine, plan: &Plan, round: Round) 
 fn event_without_bytes(machine: &Machine, plan: &Plan, round: Round) -> Result<Event, Stop>
     requires quiet { machine.now.world.state.console.to_send ≡ [] }
     requires keyless { key_due plan.now round machine.now.world ≡ [] }
-    ensures next { IfOk result (λ event. IsNext plan.now round machine.now.world (event_of event)) }
+    ensures next { IfOk result (λ event. IsByClock plan.now round machine.now.world (event_of event)) }
     ensures rests { IfErr result (λ stop. RestsQuiet plan.now round stop machine.now.world) }
 {
     let Some(stop) = rest_of(machine) else {
@@ -195,15 +214,15 @@ fn event_without_bytes(machine: &Machine, plan: &Plan, round: Round) -> Result<E
     Err(stop)
 }
 
-/// The event that comes next by a plan, in a round that is so far.
+/// The event that comes next by the clock, in a round that is so far.
 ///
 /// # Errors
 ///
 /// None comes: the machine has halted, or all processes sleep, none of them up to a tick, and no round has a key; and no
 /// byte waits.
 #[tactic(auto, using(crate::proofs::Searched::waits, crate::proofs::Searched::none_waits))]
-pub(crate) fn next_event(machine: &Machine, plan: &Plan, round: Round) -> Result<Event, Stop>
-    ensures next { IfOk result (λ event. IsNext plan.now round machine.now.world (event_of event)) }
+fn next_event(machine: &Machine, plan: &Plan, round: Round) -> Result<Event, Stop>
+    ensures next { IfOk result (λ event. IsByClock plan.now round machine.now.world (event_of event)) }
     ensures rests { IfErr result (λ stop. RestsQuiet plan.now round stop machine.now.world) }
 {
     if byte_waits(machine) {
@@ -213,4 +232,80 @@ pub(crate) fn next_event(machine: &Machine, plan: &Plan, round: Round) -> Result
         return Ok(Event::Key(byte));
     }
     event_without_bytes(machine, plan, round)
+}
+
+/// How far a way is that begins here.
+pub(crate) fn far_of(session: &Session, plan: &Plan) -> Far
+    ensures { IsFar plan.now session.now.events result }
+{
+    Far {
+        round: round_of(session, plan),
+        along: plan.is_followed(session),
+    }
+}
+
+/// The same, if the run is no longer on a record that is over.
+pub(crate) fn here(session: &Session, plan: &Plan, far: Far) -> Far
+    requires { IsFar plan.now session.now.events far }
+    ensures { IsHere plan.now session.now.events result }
+{
+    let place = session.at();
+    let recorded = plan.recorded();
+    if place < recorded {
+        return far;
+    }
+    Far {
+        round: far.round,
+        along: false,
+    }
+}
+
+/// What comes next by the record, which has an event for this place.
+fn coming_along(session: &Session, plan: &Plan) -> Coming
+    requires { HasAhead plan.now.recorded session.now.events }
+    ensures { Comes plan.now session.now.events session.now.machine.world result }
+{
+    let next = plan.recorded_at(session.at());
+    if is_run(next.event) {
+        return Coming::Runs(next.count.min(u64::from(u32::MAX)) as u32);
+    }
+    Coming::Other(next.event)
+}
+
+/// What comes next by the clock, if the record has no event for this place.
+///
+/// # Errors
+///
+/// Those of [`next_event`].
+fn coming_by_clock(session: &Session, plan: &Plan, round: Round) -> Result<Coming, Stop>
+    requires apart { NoneAhead plan.now.recorded session.now.events }
+    requires round { round ≡ round_of plan.now.quantum session.now.events }
+    ensures comes { IfOk result (λ coming. Comes plan.now session.now.events session.now.machine.world coming) }
+    ensures rests { IfErr result (λ stop. EndsQuiet plan.now session.now.events stop session.now.machine.world) }
+{
+    match next_event(session.machine(), plan, round) {
+        Ok(event) => {
+            if is_run(event) {
+                return Ok(Coming::Runs(round.left));
+            }
+            Ok(Coming::Other(event))
+        }
+        Err(stop) => Err(stop),
+    }
+}
+
+/// What comes next.
+///
+/// # Errors
+///
+/// Nothing does: the record has no event for this place, and the clock has none.
+pub(crate) fn what_comes(session: &Session, plan: &Plan, far: Far) -> Result<Coming, Stop>
+    requires { IsHere plan.now session.now.events far }
+    ensures comes { IfOk result (λ coming. Comes plan.now session.now.events session.now.machine.world coming) }
+    ensures rests { IfErr result (λ stop. EndsQuiet plan.now session.now.events stop session.now.machine.world) }
+{
+    if far.along {
+        return Ok(coming_along(session, plan));
+    }
+    coming_by_clock(session, plan, far.round)
 }

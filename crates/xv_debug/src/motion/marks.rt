@@ -12,7 +12,7 @@ use xv_machine::{Machine, Outcome};
 use xv_session::{Condition, Session};
 
 /// Whether a mark waits for the store that the process which runs is about to make.
-fn is_store_due(machine: &Machine, mark: &Mark) -> bool
+pub(crate) fn is_store_due(machine: &Machine, mark: &Mark) -> bool
     ensures { result ≡ is_store_due machine.now.world mark.now }
 {
     match *mark {

@@ -1,5 +1,5 @@
 //! Sending events by the plan, up to a Run that is what is waited for.
-ghost use Rattle.std.specs.Prelude.{◌≡◌, ◌<◌, ◌≤◌, ◌&&◌, ◌||◌, IfOk, IfErr, IfSome, false, length, not, option_map};
+ghost use Rattle.std.specs.Prelude.{◌≡◌, ◌<◌, ◌≤◌, ◌-◌, ◌&&◌, ◌||◌, IfOk, IfErr, IfSome, false, length, not, option_map};
 ghost use Rattle.kernel_spec.specs.runs.Run as runs;
 ghost use Rattle.kernel_spec.specs.runs.Run.{bytes_out};
 ghost use Rattle.xv_machine.specs.Events.{event_of, outcome_of};
@@ -7,7 +7,7 @@ ghost use Rattle.xv_session.specs.Answers.{IsReason, Sent};
 ghost use Rattle.xv_session.specs.Recorded.{running_of};
 ghost use Rattle.xv_debug.specs.motion.Aims as aims;
 ghost use Rattle.xv_debug.specs.motion.Backwards as backwards;
-ghost use Rattle.xv_debug.specs.motion.Clock.{IsNext, round_of};
+ghost use Rattle.xv_debug.specs.motion.Clock.{Comes, IsFar, IsHere, IsNext, RunsCome, round_by};
 ghost use Rattle.xv_debug.specs.motion.Marks as marked;
 ghost use Rattle.xv_debug.specs.motion.Places.{ArePlaces};
 ghost use Rattle.xv_debug.specs.motion.Reaching as reached;
@@ -16,8 +16,7 @@ ghost use Rattle.xv_debug.specs.motion.Shown.{KeepsShown};
 ghost use Rattle.xv_debug.specs.motion.Ways.{test_of};
 
 use crate::motion::aiming::{Aim, is_due, is_met};
-use crate::motion::backwards::is_run;
-use crate::motion::clock::{Round, next_event, round_by, round_of};
+use crate::motion::clock::{Coming, Far, Round, far_of, here, round_by, what_comes};
 use crate::motion::journey::{Journey, Stop};
 use crate::motion::marks::{is_any_due, meets_marks};
 use crate::motion::output::Output;
@@ -52,8 +51,8 @@ pub(crate) struct Went {
     pub met: bool,
     /// What came of the last of them.
     pub last: Option<Outcome>,
-    /// How far the round is.
-    pub round: Round,
+    /// How far the way is.
+    pub far: Far,
 }
 
 /// Whether a store that is waited for is the next step of the process that runs.
@@ -98,6 +97,31 @@ fn is_one(session: &Session, way: &Way<'_>, due: &Due, outcome: &Outcome) -> boo
             | meets_marks(session, way.marks, due.mark, outcome))
 }
 
+/// How far a way is after an event.
+fn far_by(plan: &Plan, far: Far, event: Event) -> Far
+    ensures round { result.round ≡ round_by plan.now.quantum far.round (event_of event) }
+    ensures along { result.along ≡ far.along }
+{
+    Far {
+        round: round_by(plan, far.round, event),
+        along: far.along,
+    }
+}
+
+/// How far a way is after so many Runs.
+fn far_by_runs(far: Far, sent: u32) -> Far
+    ensures round { result.round ≡ record { left = far.round.left - sent; keyed = far.round.keyed } }
+    ensures along { result.along ≡ far.along }
+{
+    Far {
+        round: Round {
+            left: far.round.left.saturating_sub(sent),
+            keyed: far.round.keyed,
+        },
+        along: far.along,
+    }
+}
+
 /// Sends an event, and keeps what the console shows of it.
 fn send_one(
     session: &mut Session,
@@ -120,14 +144,14 @@ fn send_apart(
     session: &mut Session,
     way: &Way<'_>,
     event: Event,
-    round: Round,
+    far: Far,
     output: &mut Output,
 ) -> Result<Went, SessionError>
     requires apart { backwards.is_run (event_of event) ≡ false }
-    requires round { round ≡ round_of way.now.plan.now.quantum session.old.events }
-    requires next { IsNext way.now.plan.now round session.old.machine.world (event_of event) }
+    requires here { IsHere way.now.plan.now session.old.events far }
+    requires next { IsNext way.now.plan.now session.old.events session.old.machine.world (event_of event) }
     ensures goes { IfOk result (λ w. Goes way.now.plan.now (test_of way.now) w.met w.sent (option_map outcome_of w.last) session.old session.new output.old output.new) }
-    ensures round { IfOk result (λ w. w.round ≡ round_of way.now.plan.now.quantum session.new.events) }
+    ensures far { IfOk result (λ w. IsFar way.now.plan.now session.new.events w.far) }
     ensures one { IfOk result (λ w. w.sent ≡ 1) }
     ensures refused { IfErr result (λ _. session.new ≡ session.old) }
     ensures silent { IfErr result (λ _. output.new ≡ output.old) }
@@ -138,7 +162,7 @@ fn send_apart(
         sent: 1,
         met: false,
         last: Some(outcome),
-        round: round_by(way.plan, round, event),
+        far: far_by(way.plan, far, event),
     })
 }
 
@@ -146,13 +170,13 @@ fn send_apart(
 fn run_once(
     session: &mut Session,
     way: &Way<'_>,
-    round: Round,
+    far: Far,
     output: &mut Output,
 ) -> Result<Went, SessionError>
-    requires round { round ≡ round_of way.now.plan.now.quantum session.old.events }
-    requires next { IsNext way.now.plan.now round session.old.machine.world runs.Run }
+    requires here { IsHere way.now.plan.now session.old.events far }
+    requires next { IsNext way.now.plan.now session.old.events session.old.machine.world runs.Run }
     ensures goes { IfOk result (λ w. Goes way.now.plan.now (test_of way.now) w.met w.sent (option_map outcome_of w.last) session.old session.new output.old output.new) }
-    ensures round { IfOk result (λ w. w.round ≡ round_of way.now.plan.now.quantum session.new.events) }
+    ensures far { IfOk result (λ w. IsFar way.now.plan.now session.new.events w.far) }
     ensures one { IfOk result (λ w. w.sent ≡ 1) }
     ensures refused { IfErr result (λ _. session.new ≡ session.old) }
     ensures silent { IfErr result (λ _. output.new ≡ output.old) }
@@ -165,7 +189,7 @@ fn run_once(
         sent: 1,
         met,
         last: Some(outcome),
-        round: round_by(way.plan, round, Event::Run),
+        far: far_by(way.plan, far, Event::Run),
     })
 }
 
@@ -176,19 +200,18 @@ fn run_often(
     session: &mut Session,
     most: u32,
     way: &Way<'_>,
-    round: Round,
+    far: Far,
     places: &Places,
     output: &mut Output,
 ) -> Result<Went, SessionError>
     requires some { 0 < most }
-    requires few { most ≤ round.left }
-    requires round { round ≡ round_of way.now.plan.now.quantum session.old.events }
-    requires next { IsNext way.now.plan.now round session.old.machine.world runs.Run }
+    requires here { IsHere way.now.plan.now session.old.events far }
+    requires comes { RunsCome way.now.plan.now session.old.events most session.old.machine.world }
     requires places { ArePlaces way.now.aim.now way.now.marks.now places.now }
     requires aim { aims.is_due way.now.aim.now session.old.machine ≡ false }
     requires marks { marked.is_any_due way.now.marks.now session.old.machine.world ≡ false }
     ensures goes { IfOk result (λ w. Goes way.now.plan.now (test_of way.now) w.met w.sent (option_map outcome_of w.last) session.old session.new output.old output.new) }
-    ensures round { IfOk result (λ w. w.round ≡ round_of way.now.plan.now.quantum session.new.events) }
+    ensures far { IfOk result (λ w. IsFar way.now.plan.now session.new.events w.far) }
     ensures within { IfOk result (λ w. w.sent ≤ most) }
     ensures forth { IfOk result (λ w. 0 < w.sent) }
     ensures refused { IfErr result (λ _. session.new ≡ session.old) }
@@ -210,29 +233,26 @@ fn run_often(
         sent,
         met,
         last: Some(outcome),
-        round: Round {
-            left: round.left.saturating_sub(sent),
-            keyed: round.keyed,
-        },
+        far: far_by_runs(far, sent),
     })
 }
 
-/// Sends Runs, so many at most, and not more than the round has left: one, if a store that is waited for is due, or if
-/// there are no places; else as many as lead to none of the places.
-#[tactic(auto, using(crate::proofs::Searched::one_within, crate::proofs::Searched::one_forth, crate::proofs::Searched::part_within))]
+/// Sends Runs, so many at most: one, if a store that is waited for is due, or if there are no places; else as many as lead
+/// to none of the places.
+#[tactic(auto, using(crate::proofs::Searched::one_within, crate::proofs::Searched::one_forth, crate::proofs::Along::run_comes))]
 fn run_some(
     session: &mut Session,
     most: u32,
     way: &Way<'_>,
-    round: Round,
+    far: Far,
     output: &mut Output,
 ) -> Result<Went, SessionError>
     requires some { 0 < most }
     requires places { IfSome way.now.places (ArePlaces way.now.aim.now way.now.marks.now) }
-    requires round { round ≡ round_of way.now.plan.now.quantum session.old.events }
-    requires next { IsNext way.now.plan.now round session.old.machine.world runs.Run }
+    requires here { IsHere way.now.plan.now session.old.events far }
+    requires comes { RunsCome way.now.plan.now session.old.events most session.old.machine.world }
     ensures goes { IfOk result (λ w. Goes way.now.plan.now (test_of way.now) w.met w.sent (option_map outcome_of w.last) session.old session.new output.old output.new) }
-    ensures round { IfOk result (λ w. w.round ≡ round_of way.now.plan.now.quantum session.new.events) }
+    ensures far { IfOk result (λ w. IsFar way.now.plan.now session.new.events w.far) }
     ensures within { IfOk result (λ w. w.sent ≤ most) }
     ensures forth { IfOk result (λ w. 0 < w.sent) }
     ensures refused { IfErr result (λ _. session.new ≡ session.old) }
@@ -240,41 +260,41 @@ fn run_some(
     ensures reason { IfErr result (λ e. IsReason e (length session.old.events)) }
 {
     let Some(places) = &way.places else {
-        return run_once(session, way, round, output);
+        return run_once(session, way, far, output);
     };
     let due = due_now(session, way);
     if due.aim || due.mark {
-        return run_once(session, way, round, output);
+        return run_once(session, way, far, output);
     }
-    run_often(session, most.min(round.left), way, round, places, output)
+    run_often(session, most, way, far, places, output)
 }
 
-/// Sends the next event; and if it is a Run, more Runs, so many at most in all.
-#[tactic(auto, using(crate::proofs::Searched::one_within, crate::proofs::Searched::one_forth, crate::proofs::Clocked::next_run))]
+/// Sends what comes next: an event, or Runs, so many at most.
+#[tactic(auto, using(crate::proofs::Searched::one_within, crate::proofs::Searched::one_forth, crate::proofs::Searched::part_within, crate::proofs::Along::fewer_come))]
 fn send_some(
     session: &mut Session,
     most: u32,
     way: &Way<'_>,
-    event: Event,
-    round: Round,
+    next: Coming,
+    far: Far,
     output: &mut Output,
 ) -> Result<Went, SessionError>
     requires some { 0 < most }
     requires places { IfSome way.now.places (ArePlaces way.now.aim.now way.now.marks.now) }
-    requires round { round ≡ round_of way.now.plan.now.quantum session.old.events }
-    requires next { IsNext way.now.plan.now round session.old.machine.world (event_of event) }
+    requires here { IsHere way.now.plan.now session.old.events far }
+    requires comes { Comes way.now.plan.now session.old.events session.old.machine.world next }
     ensures goes { IfOk result (λ w. Goes way.now.plan.now (test_of way.now) w.met w.sent (option_map outcome_of w.last) session.old session.new output.old output.new) }
-    ensures round { IfOk result (λ w. w.round ≡ round_of way.now.plan.now.quantum session.new.events) }
+    ensures far { IfOk result (λ w. IsFar way.now.plan.now session.new.events w.far) }
     ensures within { IfOk result (λ w. w.sent ≤ most) }
     ensures forth { IfOk result (λ w. 0 < w.sent) }
     ensures refused { IfErr result (λ _. session.new ≡ session.old) }
     ensures silent { IfErr result (λ _. output.new ≡ output.old) }
     ensures reason { IfErr result (λ e. IsReason e (length session.old.events)) }
 {
-    if is_run(event) {
-        return run_some(session, most, way, round, output);
+    match next {
+        Coming::Runs(count) => run_some(session, most.min(count), way, far, output),
+        Coming::Other(event) => send_apart(session, way, event, far, output),
     }
-    send_apart(session, way, event, round, output)
 }
 
 /// The way of a session from here on.
@@ -292,9 +312,10 @@ fn way_from<'a>(session: &Session, plan: &'a Plan, aim: &'a Aim, marks: &'a [Mar
     }
 }
 
-/// Sends events by the plan, so many at most, up to the first Run that is the aim or meets a mark; and none more if nobody
-/// may go on, nobody waits for a tick and no key is left, or if it is broken off. A byte that waits in the console is taken
-/// before the next Run.
+/// Sends events by the plan, so many at most, up to the first Run that is the aim or meets a mark; and none more if the record
+/// has no event, nobody may go on, nobody waits for a tick and no key is left, or if it is broken off. By the clock, a byte
+/// that waits in the console is taken before the next Run.
+#[tactic(auto, using(crate::proofs::Along::ends_quiet))]
 pub(crate) fn search<P: Patience>(
     session: &mut Session,
     plan: &Plan,
@@ -308,23 +329,24 @@ pub(crate) fn search<P: Patience>(
 {
     let way = way_from(session, plan, aim, marks);
     let mut pace = Pace::new(u64::from(STRETCH));
-    let mut round = round_of(session, plan);
+    let mut far = far_of(session, plan);
     let mut sent: u32 = 0;
     let mut last = None;
     'events: while sent < most {
-        let event = match next_event(session.machine(), plan, round) {
-            Ok(event) => event,
+        far = here(session, plan, far);
+        let next = match what_comes(session, plan, far) {
+            Ok(next) => next,
             Err(stop) => return Journey::new(u64::from(sent), stop, last),
         };
-        let far = u64::from(sent);
-        if pace.is_over(far, patience) {
-            return Journey::new(far, Stop::Broken, last);
+        let done = u64::from(sent);
+        if pace.is_over(done, patience) {
+            return Journey::new(done, Stop::Broken, last);
         }
         let part = at_once(most - sent);
-        match send_some(session, part, &way, event, round, output) {
+        match send_some(session, part, &way, next, far, output) {
             Ok(went) => {
                 sent += went.sent;
-                round = went.round;
+                far = went.far;
                 last = went.last;
                 if went.met {
                     return Journey::new(u64::from(sent), Stop::Met, last);

@@ -1,7 +1,7 @@
 use Rattle.std.proofs.Common.{◌≡◌, ◌+◌, ◌<◌, ◌≤◌, List, length, subst, sym}
 use Rattle.kernel_spec.specs.runs.Run.{Event}
 use Rattle.xv_machine.specs.Events.{event_of}
-use Rattle.gdb_target.specs.Rounds.{event_among}
+use Rattle.recordings.specs.Recording.{event_among}
 use Rattle.gdb_target.proofs.rounds.next_in.Goals as goal
 
 pub next_among-requires : goal.next_among-requires

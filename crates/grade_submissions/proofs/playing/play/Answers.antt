@@ -39,7 +39,8 @@ returns-then-is_ended c =
     let start : IsReached frames trace programs [] booted.session.machine =
     subst (λ (s : Recorded). IsReached frames trace programs [] s.machine) (sym c.begin-played.ensures.session)
     (booted-reached frames trace programs c.in-Ok.session c.begin-played.ensures.recorded c.in-Ok.ensures.fresh) in
-    let blank = booted-blank frames trace programs c.in-Ok.session booted c.in-Ok.ensures.fresh c.begin-played.ensures.session c.begin-played.ensures.notes c.begin-played.ensures.fault in
+    let blank = booted-blank frames trace programs c.in-Ok.session booted c.in-Ok.ensures.fresh c.begin-played.ensures.session c.begin-played.ensures.notes c.begin-played.ensures.fault
+    c.begin-played.ensures.pipes in
     run-of frames trace programs c.args.plan c.args.keys.now c.loop-round.round booted now start c.loop-round.invariant.played
     c.begin-played.ensures.kept blank c.begin-played.ensures.budget
     (plan-ended frames trace programs c.args.plan c.args.keys.now c.loop-round.round booted now start c.loop-round.invariant.played
@@ -55,7 +56,8 @@ returns c =
     let start : IsReached frames trace programs [] booted.session.machine =
     subst (λ (s : Recorded). IsReached frames trace programs [] s.machine) (sym c.begin-played.ensures.session)
     (booted-reached frames trace programs c.in-Ok.session c.begin-played.ensures.recorded c.in-Ok.ensures.fresh) in
-    let blank = booted-blank frames trace programs c.in-Ok.session booted c.in-Ok.ensures.fresh c.begin-played.ensures.session c.begin-played.ensures.notes c.begin-played.ensures.fault in
+    let blank = booted-blank frames trace programs c.in-Ok.session booted c.in-Ok.ensures.fresh c.begin-played.ensures.session c.begin-played.ensures.notes c.begin-played.ensures.fault
+    c.begin-played.ensures.pipes in
     run-of frames trace programs c.args.plan c.args.keys.now c.loop-round.round booted now start c.loop-round.invariant.played
     c.begin-played.ensures.kept blank c.begin-played.ensures.budget
     (plan-done frames trace programs c.args.plan c.args.keys.now c.loop-round.round booted now start c.loop-round.invariant.played (omega (arith, c.loop-round.auto.round-end))

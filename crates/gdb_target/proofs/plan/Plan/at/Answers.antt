@@ -12,5 +12,5 @@ returns-clause-equal c = λ k h.
     let place = c.args.place + k in
     let past : length plan.recorded ≤ place = omega (arith, c.if-place-recorded.false, c.len-recorded.ensures) in
     let same : place - length plan.recorded ≡ c.args.place - c.len-recorded.result + k = omega (arith, c.if-place-recorded.false, c.len-recorded.ensures) in
-    subst (λ (x : Planned). planned_at x place ≡ event_of c.at-2.result.event) c.self.view_is
-    (past-record plan place past ∙ ap (event_at plan.keys plan.quantum) same ∙ c.at-2.ensures.equal k h)
+    subst (λ (x : Planned). planned_at x place ≡ event_of c.at.result.event) c.self.view_is
+    (past-record plan place past ∙ ap (event_at plan.keys plan.quantum) same ∙ c.at.ensures.equal k h)

@@ -8,10 +8,11 @@ use Rattle.gdb_target.specs.Came.{Comes}
 use Rattle.gdb_target.specs.Forth.{halted_of}
 use Rattle.gdb_target.specs.LetRun.{lets}
 use Rattle.gdb_target.specs.Told.{state_of}
-use Rattle.gdb_target.specs.Touches.{IsByChange, IsByInstruction, if_done, touched}
+use Rattle.gdb_target.specs.Touches.{IsByChange, IsByInstruction, told_of, touched}
 use Rattle.gdb_target.specs.declared.target.Target.{Target}
+use Rattle.gdb_target.specs.declared.touches.Ahead.{Ahead}
 use Rattle.gdb_target.specs.declared.touches.Touch.{Touch}
-use Rattle.gdb_target.proofs.Ways.{changed-goes, if-done-keeps, one-or, used-goes}
+use Rattle.gdb_target.proofs.Ways.{changed-goes, one-or, told-lets, told-may, used-goes}
 use Rattle.gdb_target.proofs.target.Target.send_runs.Goals as goal
 
 pub returns-in-Some-if_told-clause-goes : goal.returns-in-Some-if_told-clause-goes
@@ -46,11 +47,11 @@ returns-clause-goes c =
     let more : length t.run.session.events < length to.session.events =
     subst (λ (x : Option Outcome). IfSome x (λ (y : Outcome). length t.run.session.events < length to.session.events)) c.in-Some.is c.in_ok-outcome.ensures.more in
     let single = one-or c.args.most (length t.run.session.events) (length to.session.events) c.requires.single more c.run.ensures.within in
-    let ahead = c.touch_ahead-ahead in
-    let is : touched r t o ≡ c.if_done.result = sym (c.if_done.ensures ∙ ap (λ (x : Option Touch). if_done x o) ahead.ensures.is) in
-    let may = subst (λ (x : Option Touch). IfSome x (λ (it : Touch). IsByInstruction it.how)) (sym c.if_done.ensures)
-    (if-done-keeps ahead.result o (λ (it : Touch). IsByInstruction it.how) ahead.ensures.may) in
-    let lets_it = subst (λ (x : Option Touch). IfSome x (λ (it : Touch). lets r it.pid ≡ true)) (sym c.if_done.ensures)
-    (if-done-keeps ahead.result o (λ (it : Touch). lets r it.pid ≡ true) ahead.ensures.lets) in
+    let next = c.ahead-ahead in
+    let used = c.told_of-used in
+    let is : touched r t o ≡ used.result = sym (used.ensures ∙ ap (λ (x : Ahead). told_of t.points x o) next.ensures.is) in
+    let may = subst (λ (x : Option Touch). IfSome x (λ (it : Touch). IsByInstruction it.how)) (sym used.ensures) (told-may t.points next.result o next.ensures.may) in
+    let lets_it = subst (λ (x : Option Touch). IfSome x (λ (it : Touch). lets r it.pid ≡ true)) (sym used.ensures)
+    (told-lets r t.points next.result o next.ensures.touch next.ensures.caller) in
     IfOk-weaker c.used_or_judged.result _ _
-    (λ p judged. used-goes c.args.going.now.way t _ _ o p c.if_done.result (record { came = came; single = single }) is may lets_it judged) c.used_or_judged.ensures.judged
+    (λ p judged. used-goes c.args.going.now.way t _ _ o p used.result (record { came = came; single = single }) is may lets_it judged) c.used_or_judged.ensures.judged

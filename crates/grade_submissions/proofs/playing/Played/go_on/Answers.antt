@@ -12,7 +12,7 @@ returns-then-sent-eq0-clause-plays c =
 pub returns-clause-plays : goal.returns-clause-plays
 returns-clause-plays c =
     plays-done c.in_ok-sent.sent c.args.self.now (record { session = c.instructions.new.self; kept = c.keep_done.new.self }) c.in_ok-sent.ensures.sent
-    (omega (arith, c.if-sent-eq0.false)) c.keep_done.ensures.notes c.keep_done.ensures.fault c.keep_done.ensures.told c.keep_done.ensures.budget
+    (omega (arith, c.if-sent-eq0.false)) c.keep_done.ensures.notes c.keep_done.ensures.fault c.keep_done.ensures.pipes c.keep_done.ensures.told c.keep_done.ensures.budget
 
 pub returns-then-sent-eq0-clause-done : goal.returns-then-sent-eq0-clause-done
 returns-then-sent-eq0-clause-done c =

@@ -14,6 +14,7 @@ returns-clause-plays c =
     (plays-passed c.args.most c.in_ok-runs.runs.sent c.saturating_sub-place.result (option_map outcome_of c.in_ok-runs.runs.last) c.args.self.now
     (record { session = c.run.new.self; kept = c.add_work.new.self }) c.requires.some c.requires.nobody c.in_ok-runs.ensures.sent last
     (c.add_work.ensures.notes ∙ c.in_ok-keep_runs.ensures.notes) (c.add_work.ensures.fault ∙ c.in_ok-keep_runs.ensures.fault)
+    (c.add_work.ensures.pipes ∙ c.keep_runs.ensures.pipes)
     (c.add_work.ensures.told ∙ c.in_ok-keep_runs.ensures.told) (c.add_work.ensures.budget ∙ c.in_ok-keep_runs.ensures.budget)).0
 
 pub returns-clause-work : goal.returns-clause-work

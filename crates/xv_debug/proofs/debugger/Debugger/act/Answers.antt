@@ -5,18 +5,18 @@ use Rattle.xv_debug.specs.motion.Aims.{aim_in}
 use Rattle.xv_debug.specs.motion.Reaching.{met_from}
 use Rattle.xv_debug.specs.declared.motion.aiming.Aim.TheVariants.{On}
 use Rattle.xv_session.specs.declared.until.Condition.TheVariants.{Fault}
-use Rattle.xv_debug.specs.AnswerText.{Answers, FinishTells, GoalTells, RoundsTell, SearchTells, SendsTell, StepTells}
+use Rattle.xv_debug.specs.AnswerText.{Answers, FinishTells, GoalTells, GotoTells, PlaysOnTell, SearchTells, SendsTell, StepsOnTell}
 use Rattle.xv_debug.proofs.debugger.Debugger.act.Goals as goal
 
 pub returns-in-Step-clause-told : goal.returns-in-Step-clause-told
 returns-in-Step-clause-told g c =
     let q = c.args.self.now.plan in
     let old = c.args.session.now in
-    let new = c.step.new.session in
+    let new = c.step_on.new.session in
     let before = string_bytes c.args.answer.now in
-    let after = string_bytes c.step.new.answer in
-    subst (λ (w : Word). OnOk c.step.result (Answers c.args.self.now.sources g.P.Patience.may_end q c.args.self.now.shown w old new before after)) (sym c.in-Step.is)
-    (subst (λ (w : Word). OnOk c.step.result (StepTells g.P.Patience.may_end w c.in-Step.count old new before after)) c.in-Step.is c.step.ensures.told)
+    let after = string_bytes c.step_on.new.answer in
+    subst (λ (w : Word). OnOk c.step_on.result (Answers c.args.self.now.sources g.P.Patience.may_end q c.args.self.now.shown w old new before after)) (sym c.in-Step.is)
+    (subst (λ (w : Word). OnOk c.step_on.result (StepsOnTell g.P.Patience.may_end q w c.in-Step.count old new before after)) c.in-Step.is c.step_on.ensures.told)
 
 pub returns-in-Next-clause-told : goal.returns-in-Next-clause-told
 returns-in-Next-clause-told g c =
@@ -42,11 +42,11 @@ pub returns-in-Run-clause-told : goal.returns-in-Run-clause-told
 returns-in-Run-clause-told g c =
     let q = c.args.self.now.plan in
     let old = c.args.session.now in
-    let new = c.play.new.session in
+    let new = c.play_on.new.session in
     let before = string_bytes c.args.answer.now in
-    let after = string_bytes c.play.new.answer in
-    subst (λ (w : Word). OnOk c.play.result (Answers c.args.self.now.sources g.P.Patience.may_end q c.args.self.now.shown w old new before after)) (sym c.in-Run.is)
-    (subst (λ (w : Word). OnOk c.play.result (RoundsTell g.P.Patience.may_end q w c.in-Run.rounds old new before after)) c.in-Run.is c.play.ensures.told)
+    let after = string_bytes c.play_on.new.answer in
+    subst (λ (w : Word). OnOk c.play_on.result (Answers c.args.self.now.sources g.P.Patience.may_end q c.args.self.now.shown w old new before after)) (sym c.in-Run.is)
+    (subst (λ (w : Word). OnOk c.play_on.result (PlaysOnTell g.P.Patience.may_end q w c.in-Run.rounds old new before after)) c.in-Run.is c.play_on.ensures.told)
 
 pub returns-in-Tick-clause-told : goal.returns-in-Tick-clause-told
 returns-in-Tick-clause-told g c =
@@ -99,3 +99,13 @@ returns-in-Finish-clause-told g c =
     let after = string_bytes c.finish.new.answer in
     subst (λ (w : Word). OnOk c.finish.result (Answers c.args.self.now.sources g.P.Patience.may_end q c.args.self.now.shown w old new before after)) (sym c.in-Finish.is)
     (subst (λ (w : Word). OnOk c.finish.result (FinishTells c.args.self.now.sources g.P.Patience.may_end q w old new before after)) c.in-Finish.is c.finish.ensures.told)
+
+pub returns-in-Goto-clause-told : goal.returns-in-Goto-clause-told
+returns-in-Goto-clause-told g c =
+    let q = c.args.self.now.plan in
+    let old = c.args.session.now in
+    let new = c.go_to.new.session in
+    let before = string_bytes c.args.answer.now in
+    let after = string_bytes c.go_to.new.answer in
+    subst (λ (w : Word). OnOk c.go_to.result (Answers c.args.self.now.sources g.P.Patience.may_end q c.args.self.now.shown w old new before after)) (sym c.in-Goto.is)
+    (subst (λ (w : Word). OnOk c.go_to.result (GotoTells g.P.Patience.may_end q w c.in-Goto.place old new before after)) c.in-Goto.is c.go_to.ensures.told)

@@ -1,6 +1,6 @@
 use Rattle.std.proofs.Common.{◌≡◌, ◌+◌, ℕ, Bool, true, false, option_map, arith, subst}
 use Rattle.xv_machine.specs.Events.{outcome_of}
-use Rattle.xv_debug.specs.motion.Clock.{round_of}
+use Rattle.xv_debug.specs.motion.Clock.{IsFar}
 use Rattle.xv_debug.specs.motion.Plan.{Planned}
 use Rattle.xv_debug.specs.motion.Reaching.{Goes, Test, met_from}
 use Rattle.xv_debug.specs.motion.Ways.{test_of}
@@ -12,7 +12,7 @@ pub events-init : goal.events-init
 events-init g c =
     let q = c.args.plan.now in
     let old = c.args.session.now in
-    (omega arith, goes-none q (met_from old c.args.aim.now c.args.marks.now) old c.args.output.now c.args.output.now.fits, c.round_of-round.ensures)
+    (omega arith, goes-none q (met_from old c.args.aim.now c.args.marks.now) old c.args.output.now c.args.output.now.fits, c.far_of-far.ensures)
 
 pub events-preserved : goal.events-preserved
 events-preserved g c =
@@ -31,7 +31,7 @@ events-preserved g c =
       omega (arith, c.events.invariant.0, c.events-test.true, c.at_once-part.ensures.within, c.in-Ok-send_some.ensures.within),
       goes-join q test false c.events.sent went.sent (option_map outcome_of c.events.last) last old c.events.session new c.args.output.now c.events.output
           has c.in-Ok-send_some.ensures.forth c.events.invariant.1 one,
-      subst (λ (k : Planned). went.round ≡ round_of k.quantum new.events) c.way_from-way.ensures.plan c.in-Ok-send_some.ensures.round,
+      subst (λ (k : Planned). IsFar k new.events went.far) c.way_from-way.ensures.plan c.in-Ok-send_some.ensures.far,
     )
 
 pub returns-then-went : goal.returns-then-went

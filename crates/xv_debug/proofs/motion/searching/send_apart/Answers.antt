@@ -1,9 +1,6 @@
-use Rattle.std.proofs.Common.{subst}
 use Rattle.xv_machine.specs.Events.{event_of, outcome_of}
-use Rattle.xv_debug.specs.motion.Clock.{IsNext}
 use Rattle.xv_debug.specs.motion.Ways.{test_of}
-use Rattle.xv_debug.specs.declared.motion.clock.Round.{Round}
-use Rattle.xv_debug.proofs.Clocked.{round_sent}
+use Rattle.xv_debug.proofs.Along.{far-sent}
 use Rattle.xv_debug.proofs.Searched.{goes-apart}
 use Rattle.xv_debug.proofs.motion.searching.send_apart.Goals as goal
 
@@ -14,9 +11,9 @@ returns-clause-goes c =
     let old = c.args.session.now in
     let sent = c.in_ok-outcome.ensures in
     goes-apart way.plan.now (test_of way) e (outcome_of c.in_ok-outcome.outcome) old c.send_one.new.session c.args.output.now c.send_one.new.output
-    c.requires.apart (subst (λ (round : Round). IsNext way.plan.now round old.machine.world e) c.requires.round c.requires.next) sent.sent sent.shown
+    c.requires.apart c.requires.next sent.sent sent.shown
 
-pub returns-clause-round : goal.returns-clause-round
-returns-clause-round c =
-    round_sent c.args.way.now.plan.now.quantum c.args.round c.round_by.result (event_of c.args.event) (outcome_of c.in_ok-outcome.outcome) c.args.session.now c.send_one.new.session
-    c.in_ok-outcome.ensures.sent c.requires.round c.round_by.ensures
+pub returns-clause-far : goal.returns-clause-far
+returns-clause-far c =
+    far-sent c.args.way.now.plan.now c.args.far c.far_by.result (event_of c.args.event) (outcome_of c.in_ok-outcome.outcome) c.args.session.now c.send_one.new.session
+    c.requires.here c.requires.next c.in_ok-outcome.ensures.sent c.far_by.ensures.round c.far_by.ensures.along
