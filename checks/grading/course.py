@@ -11,8 +11,9 @@
 - 200 submissions are right answers that were damaged: `xv --check` and the grader agree on each. SEED is another 200.
 - The sheets in programs/course/check are of the exercises, and have none of their answers.
 
-Without Node nothing is tried, and that is said. The grader is anywhere/grade.mjs, or programs/course/grade.sh if
-XV_NODE isn't yes and xv_grade was built. The status is 0 if all is so. --store stores anew.
+Without Node, and by modules of an earlier state, nothing is tried, and that is said. The grader is
+anywhere/grade.mjs, or programs/course/grade.sh if XV_NODE isn't yes and xv_grade was built. The status is 0 if all
+is so. --store stores anew.
 """
 import concurrent.futures
 import csv
@@ -31,6 +32,8 @@ import tomllib
 import unicodedata
 import xml.etree.ElementTree
 import zipfile
+
+from modules import what_lacks
 
 TOP = pathlib.Path(__file__).resolve().parents[2]
 HERE = TOP / "checks/grading"
@@ -697,8 +700,8 @@ PARTS = (try_book, try_lines, try_tables, try_pages, try_again, try_damaged, try
 
 
 def main():
-    if shutil.which("node") is None:
-        print("course: not tried, since there is no node")
+    if lack := what_lacks():
+        print(f"course: not tried, since {lack}")
         return 0
     seeds = [int(word) for word in sys.argv[1:] if word.isdigit()]
     with tempfile.TemporaryDirectory() as made:

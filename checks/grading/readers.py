@@ -7,7 +7,7 @@
 - CSV (marking/csv.mjs) with csv.reader, which takes it strictly: a table, and 3,000 at random.
 - Moments (marking/times.mjs) with datetime: a table, and all days of the months of leap years and others.
 
-Without Node nothing is tried, and that is said. The status is 0 if all is so. It takes a second.
+Without Node, and by modules of an earlier state, nothing is tried, and that is said. The status is 0 if all is so. It takes a second.
 """
 import csv
 import datetime
@@ -16,11 +16,12 @@ import json
 import os
 import pathlib
 import random
-import shutil
 import subprocess
 import sys
 import tempfile
 import tomllib
+
+from modules import what_lacks
 
 TOP = pathlib.Path(__file__).resolve().parents[2]
 failed = []
@@ -218,8 +219,8 @@ def try_moments():
 
 
 def main():
-    if shutil.which("node") is None:
-        print("readers: not tried, since there is no node")
+    if lack := what_lacks():
+        print(f"readers: not tried, since {lack}")
         return 0
     chance = random.Random(int(sys.argv[1]) if sys.argv[1:] else 1)
     try_toml(chance)

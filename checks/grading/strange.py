@@ -3,7 +3,7 @@
 
 Rosters, tables of points and days, courses, marks, sheets and folders that are written wrong, or strangely. Each is
 taken as it is meant, or refused with its file and place; none breaks the program, and nothing is lost without a word.
-Without Node nothing is tried, and that is said. The status is 0 if all is so. It takes some seconds.
+Without Node, and by modules of an earlier state, nothing is tried, and that is said. The status is 0 if all is so. It takes some seconds.
 """
 import copy
 import json
@@ -14,6 +14,8 @@ import subprocess
 import sys
 import tempfile
 import unicodedata
+
+from modules import what_lacks
 
 TOP = pathlib.Path(__file__).resolve().parents[2]
 EXERCISES = TOP / "programs/course/exercises"
@@ -449,8 +451,8 @@ def attempt(part, room):
 
 def main():
     global asked
-    if shutil.which("node") is None:
-        print("strange: not tried, since there is no node")
+    if lack := what_lacks():
+        print(f"strange: not tried, since {lack}")
         return 0
     asked = Asked()
     with tempfile.TemporaryDirectory() as made:
