@@ -72,7 +72,7 @@ truncate -s 2000000000 sparse-and-large/init.s
 : >empty/init.s
 : >no-file/README
 printf 'a text\n' >plain-file-as-submission
-printf '\377\376\n' | put not-text
+printf '\300\n' | put not-text
 printf '  li a0, 3\n  jump nowhere\n' | put no-such-word
 mkdir -p elf-that-ends elf-of-another-machine no-elf
 printf '\177ELF' >elf-that-ends/init
