@@ -6,7 +6,7 @@ use crate::keys::{Keys, natural};
 use crate::notation::pattern;
 use crate::refusal::{SheetError, refused, told};
 use crate::variant::named_by;
-use grade_rules::{Edge, Pattern, Rule, judge};
+use grade_rules::{Edge, Pattern, Rule, has_letters, judge};
 use std::alloc::Global;
 use toml::Value;
 
@@ -271,6 +271,14 @@ fn text_at(alloc: Global, rule: &Keys<'_>, key: &str) -> Result<Vec<String>, She
     Ok(texts)
 }
 
+// That a key names no pipe by a letter: a pipe that isn't there may be chosen for it, and then no note is meant.
+fn without_letters(alloc: Global, key: &str, names_one: bool) -> Result<(), SheetError> {
+    if names_one {
+        return Err(told(format!(in alloc; "`{key}` names no pipe by a letter")));
+    }
+    Ok(())
+}
+
 // The rule that counts notes: one at least if nothing is said.
 fn counted(alloc: Global, rule: &Keys<'_>) -> Result<Check, SheetError> {
     let usual = if rule.has("at_most") { 0 } else { 1 };
@@ -280,6 +288,9 @@ fn counted(alloc: Global, rule: &Keys<'_>) -> Result<Check, SheetError> {
         return Err(refused(alloc, "no number is `at_least` and `at_most` that"));
     }
     let pattern = pattern_at(alloc, rule, "note")?;
+    if least == 0 {
+        without_letters(alloc, "note", pattern.has_letter())?;
+    }
     let texts = text_at(alloc, rule, "note")?;
     let rule = Rule::Count {
         pattern,
@@ -293,6 +304,7 @@ fn counted(alloc: Global, rule: &Keys<'_>) -> Result<Check, SheetError> {
 fn none_of(alloc: Global, rule: &Keys<'_>) -> Result<Check, SheetError> {
     let texts = rule.texts(alloc, "none_of")?;
     let patterns = patterns_of(alloc, texts.as_slice())?;
+    without_letters(alloc, "none_of", has_letters(patterns.as_slice()))?;
     let rule = Rule::NoneOf { patterns };
     Ok(Check::Notes { rule, texts })
 }
@@ -301,6 +313,7 @@ fn none_of(alloc: Global, rule: &Keys<'_>) -> Result<Check, SheetError> {
 fn before(alloc: Global, rule: &Keys<'_>) -> Result<Check, SheetError> {
     let first = pattern_at(alloc, rule, "first")?;
     let next = pattern_at(alloc, rule, "then")?;
+    without_letters(alloc, "then", next.has_letter())?;
     let texts = text_at(alloc, rule, "first")?;
     let rule = Rule::Before { first, next };
     Ok(Check::Notes { rule, texts })
@@ -318,6 +331,7 @@ fn in_order(alloc: Global, rule: &Keys<'_>) -> Result<Check, SheetError> {
 // The rule that of these notes there are those.
 fn exactly(alloc: Global, rule: &Keys<'_>) -> Result<Check, SheetError> {
     let of = patterns_of(alloc, rule.texts(alloc, "of")?.as_slice())?;
+    without_letters(alloc, "of", has_letters(of.as_slice()))?;
     let texts = rule.texts(alloc, "notes")?;
     let wanted = patterns_of(alloc, texts.as_slice())?;
     let rule = Rule::Exactly { of, wanted };
