@@ -5,13 +5,14 @@
 
 Programs of random calls, one for each seed, are run until N calls (500 without the word) were refused. What each call
 answers, and why it is refused, is told beforehand by a model of one process, written from docs/manual (machine.md,
-loading.md, calls.md) and not from the sources. --by FILE is asked in place of bin/xv_explain. The status is 1 if a line
-differs.
+program-files.md, loading.md, calls.md) and not from the sources. --by FILE is asked in place of bin/xv_explain. The
+status is 1 if a line differs.
 """
 import argparse
 import os
 import pathlib
 import random
+import struct
 import subprocess
 import sys
 import tempfile
@@ -60,6 +61,13 @@ def c_int(register):
 
 class Unknown(Exception):
     """The model doesn't know the bytes: those of text, of the stack, and of the table of calls, which isn't whole yet."""
+
+
+class Program:
+    """A program: why its file can't be loaded, or None, and how many frames it costs."""
+
+    def __init__(self, unloadable, price):
+        self.unloadable, self.price = unloadable, price
 
 
 class File:
@@ -218,8 +226,10 @@ class Process:
         yield f"no list of at most 31 words can be read at {a1:#x}", words is None
         name = path.lstrip(b"/")
         yield "no program has this name", name not in self.programs
-        unloaded = f"its file can't be loaded, its words don't fit on the stack page, or {self.frames_words()}"
-        yield unloaded, self.programs[name] is None or self.programs[name] > self.free or is_too_long(words)
+        program = self.programs[name]
+        yield program.unloadable, program.unloadable is not None
+        yield "its words don't fit on the stack page", is_too_long(words)
+        yield self.frames_words(), program.price > self.free
 
     def of_dup(self, a0, a1, a2):
         yield f"descriptor {c_int(a0)} isn't open", self.file(c_int(a0)) is None
@@ -339,10 +349,59 @@ def is_too_long(words):
     return sum(len(word) + 1 for word in words) > WORD_BYTES or (top - 8 * (len(words) + 1)) // 16 * 16 < 0
 
 
+# ---- program files
+
+def above(address):
+    return -(-address // PAGE) * PAGE
+
+
+def program_in(file):
+    """The program that a file is, by its headers."""
+    if len(file) < 64 or file[:4] != b"\x7fELF":
+        return Program("its file isn't an ELF program", None)
+    size, (begin,), (count,) = 0, struct.unpack_from("<Q", file, 32), struct.unpack_from("<H", file, 56)
+    for number in range(count):
+        bad = Program(f"program header {number} of its file can't be loaded", None)
+        if begin + 56 * (number + 1) > len(file):
+            return bad
+        kind, _, place, address, _, within, memory, _ = struct.unpack_from("<IIQQQQQQ", file, begin + 56 * number)
+        if kind != 1 or memory == within == 0:
+            continue
+        outside = address < above(size) or place + within > len(file) or address + memory > LARGEST
+        if memory < within or address % PAGE or outside:
+            return bad
+        size = address + memory
+    pages = above(size) // PAGE + 2
+    return Program(None, 1 + -(-pages // (1 << 18)) + -(-pages // (1 << 9)) + pages)
+
+
+def some_file(rng):
+    """A file header and some program headers, with faults here and there."""
+    headers, size = b"", 0
+    for _ in range(rng.choice([0, 1, 2, 3, 4])):
+        kind = rng.choice([1, 1, 1, 1, 0, 4, 257])
+        address = above(size) + rng.choice([0, 0, 0, 0, 0, PAGE, 1, -PAGE])
+        memory = rng.choice([0, 1, 100, PAGE, 3 * PAGE, 5000, LARGEST - address, LARGEST - address + 1, (1 << 64) - 1])
+        within = rng.choice([0, 0, 0, 1, 60, memory, memory + 1])
+        place = rng.choice([0, 0, 64, 100, (1 << 64) - 60])
+        numbers = [n % (1 << 64) for n in (place, address, rng.randrange(PAGE), within, memory, PAGE)]
+        headers += struct.pack("<IIQQQQQQ", kind, rng.randrange(8), *numbers)
+        size = address + memory if kind == 1 else size
+    begin = rng.choice([64, 64, 64, 65, 120])
+    told = rng.choice([begin] * 9 + [(1 << 64) - 56])
+    count = len(headers) // 56 + rng.choice([0] * 9 + [1])
+    file = b"\x7fELF" + rng.randbytes(28) + struct.pack("<Q", told) + rng.randbytes(16) + struct.pack("<H", count)
+    file = bytearray(file.ljust(begin, b"\0") + headers)
+    if rng.random() < 0.2:
+        file[rng.randrange(4)] ^= 1 << rng.randrange(8)
+    return bytes(file[:rng.choice([len(file)] * 8 + [len(file) - 1, 63])])
+
+
 # ---- programs
 
-NAMES = ["init", "/init", "junk", "//small", "small", "console", "/console", "ini", "inits", "consol", "consoles", "",
-         "/", "a/init", "INIT", "init/", "/" * 126 + "a", "/" * 120 + "console", "/" * 121 + "console", "x" * 127,
+FILES = ["elf", "file", "third", "fourth"]
+NAMES = [*FILES, "/elf", "init", "/init", "junk", "//small", "small", "console", "/console", "ini", "inits", "consol",
+         "consoles", "", "/", "a/init", "INIT", "init/", "/" * 126 + "a", "/" * 120 + "console", "/" * 121 + "console", "x" * 127,
          "x" * 128, "/" * 123 + "init", "/" * 124 + "init"]
 
 
@@ -415,13 +474,15 @@ def some_call(rng, process, places):
 
 
 def program_of(seed, calls):
-    """A program: its source, how many frames RAM has, whether a child sleeps, and its calls with their reasons."""
+    """A program: its source, other files, how many frames RAM has, whether a child sleeps, its calls with reasons."""
     rng = random.Random(seed)
     sleeper = rng.random() < 0.5
     data, places = data_of(rng, calls)
     frames = rng.choice([33, 36, 40, 60, 100, 400, 4096])
-    process = Process(frames, data, {b"init": None, b"junk": None, b"small": 6}, sleeper, 32 * (calls + 1))
-    process.programs[b"init"] = process.price()
+    files = {name: some_file(rng) for name in FILES} | {"junk": b"no program\n"}
+    programs = {name.encode(): program_in(file) for name, file in files.items()}
+    process = Process(frames, data, programs | {b"small": Program(None, 6)}, sleeper, 32 * (calls + 1))
+    process.programs[b"init"] = Program(None, process.price())
     lazy = rng.random() < 0.3
     done = []
     while len(done) < calls:
@@ -437,7 +498,7 @@ def program_of(seed, calls):
     data[32 * calls:32 * calls + 8] = b"\xff" * 8
     if sleeper:
         data[places["sleepers"] - PAGE] = 1
-    return source_of(data, places), frames, sleeper, done
+    return source_of(data, places), files, frames, sleeper, done
 
 
 def source_of(data, places):
@@ -458,9 +519,11 @@ def answers_of(text):
 
 def differences(by, folder, seed, calls):
     """Lines that differ, and how many calls were refused."""
-    source, frames, sleeper, done = program_of(seed, calls)
+    source, files, frames, sleeper, done = program_of(seed, calls)
     (folder / "init.s").write_text(source, encoding="utf-8")
-    words = [*by, "--frames", str(frames), "--rounds", "4000", "init.s", "small.s", "junk"]
+    for name, file in files.items():
+        (folder / name).write_bytes(file)
+    words = [*by, "--frames", str(frames), "--rounds", "4000", "init.s", "small.s", *files]
     patience = 10 * int(os.environ.get("PATIENCE", "60"))
     told = subprocess.run(words, cwd=folder, stdin=subprocess.DEVNULL, capture_output=True, text=True, errors="replace",
                           timeout=patience, check=False)
@@ -486,7 +549,6 @@ def main():
     with tempfile.TemporaryDirectory() as name:
         folder = pathlib.Path(name)
         (folder / "small.s").write_text("_start:\n    li a0, 0\n    li a7, 2\n    ecall\n", encoding="utf-8")
-        (folder / "junk").write_text("no program\n", encoding="utf-8")
         while refused < words.refused and not wrong:
             more, count = differences(by, folder, seed, 400)
             wrong += more

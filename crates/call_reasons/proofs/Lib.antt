@@ -1,6 +1,8 @@
 pub mod ByCall
+pub mod Causes
 pub mod Children
 pub mod Counts
+pub mod Loads
 pub mod Names
 pub mod Reach
 pub mod Reading

@@ -1,20 +1,25 @@
 -- How a text, a pointer and a list of texts are read, byte by byte.
 use Rattle.std.proofs.Common.{◌≡◌, ◌≢◌, ℕ, zero, suc, ◌+◌, ◌-◌, ◌*◌, ◌<◌, ◌≤◌, ◌&&◌, ◌||◌, ◌++◌, Bool, cond, true, false, List, [], ◌∷◌, Option, Some, None}
 use Rattle.std.proofs.Common.{refl, sym, ap, ◌∙◌, arith, ne_eqb, eq-eqb, append-nil, append_assoc}
-use Rattle.std.specs.Prelude.{IfNone, IfSome, is_some, map, nat_le, option_map, ◌==◌}
+use Rattle.std.specs.Prelude.{IfNone, IfSome, OnOk, Result, Ok, Err, is_some, length, map, nat_le, option_map, ◌==◌}
 use Rattle.std.specs.List.{range_with_len}
+use Rattle.std.specs.Result.{is_err}
 use Rattle.std.proofs.lemmas.Bool.{and_parts, leb-true}
+use Rattle.std.proofs.lemmas.List.{length-append}
+use Rattle.std.proofs.lemmas.Option.{none-some, same_Some}
 use Rattle.std.proofs.lemmas.List.FromFn.{take-map-range_with_len}
 use Rattle.byteorder.specs.Endian.{little_number}
 use Rattle.xk_base.specs.declared.access.Access.{Access}
-use Rattle.xk_base.specs.declared.limits.TheConstants.{ADDRESS_END}
+use Rattle.xk_base.specs.declared.errors.ExecError.{ExecError}
+use Rattle.xk_base.specs.declared.limits.TheConstants.{ADDRESS_END, ARG_BYTES}
 use Rattle.xk_base.specs.Words.{le}
 use Rattle.xk_base.proofs.Words.{little_number-le}
+use Rattle.exec_core.specs.ArgTexts.{terminated}
 use Rattle.kernel_spec.specs.rows.Buffers.{reaches_touching}
 use Rattle.kernel_spec.specs.views.Processes.{Live}
 use Rattle.call_reasons.specs.Facts.{Facts}
 use Rattle.call_reasons.specs.Shown.{reach_in}
-use Rattle.call_reasons.specs.Texts.{byte_at, has_texts, list_with, pointer_at, text_at, text_with}
+use Rattle.call_reasons.specs.Texts.{byte_at, has_texts, list_with, pointer_at, text_at, text_before, text_with, texts_at}
 
 -- what is reached ends below 2^38
 pub reached_low : (access : Access) (o : Option Live) (a n : ℕ) → 0 < n → reach_in access o a n ≡ true → a + n ≤ ADDRESS_END
@@ -97,65 +102,183 @@ module _ (f : Facts) (limit a : ℕ) where
 
 -- ---- a list of texts
 
+-- these texts, and then the others
+abbrev pub behind : List (List ℕ) → Option (List (List ℕ)) → Option (List (List ℕ))
+behind before rest = option_map (λ texts. before ++ texts) rest
+
+none_before : (o : Option (List ℕ)) (rest : Option (List (List ℕ))) → is_some o ≡ false → is_some (text_before o rest) ≡ false
+none_before None rest none = refl
+none_before (Some text) rest none = let no : ⊥ = cc in absurd no
+
+some_before : (o : Option (List ℕ)) (rest : Option (List (List ℕ))) → is_some o ≡ true → is_some (text_before o rest) ≡ is_some rest
+some_before None rest there = let no : ⊥ = cc in absurd no
+some_before (Some text) None there = refl
+some_before (Some text) (Some texts) there = refl
+
+one_behind : (before : List (List ℕ)) (text : List ℕ) (rest : Option (List (List ℕ))) → behind before (text_before (Some text) rest) ≡ behind (before ++ text ∷ []) rest
+one_behind before text None = refl
+one_behind before text (Some texts) = ap Some (sym (append_assoc before (text ∷ []) texts))
+
+longer : (xs ys : List (List ℕ)) → length (terminated xs) ≤ length (terminated (xs ++ ys))
+longer [] ys = omega arith
+longer (x ∷ xs) ys = omega (arith, longer xs ys, length-append (x ++ 0 ∷ []) (terminated xs), length-append (x ++ 0 ∷ []) (terminated (xs ++ ys)))
+
+-- what a list that took a text, or didn't, was told
+pub taken_if : {A : Type 0} (r : Result (Unit {0}) ExecError) → is_err r ≡ false → OnOk r A → A
+taken_if (Ok done) is a = a
+taken_if (Err e) is a = let no : ⊥ = cc in absurd no
+
+pub refused_if : (r : Result (Unit {0}) ExecError) → is_err r ≡ true → (e : ExecError) × (r ≡ Err e)
+refused_if (Ok done) is = let no : ⊥ = cc in absurd no
+refused_if (Err e) is = (e, refl)
+
+is_missing : {A : Type 0} (o : Option A) → is_some o ≡ false → o ≡ None
+is_missing None none = refl
+is_missing (Some a) none = let no : ⊥ = cc in absurd no
+
+-- an empty list, if it is so
+abbrev empty_if : Bool → Option (List (List ℕ))
+empty_if b = cond b (Some []) None
+
+-- the list that a pointer 0 alone is
+abbrev only : Option ℕ → Option (List (List ℕ))
+only o = list_with o (λ pointer. None) None
+
+-- if no pointer but 0 may come, there are no texts
+only_empty : (f : Facts) (limit a : ℕ) → has_texts f 0 limit a ≡ true → texts_at f 0 limit a ≡ Some []
+unfolding texts_at
+only_empty f limit a there = by (pointer_at f a) there
+  where
+    by_zero : (b : Bool) → is_some (empty_if b) ≡ true → empty_if b ≡ Some []
+    by_zero true e = refl
+    by_zero false e = let no : ⊥ = cc in absurd no
+
+    by : (o : Option ℕ) → is_some (only o) ≡ true → only o ≡ Some []
+    by None e = let no : ⊥ = cc in absurd no
+    by (Some pointer) e = by_zero (pointer == 0) e
+
 module _ (f : Facts) (most limit a : ℕ) where
+  -- the texts that are left after so many pointers
+  abbrev left : (done : ℕ) → Option (List (List ℕ))
+  left done = texts_at f (most - done) limit (a + 8 * done)
+
   -- so many pointers are read, and each leads to a text
   abbrev pub Lists : (done : ℕ) → Type 0
-  Lists done = has_texts f most limit a ≡ has_texts f (most - done) limit (a + 8 * done)
+  Lists done = has_texts f most limit a ≡ is_some (left done)
 
-  pub lists_first : Lists 0
-  lists_first =
+  -- the same, and these are the texts
+  abbrev pub Gathers : (done : ℕ) (before : List (List ℕ)) → Type 0
+  Gathers done before = (texts_at f most limit a ≡ behind before (left done)) × (length before ≡ done)
+
+  all_left : left 0 ≡ texts_at f most limit a
+  all_left =
       let same : a + 8 * 0 ≡ a = omega arith in
       let all : most - 0 ≡ most = omega arith in
-      sym (ap (λ k. has_texts f k limit (a + 8 * 0)) all ∙ ap (λ b. has_texts f most limit b) same)
+      ap (λ k. texts_at f k limit (a + 8 * 0)) all ∙ ap (λ b. texts_at f most limit b) same
 
-  next_pointer : (done : ℕ) → done < most → has_texts f (most - done) limit (a + 8 * done)
-      ≡ list_with (pointer_at f (a + 8 * done)) (λ pointer. is_some (text_at f limit pointer)) (has_texts f (most - (done + 1)) limit (a + 8 * (done + 1)))
-  unfolding has_texts
-  next_pointer done below =
-      let more : most - done ≡ suc (most - (done + 1)) = omega (arith, below) in
-      let next : a + 8 * done + 8 ≡ a + 8 * (done + 1) = omega arith in
-      ap (λ k. has_texts f k limit (a + 8 * done)) more
-      ∙ ap (λ b. list_with (pointer_at f (a + 8 * done)) (λ pointer. is_some (text_at f limit pointer)) (has_texts f (most - (done + 1)) limit b)) next
+  pub lists_first : Lists 0
+  lists_first = sym (ap is_some all_left)
 
-  module _ (done : ℕ) (lists : Lists done) (below : done < most) where
-    abbrev by_pointer : Option ℕ → Bool
-    by_pointer o = list_with o (λ pointer. is_some (text_at f limit pointer)) (has_texts f (most - (done + 1)) limit (a + 8 * (done + 1)))
+  pub gathers_first : Gathers 0 []
+  gathers_first = (by (texts_at f most limit a) ∙ ap (behind []) (sym all_left), refl)
+    where
+      by : (o : Option (List (List ℕ))) → o ≡ behind [] o
+      by None = refl
+      by (Some texts) = refl
 
-    pub no_pointer : pointer_at f (a + 8 * done) ≡ None → has_texts f most limit a ≡ false
-    no_pointer none = lists ∙ next_pointer done below ∙ ap by_pointer none
+  module _ (done : ℕ) (below : done < most) where
+    abbrev by_pointer : Option ℕ → Option (List (List ℕ))
+    by_pointer o = list_with o (λ pointer. text_at f limit pointer) (left (done + 1))
 
-    pub null_pointer : (pointer : ℕ) → pointer_at f (a + 8 * done) ≡ Some pointer → pointer ≡ 0 → has_texts f most limit a ≡ true
-    null_pointer pointer is null =
-        lists ∙ next_pointer done below ∙ ap by_pointer is
-        ∙ ap (λ b. b || is_some (text_at f limit pointer) && has_texts f (most - (done + 1)) limit (a + 8 * (done + 1))) (eq-eqb pointer 0 null)
+    abbrev by_zero : (pointer : ℕ) → Bool → Option (List (List ℕ))
+    by_zero pointer b = cond b (Some []) (text_before (text_at f limit pointer) (left (done + 1)))
 
-    pub no_text : (pointer : ℕ) → pointer_at f (a + 8 * done) ≡ Some pointer → pointer ≢ 0 → is_some (text_at f limit pointer) ≡ false → has_texts f most limit a ≡ false
-    no_text pointer is some none =
-        lists ∙ next_pointer done below ∙ ap by_pointer is
-        ∙ ap (λ b. b || is_some (text_at f limit pointer) && has_texts f (most - (done + 1)) limit (a + 8 * (done + 1))) (ne_eqb pointer 0 some)
-        ∙ ap (λ b. b && has_texts f (most - (done + 1)) limit (a + 8 * (done + 1))) none
+    next_pointer : left done ≡ by_pointer (pointer_at f (a + 8 * done))
+    unfolding texts_at
+    next_pointer =
+        let more : most - done ≡ suc (most - (done + 1)) = omega (arith, below) in
+        let next : a + 8 * done + 8 ≡ a + 8 * (done + 1) = omega arith in
+        ap (λ k. texts_at f k limit (a + 8 * done)) more
+        ∙ ap (λ b. list_with (pointer_at f (a + 8 * done)) (λ pointer. text_at f limit pointer) (texts_at f (most - (done + 1)) limit b)) next
 
-    pub one_text : (pointer : ℕ) → pointer_at f (a + 8 * done) ≡ Some pointer → pointer ≢ 0 → is_some (text_at f limit pointer) ≡ true → Lists (done + 1)
-    one_text pointer is some there =
-        lists ∙ next_pointer done below ∙ ap by_pointer is
-        ∙ ap (λ b. b || is_some (text_at f limit pointer) && has_texts f (most - (done + 1)) limit (a + 8 * (done + 1))) (ne_eqb pointer 0 some)
-        ∙ ap (λ b. b && has_texts f (most - (done + 1)) limit (a + 8 * (done + 1))) there
+    none_left : pointer_at f (a + 8 * done) ≡ None → left done ≡ None
+    none_left none = next_pointer ∙ ap by_pointer none
 
-  pub all_listed : (done : ℕ) → Lists done → done ≡ most → has_texts f most limit a ≡ has_texts f 0 limit (a + 8 * most)
-  all_listed done lists is =
-      let nothing : most - done ≡ 0 = omega (arith, is) in
-      lists ∙ ap (λ k. has_texts f k limit (a + 8 * done)) nothing ∙ ap (λ k. has_texts f 0 limit (a + 8 * k)) is
+    module _ (pointer : ℕ) (is : pointer_at f (a + 8 * done) ≡ Some pointer) where
+      null_left : pointer ≡ 0 → left done ≡ Some []
+      null_left null = next_pointer ∙ ap by_pointer is ∙ ap (by_zero pointer) (eq-eqb pointer 0 null)
+
+      text_left : pointer ≢ 0 → left done ≡ text_before (text_at f limit pointer) (left (done + 1))
+      text_left some = next_pointer ∙ ap by_pointer is ∙ ap (by_zero pointer) (ne_eqb pointer 0 some)
+
+    -- whether the list is there
+    module _ (lists : Lists done) where
+      pub no_pointer : pointer_at f (a + 8 * done) ≡ None → has_texts f most limit a ≡ false
+      no_pointer none = lists ∙ ap is_some (none_left none)
+
+      module _ (pointer : ℕ) (is : pointer_at f (a + 8 * done) ≡ Some pointer) where
+        pub null_pointer : pointer ≡ 0 → has_texts f most limit a ≡ true
+        null_pointer null = lists ∙ ap is_some (null_left pointer is null)
+
+        pub no_text : pointer ≢ 0 → is_some (text_at f limit pointer) ≡ false → has_texts f most limit a ≡ false
+        no_text some none = lists ∙ ap is_some (text_left pointer is some) ∙ none_before (text_at f limit pointer) (left (done + 1)) none
+
+        pub one_text : pointer ≢ 0 → is_some (text_at f limit pointer) ≡ true → Lists (done + 1)
+        one_text some there = lists ∙ ap is_some (text_left pointer is some) ∙ some_before (text_at f limit pointer) (left (done + 1)) there
+
+    -- the texts of the list
+    module _ (before : List (List ℕ)) (gathers : Gathers done before) where
+      pub none_gathered : pointer_at f (a + 8 * done) ≡ None → texts_at f most limit a ≡ None
+      none_gathered none = gathers.0 ∙ ap (behind before) (none_left none)
+
+      module _ (pointer : ℕ) (is : pointer_at f (a + 8 * done) ≡ Some pointer) where
+        pub all_gathered : pointer ≡ 0 → texts_at f most limit a ≡ Some before
+        all_gathered null = gathers.0 ∙ ap (behind before) (null_left pointer is null) ∙ ap Some (append-nil before)
+
+        pub no_text_gathered : pointer ≢ 0 → text_at f limit pointer ≡ None → texts_at f most limit a ≡ None
+        no_text_gathered some none = gathers.0 ∙ ap (behind before) (text_left pointer is some ∙ ap (λ o. text_before o (left (done + 1))) none)
+
+        more_gathered : (text : List ℕ) → pointer ≢ 0 → text_at f limit pointer ≡ Some text → texts_at f most limit a ≡ behind (before ++ text ∷ []) (left (done + 1))
+        more_gathered text some there =
+            gathers.0 ∙ ap (behind before) (text_left pointer is some ∙ ap (λ o. text_before o (left (done + 1))) there) ∙ one_behind before text (left (done + 1))
+
+        pub one_gathered : (text : List ℕ) → pointer ≢ 0 → text_at f limit pointer ≡ Some text → Gathers (done + 1) (before ++ text ∷ [])
+        one_gathered text some there = (more_gathered text some there, omega (arith, length-append before (text ∷ []), gathers.1))
+
+        -- a text that is one too long makes all of them too long
+        pub long_gathered : (text : List ℕ) → pointer ≢ 0 → text_at f limit pointer ≡ Some text → ARG_BYTES < length (terminated (before ++ text ∷ [])) → (texts : List (List ℕ))
+            → texts_at f most limit a ≡ Some texts → ARG_BYTES < length (terminated texts)
+        long_gathered text some there long texts are = by (left (done + 1)) (sym (more_gathered text some there) ∙ are)
+          where
+            by : (o : Option (List (List ℕ))) → behind (before ++ text ∷ []) o ≡ Some texts → ARG_BYTES < length (terminated texts)
+            by None e = absurd (none-some texts e)
+            by (Some rest) e = omega (arith, long, longer (before ++ text ∷ []) rest, ap (λ xs. length (terminated xs)) (same_Some _ _ e))
+
+  module _ (done : ℕ) (is : done ≡ most) where
+    last_left : left done ≡ texts_at f 0 limit (a + 8 * most)
+    last_left =
+        let nothing : most - done ≡ 0 = omega (arith, is) in
+        ap (λ k. texts_at f k limit (a + 8 * done)) nothing ∙ ap (λ k. texts_at f 0 limit (a + 8 * k)) is
+
+    pub all_listed : Lists done → has_texts f most limit a ≡ has_texts f 0 limit (a + 8 * most)
+    all_listed lists = lists ∙ ap is_some last_left
+
+    pub last_gathered : (before : List (List ℕ)) → Gathers done before → has_texts f 0 limit (a + 8 * most) ≡ true → texts_at f most limit a ≡ Some before
+    last_gathered before gathers there = gathers.0 ∙ ap (behind before) (last_left ∙ only_empty f limit (a + 8 * most) there) ∙ ap Some (append-nil before)
+
+    pub last_missing : (before : List (List ℕ)) → Gathers done before → has_texts f 0 limit (a + 8 * most) ≡ false → texts_at f most limit a ≡ None
+    last_missing before gathers none = gathers.0 ∙ ap (behind before) (last_left ∙ is_missing (texts_at f 0 limit (a + 8 * most)) none)
 
 -- a pointer 0, after as many texts as may be
 module _ (f : Facts) (limit a : ℕ) where
   pub no_last : pointer_at f a ≡ None → false ≡ has_texts f 0 limit a
-  unfolding has_texts
-  no_last none = sym (ap (λ o. list_with o (λ pointer. false) false) none)
+  unfolding texts_at
+  no_last none = sym (ap (λ o. is_some (only o)) none)
 
   pub last : (pointer : ℕ) → pointer_at f a ≡ Some pointer → (pointer == 0) ≡ has_texts f 0 limit a
-  unfolding has_texts
-  last pointer is = by (pointer == 0) ∙ sym (ap (λ o. list_with o (λ pointer. false) false) is)
+  unfolding texts_at
+  last pointer is = by (pointer == 0) ∙ sym (ap (λ o. is_some (only o)) is)
     where
-      by : (b : Bool) → b ≡ (b || false && false)
+      by : (b : Bool) → b ≡ is_some (empty_if b)
       by true = refl
       by false = refl

@@ -1,6 +1,6 @@
 -- Each row is refused exactly if one of its tests holds.
 use Rattle.std.proofs.Common.{◌≡◌, ◌≢◌, ℕ, ◌+◌, ◌&&◌, ◌||◌, ◌++◌, not, Bool, cond, true, false, List, [], ◌∷◌, Option, Some, None, refl, sym, ap, ◌∙◌, arith, ne_eqb}
-use Rattle.std.specs.Prelude.{ℤ, pos, negsuc, IsSome, nat_lt, nat_le, is_none, is_some, bytes_eq, option_map, ◌==◌}
+use Rattle.std.specs.Prelude.{ℤ, pos, negsuc, IsSome, Result, Ok, Err, nat_lt, nat_le, is_none, is_some, bytes_eq, option_map, ◌==◌}
 use Rattle.std.specs.Ordering.{int_eq}
 use Rattle.std.specs.List.{list_any, position_from}
 use Rattle.std.proofs.lemmas.Bool.{eqb-true, le-ltb}
@@ -10,6 +10,8 @@ use Rattle.xk_base.specs.declared.access.Access.TheVariants.{Load, Store}
 use Rattle.xk_base.specs.declared.limits.TheConstants.{ADDRESS_END, ARG_BYTES, MAXARG, MAXPATH, NOFILE, NPROC, PID_MAX, SIZE_LIMIT}
 use Rattle.xk_base.specs.Image.{price}
 use Rattle.xk_base.specs.Loaded.{Loaded, loaded}
+use Rattle.xk_base.specs.declared.errors.ExecError.{ExecError}
+use Rattle.xk_base.specs.declared.errors.ExecError.TheVariants as errors
 use Rattle.addr_space.specs.Absent.{pages_at}
 use Rattle.file_table.specs.declared.open_file.End.{End}
 use Rattle.pipe_core.specs.Pipe.{Pipe}
@@ -27,17 +29,18 @@ use Rattle.kernel_spec.specs.views.Programs.{place_of, program_named}
 use Rattle.kernel_spec.specs.views.State.{ProgramFile}
 use Rattle.kernel_spec.specs.views.View.{View, Descriptor, Shown, Shown_terminal, Shown_file, Shown_pipe, in_use}
 use Rattle.kernel_spec.specs.views.Words.{c_int, minus_one}
-use Rattle.call_reasons.specs.Facts.{Facts, can_reach, facts_of, is_file, is_unread, names_process, opened_of}
+use Rattle.call_reasons.specs.Facts.{Facts, can_reach, facts_of, file_named, is_file, is_unread, names_process, opened_of}
 use Rattle.call_reasons.specs.Reasons.{at_least_zero, costs_too_much, first, has_no_frame, has_no_reader, is_bad_size, is_below_zero, is_on_file, is_short, cannot_hold, cannot_load}
-use Rattle.call_reasons.specs.Reasons.{may_be_read, may_be_written, opens_in, reason_by, reason_of, reason_told, size_after, tests}
+use Rattle.call_reasons.specs.Reasons.{may_be_read, may_be_written, of_loading, opens_in, reason_by, reason_of, reason_told, size_after, tests}
 use Rattle.call_reasons.specs.Laws.{Answers, EndsLow, OthersHaveNone, ReasonsRefuse, RefusalsHaveReasons, ToldAfterwards, ToldIsReason}
 use Rattle.call_reasons.specs.declared.opened.Opened.{Opened}
 use Rattle.call_reasons.specs.declared.reason.Reason.{Reason}
 use Rattle.call_reasons.specs.declared.reason.Reason.TheVariants.{NotOpen, NotForReading, NotForWriting, BelowZero, NotReadable, NotWritable, NoReader, NoProcess, NoDescriptor}
-use Rattle.call_reasons.specs.declared.reason.Reason.TheVariants.{BadSize, NoFrames, NoRoom, NoPath, NoList, NotNamed, NoProgram, NotInMode, NotLoaded}
-use Rattle.call_reasons.specs.Texts.{has_texts, is_console, is_named, name_in, text_at}
+use Rattle.call_reasons.specs.declared.reason.Reason.TheVariants.{BadSize, NoFrames, NoRoom, NoPath, NoList, NotNamed, NoProgram, NotInMode}
+use Rattle.call_reasons.specs.Loading.{error_of, load_error}
+use Rattle.call_reasons.specs.Texts.{is_console, is_named, name_in, text_at, texts_at}
 use Rattle.call_reasons.proofs.Reach.{is_reached, not_reached}
-use Rattle.call_reasons.proofs.Told.{Follows, FollowsIf, list_told, text_follows}
+use Rattle.call_reasons.proofs.Told.{Follows, text_follows, texts_follow}
 use Rattle.call_reasons.proofs.Counts.{CountsOne, CountsTwo, least_counts, two_counted}
 
 -- a program has a place exactly if it is found
@@ -375,35 +378,51 @@ module _ (c : Call) (v : View) where
       by (Some path) there follows h = rw follows (passed _ (rest (Some path)) (g path) (h path follows))
 
   -- a list of texts
-  by_list : (g : List (List ℕ) → Own) (rest : Tests)
-      → ((texts : List (List ℕ)) → buffers.texts_at MAXARG ARG_BYTES v.image c.a1 ≡ Some texts → Fits c v (g texts) rest)
-      → Fits c v ((buffers.texts_at MAXARG ARG_BYTES v.image c.a1 or refused c v) >>= g) ((NoList c.a1, not (has_texts (facts_of v) MAXARG ARG_BYTES c.a1)) ∷ rest)
+  by_list : (g : List (List ℕ) → Own) (rest : Option (List (List ℕ)) → Tests)
+      → ((texts : List (List ℕ)) → buffers.texts_at MAXARG ARG_BYTES v.image c.a1 ≡ Some texts → Fits c v (g texts) (rest (Some texts)))
+      → Fits c v ((buffers.texts_at MAXARG ARG_BYTES v.image c.a1 or refused c v) >>= g)
+      ((NoList c.a1, not (is_some (texts_at (facts_of v) MAXARG ARG_BYTES c.a1))) ∷ rest (texts_at (facts_of v) MAXARG ARG_BYTES c.a1))
   unfolding ◌>>=◌ ◌or◌
-  by_list g rest h = by (has_texts (facts_of v) MAXARG ARG_BYTES c.a1) (buffers.texts_at MAXARG ARG_BYTES v.image c.a1) (list_told v MAXARG ARG_BYTES c.a1) h
+  by_list g rest h = by (texts_at (facts_of v) MAXARG ARG_BYTES c.a1) (buffers.texts_at MAXARG ARG_BYTES v.image c.a1) (texts_follow v MAXARG ARG_BYTES c.a1) h
     where
-      by : (b : Bool) (there : Option (List (List ℕ))) → FollowsIf v b there → ((texts : List (List ℕ)) → there ≡ Some texts → Fits c v (g texts) rest)
-          → Fits c v ((there or refused c v) >>= g) ((NoList c.a1, not b) ∷ rest)
-      by false there follows h = refusing_so _ _ rest (λ low. ap (λ o. (o or refused c v) >>= g) (follows low))
-      by true (Some texts) follows h = passed _ rest (g texts) (h texts refl)
-      by true None follows h = let no : ⊥ = cc in absurd no
+      by : (o there : Option (List (List ℕ))) → Follows v o there → ((texts : List (List ℕ)) → there ≡ Some texts → Fits c v (g texts) (rest (Some texts)))
+          → Fits c v ((there or refused c v) >>= g) ((NoList c.a1, not (is_some o)) ∷ rest o)
+      by None there follows h = refusing_so _ _ (rest None) (λ low. ap (λ o. (o or refused c v) >>= g) (follows low))
+      by (Some texts) there follows h = rw follows (passed _ (rest (Some texts)) (g texts) (h texts follows))
+
+  -- the tests of a program that is loaded with this error, if it is one
+  abbrev loading : Option ExecError → (short : Bool) → Tests
+  loading error short = of_loading c (facts_of v) short error
+
+  by_loading : (r : Result Loaded ExecError) (g : Loaded → Own) → ((l : Loaded) → Fits c v (g l) [])
+      → Fits c v ((result_of r or refused c v) >>= (λ l. (refused c v when nat_lt v.free (price l.image)) >> g l)) (loading (error_of r) (cannot_hold v (result_of r)))
+  unfolding ◌>>=◌ ◌or◌
+  by_loading (Ok l) g h = passed _ _ _ (passed _ _ _ (passed _ _ _ (by_when (NoFrames v.free) (nat_lt v.free (price l.image)) [] (g l) (h l))))
+  by_loading (Err errors.NotElf) g h = refused_so _ _
+  by_loading (Err (errors.BadSegment number)) g h = passed _ _ _ (refused_so _ _)
+  by_loading (Err errors.TooManyArgs) g h = passed _ _ _ (passed _ _ _ (passed _ _ _ (refused_so _ _)))
+  by_loading (Err errors.ArgsTooLong) g h = passed _ _ _ (passed _ _ _ (refused_so _ _))
+  by_loading (Err errors.NoFrames) g h = passed _ _ _ (passed _ _ _ (passed _ _ _ (refused_so _ _)))
 
   by_loaded : (program : Option ProgramFile) (texts : List (List ℕ)) (g : Loaded → Own) → ((l : Loaded) → Fits c v (g l) [])
       → Fits c v ((program or refused c v) >>= (λ p. (result_of (loaded p.bytes texts) or refused c v) >>= (λ l. (refused c v when nat_lt v.free (price l.image)) >> g l)))
-      ((NoProgram, not (is_some program)) ∷ (NotLoaded v.free, cannot_load v program (Some texts)) ∷ [])
-  unfolding ◌>>=◌ ◌or◌
+      ((NoProgram, not (is_some program)) ∷ loading (load_error (option_map (λ (p : ProgramFile). p.bytes) program) (Some texts)) (cannot_load v program (Some texts)))
+  unfolding ◌>>=◌ ◌or◌ load_error
   by_loaded None texts g h = refused_so _ _
-  by_loaded (Some p) texts g h = passed _ _ _ (by (result_of (loaded p.bytes texts)))
-    where
-      by : (o : Option Loaded) → Fits c v ((o or refused c v) >>= (λ l. (refused c v when nat_lt v.free (price l.image)) >> g l)) ((NotLoaded v.free, cannot_hold v o) ∷ [])
-      by None = refused_so _ []
-      by (Some l) = by_when _ (nat_lt v.free (price l.image)) [] (g l) (h l)
+  by_loaded (Some p) texts g h = passed _ _ _ (by_loading (loaded p.bytes texts) g h)
+
+  -- what is tested of a path and of texts
+  abbrev of_program : (path : Option (List ℕ)) (texts : Option (List (List ℕ))) → Tests
+  of_program path texts =
+      (NoProgram, not (is_some (program_named (name_in path) v.programs)))
+      ∷ loading (load_error (file_named (name_in path) v.programs) texts)
+      (cannot_load v (program_named (name_in (buffers.text_at MAXPATH v.image c.a0)) v.programs) (buffers.texts_at MAXARG ARG_BYTES v.image c.a1))
 
   exec_fits : Fits c v (exec c v) (tests Exec c (facts_of v) (is_short Exec c v))
   unfolding exec tests is_short
   exec_fits =
-      by_path _ (λ o. (NoList c.a1, not (has_texts (facts_of v) MAXARG ARG_BYTES c.a1)) ∷ (NoProgram, not (is_some (program_named (name_in o) v.programs)))
-      ∷ (NotLoaded v.free, cannot_load v (program_named (name_in (buffers.text_at MAXPATH v.image c.a0)) v.programs) (buffers.texts_at MAXARG ARG_BYTES v.image c.a1)) ∷ [])
-      (λ path is. by_list _ _ (λ texts there. rw (is, there) (by_loaded (program_named (no_slashes path) v.programs) texts _ (λ l. answers_well _ l.argc refl))))
+      by_path _ (λ o. (NoList c.a1, not (is_some (texts_at (facts_of v) MAXARG ARG_BYTES c.a1))) ∷ of_program o (texts_at (facts_of v) MAXARG ARG_BYTES c.a1))
+      (λ path is. by_list _ (of_program (Some path)) (λ texts there. rw (is, there) (by_loaded (program_named (no_slashes path) v.programs) texts _ (λ l. answers_well _ l.argc refl))))
 
   -- what a name names, and a mode
   by_mode : (shown : Shown) (z : ℤ) (g : ℕ → Own) (rest : Tests) → ((mode : ℕ) → Fits c v (g mode) rest)
@@ -501,7 +520,7 @@ module _ (c : Call) (v : View) where
   row_lastly Pipe_row b other e = lastly (_ ∷ _ ∷ []) _ other b e
   row_lastly Read b other e = lastly (_ ∷ _ ∷ _ ∷ _ ∷ []) _ other b e
   row_lastly Kill b other e = e
-  row_lastly Exec b other e = lastly (_ ∷ _ ∷ _ ∷ []) _ other b e
+  row_lastly Exec b other e = lastly (_ ∷ _ ∷ _ ∷ _ ∷ _ ∷ _ ∷ []) _ other b e
   row_lastly Dup b other e = e
   row_lastly Getpid b other e = e
   row_lastly Sbrk b other e = lastly (_ ∷ []) _ other b e

@@ -1,6 +1,6 @@
 -- The texts that facts tell are those that a row reads.
-use Rattle.std.proofs.Common.{◌≡◌, ℕ, zero, suc, ◌+◌, ◌&&◌, ◌||◌, Bool, cond, true, false, List, [], ◌∷◌, Option, Some, None, refl, sym, ap, ◌∙◌, arith}
-use Rattle.std.specs.Prelude.{IsSome, is_some, nat_eq, map, option_map}
+use Rattle.std.proofs.Common.{◌≡◌, ℕ, zero, suc, ◌+◌, Bool, cond, true, false, List, [], ◌∷◌, Option, Some, None, refl, sym, ap, ◌∙◌, arith}
+use Rattle.std.specs.Prelude.{nat_eq, map, option_map}
 use Rattle.std.specs.List.{range_with_len}
 use Rattle.xk_base.specs.declared.access.Access.TheVariants.{Load}
 use Rattle.xk_base.specs.Bytes.{image_byte, image_bytes}
@@ -11,7 +11,7 @@ use Rattle.kernel_spec.specs.views.View.{View}
 use Rattle.kernel_spec.specs.views.Words.{◌>>=◌}
 use Rattle.call_reasons.specs.Facts.{can_reach, facts_of}
 use Rattle.call_reasons.specs.Laws.{EndsLow}
-use Rattle.call_reasons.specs.Texts.{has_texts, list_with, pointer_at, text_at, text_with}
+use Rattle.call_reasons.specs.Texts.{list_with, pointer_at, text_at, text_before, text_with, texts_at}
 use Rattle.call_reasons.proofs.Reach.{is_reached, not_reached, of_all, of_each}
 
 module _ (v : View) where
@@ -19,11 +19,6 @@ module _ (v : View) where
   abbrev pub Follows : {A : Type 0} → (told there : Option A) → Type 0
   Follows None there = EndsLow v → there ≡ None
   Follows (Some a) there = there ≡ Some a
-
-  -- the same of whether it is there
-  abbrev pub FollowsIf : {A : Type 0} → (told : Bool) → (there : Option A) → Type 0
-  FollowsIf false there = EndsLow v → there ≡ None
-  FollowsIf true there = IsSome there
 
   -- ---- bytes
 
@@ -77,28 +72,27 @@ module _ (v : View) where
   abbrev listed : (pointer : Option ℕ) → (rest : ℕ → Option (List (List ℕ))) → Option (List (List ℕ))
   listed pointer rest = pointer >>= (λ p. cond (nat_eq p 0) (Some []) (rest p))
 
-  both_follow : (o there : Option (List ℕ)) (b : Bool) (rest : Option (List (List ℕ))) → Follows o there → FollowsIf b rest
-      → FollowsIf (is_some o && b) (there >>= (λ text. rest >>= (λ texts. Some (text ∷ texts))))
-  both_follow None there b rest h g = λ low. ap (λ t. t >>= (λ text. rest >>= (λ texts. Some (text ∷ texts)))) (h low)
-  both_follow (Some text) there b rest h g = rw h (by b rest g)
+  both_follow : (o there : Option (List ℕ)) (told rest : Option (List (List ℕ))) → Follows o there → Follows told rest
+      → Follows (text_before o told) (there >>= (λ text. rest >>= (λ texts. Some (text ∷ texts))))
+  both_follow None there told rest h g = λ low. ap (λ t. t >>= (λ text. rest >>= (λ texts. Some (text ∷ texts)))) (h low)
+  both_follow (Some text) there told rest h g = rw h (by told rest g)
     where
-      by : (b : Bool) (rest : Option (List (List ℕ))) → FollowsIf b rest → FollowsIf b (rest >>= (λ texts. Some (text ∷ texts)))
-      by false rest g = λ low. ap (λ o. o >>= (λ texts. Some (text ∷ texts))) (g low)
-      by true (Some texts) g = refl
-      by true None g = let no : ⊥ = cc in absurd no
+      by : (told rest : Option (List (List ℕ))) → Follows told rest → Follows (option_map (λ texts. text ∷ texts) told) (rest >>= (λ texts. Some (text ∷ texts)))
+      by None rest g = λ low. ap (λ o. o >>= (λ texts. Some (text ∷ texts))) (g low)
+      by (Some texts) rest g = ap (λ o. o >>= (λ texts. Some (text ∷ texts))) g
 
-  list_follows : (pointer there : Option ℕ) (has_text : ℕ → Bool) (b : Bool) (rest : ℕ → Option (List (List ℕ))) → Follows pointer there
-      → ((p : ℕ) → FollowsIf (has_text p && b) (rest p)) → FollowsIf (list_with pointer has_text b) (listed there rest)
-  list_follows None there has_text b rest h g = λ low. ap (λ o. listed o rest) (h low)
-  list_follows (Some p) there has_text b rest h g = rw h (by (nat_eq p 0))
+  list_follows : (pointer there : Option ℕ) (text : ℕ → Option (List ℕ)) (told : Option (List (List ℕ))) (rest : ℕ → Option (List (List ℕ))) → Follows pointer there
+      → ((p : ℕ) → Follows (text_before (text p) told) (rest p)) → Follows (list_with pointer text told) (listed there rest)
+  list_follows None there text told rest h g = λ low. ap (λ o. listed o rest) (h low)
+  list_follows (Some p) there text told rest h g = rw h (by (nat_eq p 0))
     where
-      by : (z : Bool) → FollowsIf (z || has_text p && b) (cond z (Some []) (rest p))
+      by : (z : Bool) → Follows (cond z (Some []) (text_before (text p) told)) (cond z (Some []) (rest p))
       by true = refl
       by false = g p
 
-  pub list_told : (more limit a : ℕ) → FollowsIf (has_texts (facts_of v) more limit a) (buffers.texts_at more limit v.image a)
-  unfolding has_texts buffers.texts_at
-  list_told zero limit a = list_follows _ _ (λ p. false) false (λ p. None) (pointer_follows a) (λ p low. refl)
-  list_told (suc more) limit a =
-      list_follows _ _ (λ p. is_some (text_at (facts_of v) limit p)) _ _ (pointer_follows a)
-      (λ p. both_follow (text_at (facts_of v) limit p) (buffers.text_at limit v.image p) _ _ (text_follows limit p) (list_told more limit (a + 8)))
+  pub texts_follow : (more limit a : ℕ) → Follows (texts_at (facts_of v) more limit a) (buffers.texts_at more limit v.image a)
+  unfolding texts_at buffers.texts_at
+  texts_follow zero limit a = list_follows _ _ (λ p. None) None (λ p. None) (pointer_follows a) (λ p low. refl)
+  texts_follow (suc more) limit a =
+      list_follows _ _ (λ p. text_at (facts_of v) limit p) _ _ (pointer_follows a)
+      (λ p. both_follow (text_at (facts_of v) limit p) (buffers.text_at limit v.image p) _ _ (text_follows limit p) (texts_follow more limit (a + 8)))

@@ -29,21 +29,22 @@ use Rattle.kernel_spec.proofs.turns.KeepsSlots.{listed}
 use Rattle.kcall_core.specs.Observers as observers
 use Rattle.kcall_core.specs.Observers.{child_at, descriptor_of, opened}
 use Rattle.kcall_core.specs.ObservedPipes.{counts_of}
-use Rattle.call_reasons.specs.Facts.{Facts, facts_of, opened_of}
+use Rattle.call_reasons.specs.Facts.{Facts, facts_of, file_named, opened_of}
 use Rattle.call_reasons.specs.Reasons.{reason_told}
 use Rattle.call_reasons.specs.Shown.{counts_no_reader, facts_in, has_child_in, is_free_in, is_pid_in, opened_in, reach_in, reason_in, shown_as}
 
 same_facts : (f g : Facts) → f.opened ≡ g.opened → f.free_descriptors ≡ g.free_descriptors → f.reads ≡ g.reads → f.writes ≡ g.writes → f.byte ≡ g.byte → f.size ≡ g.size
-    → f.has_child ≡ g.has_child → f.is_pid ≡ g.is_pid → f.is_program ≡ g.is_program → f.free ≡ g.free → f ≡ g
-same_facts f g a b c d k e h i m j =
+    → f.has_child ≡ g.has_child → f.is_pid ≡ g.is_pid → f.is_program ≡ g.is_program → f.file ≡ g.file → f.free ≡ g.free → f ≡ g
+same_facts f g a b c d k e h i m n j =
     ap (λ x. record f { opened = x }) a ∙ ap (λ x. record f { opened = g.opened; free_descriptors = x }) b
     ∙ ap (λ x. record f { opened = g.opened; free_descriptors = g.free_descriptors; reads = x }) c
     ∙ ap (λ x. record f { opened = g.opened; free_descriptors = g.free_descriptors; reads = g.reads; writes = x }) d
-    ∙ ap (λ x. record g { byte = x; size = f.size; has_child = f.has_child; is_pid = f.is_pid; is_program = f.is_program; free = f.free }) k
-    ∙ ap (λ x. record g { size = x; has_child = f.has_child; is_pid = f.is_pid; is_program = f.is_program; free = f.free }) e
-    ∙ ap (λ x. record g { has_child = x; is_pid = f.is_pid; is_program = f.is_program; free = f.free }) h
-    ∙ ap (λ x. record g { is_pid = x; is_program = f.is_program; free = f.free }) i
-    ∙ ap (λ x. record g { is_program = x; free = f.free }) m
+    ∙ ap (λ x. record g { byte = x; size = f.size; has_child = f.has_child; is_pid = f.is_pid; is_program = f.is_program; file = f.file; free = f.free }) k
+    ∙ ap (λ x. record g { size = x; has_child = f.has_child; is_pid = f.is_pid; is_program = f.is_program; file = f.file; free = f.free }) e
+    ∙ ap (λ x. record g { has_child = x; is_pid = f.is_pid; is_program = f.is_program; file = f.file; free = f.free }) h
+    ∙ ap (λ x. record g { is_pid = x; is_program = f.is_program; file = f.file; free = f.free }) i
+    ∙ ap (λ x. record g { is_program = x; file = f.file; free = f.free }) m
+    ∙ ap (λ x. record g { file = x; free = f.free }) n
     ∙ ap (λ x. record g { free = x }) j
 
 module _ (s : State) (p : ℕ) (l : Live) (lives : live s p ≡ Some l) where
@@ -66,9 +67,9 @@ module _ (s : State) (p : ℕ) (l : Live) (lives : live s p ≡ Some l) where
   open_same file None = refl
   open_same file (Some x) = ap Some (named_same file x.read x.write x.target)
 
-  file_same : (o : Option ℕ) → option_map (shown_as s) (opened s o) ≡ option_map opened_of (option_map (rename (numbered s l)) (descriptor_at s o))
-  file_same None = refl
-  file_same (Some file) = open_same file (get s.files file)
+  place_same : (o : Option ℕ) → option_map (shown_as s) (opened s o) ≡ option_map opened_of (option_map (rename (numbered s l)) (descriptor_at s o))
+  place_same None = refl
+  place_same (Some file) = open_same file (get s.files file)
 
   abbrev numbered_by : Option ℕ → Option Descriptor
   numbered_by o = do
@@ -91,7 +92,7 @@ module _ (s : State) (p : ℕ) (l : Live) (lives : live s p ≡ Some l) where
   unfolding view_of
   descriptor_same d below =
       ap (λ o. option_map (shown_as s) (opened s o)) (at_place d)
-      ∙ file_same (get l.descriptors d)
+      ∙ place_same (get l.descriptors d)
       ∙ ap (λ o. option_map opened_of (option_map (rename (numbered s l)) o)) (sym (by_parts (get l.descriptors d)))
       ∙ sym (ap (option_map opened_of) (named_at (numbered s l) d below))
 
@@ -151,6 +152,10 @@ module _ (s : State) (p : ℕ) (l : Live) (lives : live s p ≡ Some l) where
   unfolding view_of
   program_same name = refl
 
+  file_same : (name : List ℕ) → file_named name s.programs ≡ (facts_of (view_of s p l)).file name
+  unfolding view_of
+  file_same name = refl
+
   free_frames : (facts_in s p).free ≡ (facts_of (view_of s p l)).free
   unfolding view_of
   free_frames = refl
@@ -160,7 +165,7 @@ module _ (s : State) (p : ℕ) (l : Live) (lives : live s p ≡ Some l) where
   facts_same : facts_in s p ≡ facts_of (view_of s p l)
   facts_same =
       same_facts (facts_in s p) (facts_of (view_of s p l)) (fun_ext opened_same) free_same (fun_ext (λ a. fun_ext (λ n. reads_same a n))) (fun_ext (λ a. fun_ext (λ n. writes_same a n)))
-      (fun_ext byte_same) size_same child_same (fun_ext pid_same) (fun_ext program_same) free_frames
+      (fun_ext byte_same) size_same child_same (fun_ext pid_same) (fun_ext program_same) (fun_ext file_same) free_frames
 
   pub told_same : (c : Call) (value : ℤ) → reason_told c (facts_in s p) value ≡ reason_in s p c value
   told_same c value =

@@ -1,18 +1,22 @@
 -- Worked cases of reasons.
-use Rattle.std.proofs.Common.{◌≡◌, ℕ, ◌+◌, ◌-◌, ◌++◌, ◌∷◌, List, replicate, true, false, cond, Option, None, Some, codes, refl}
-use Rattle.std.specs.Prelude.{ℤ, pos, negsuc, ◌==◌, ◌&&◌, nat_le, slice_index, bytes_eq}
+use Rattle.std.proofs.Common.{◌≡◌, ℕ, ◌+◌, ◌-◌, ◌++◌, ◌∷◌, [], List, replicate, true, false, cond, Option, None, Some, codes, refl}
+use Rattle.std.specs.Prelude.{ℤ, pos, negsuc, ◌==◌, ◌&&◌, nat_le, slice_index, bytes_eq, take}
 use Rattle.std.specs.Fmt.{digits}
+use Rattle.xk_base.specs.declared.errors.ExecError.TheVariants.{ArgsTooLong, BadSegment}
+use Rattle.xk_base.specs.ProgramFile.{is_elf, file_header, program_header, is_bad, is_refused_after}
+use Rattle.xk_base.specs.Words.{least_below}
 use Rattle.proc_table.specs.declared.process.Call.{Call}
 use Rattle.kernel_spec.specs.rows.Buffers.{no_slashes}
 use Rattle.kernel_spec.specs.rows.Calls.{row_of}
 use Rattle.call_reasons.specs.Facts.{Facts}
-use Rattle.call_reasons.specs.Reasons.{reason_told, tests}
-use Rattle.call_reasons.specs.Texts.{has_texts, text_at}
+use Rattle.call_reasons.specs.Loading.{load_error}
+use Rattle.call_reasons.specs.Reasons.{first, of_loading, reason_told, tests}
+use Rattle.call_reasons.specs.Texts.{has_texts, text_at, texts_at}
 use Rattle.call_reasons.specs.Words.{reason_words}
 use Rattle.call_reasons.specs.declared.opened.Opened.{Opened}
 use Rattle.call_reasons.specs.declared.reason.Reason.{Reason}
 use Rattle.call_reasons.specs.declared.reason.Reason.TheVariants.{NoCall, NotOpen, NotForReading, NotForWriting, BelowZero, NotReadable, NotWritable, NoReader, NoChild, NoProcess, NoDescriptor}
-use Rattle.call_reasons.specs.declared.reason.Reason.TheVariants.{BadSize, NoFrames, NoPath, NoList, NotNamed, NoProgram, NotInMode, NotLoaded}
+use Rattle.call_reasons.specs.declared.reason.Reason.TheVariants.{BadSize, NoFrames, NoPath, NoList, NotNamed, NoProgram, NotInMode, NotElf, BadHeader, LongWords}
 
 abbrev call : (number a0 a1 a2 : ℕ) → Call
 call number a0 a1 a2 = record { number = pos number; a0 = a0; a1 = a1; a2 = a2; moved = 0; clock = 0 }
@@ -36,6 +40,7 @@ here = record {
   has_child = false;
   is_pid = λ number. false;
   is_program = λ name. false;
+  file = λ name. None;
   free = 3;
 }
 
@@ -128,6 +133,10 @@ one_byte : reason_words (NotReadable 8 1) ≡ codes "it may not read the byte at
 unfolding digits
 one_byte = refl
 
+header_words : reason_words (BadHeader 12) ≡ codes "program header 12 of its file can't be loaded"
+unfolding digits
+header_words = refl
+
 mode_words : reason_words (NotInMode (negsuc 0)) ≡ codes "it can't be opened in mode -1"
 unfolding digits
 mode_words = refl
@@ -144,6 +153,7 @@ texts = record here {
   reads = λ address count. nat_le 4096 address && nat_le (address + count) 4128;
   byte = λ address. slice_index memory (address - 4096);
   is_program = λ name. bytes_eq name (codes "cat");
+  file = λ name. cond (bytes_eq name (codes "cat")) (Some []) None;
 }
 
 path_read : text_at texts 6 4096 ≡ Some (codes "//cat")
@@ -165,24 +175,24 @@ unfolding text_at
 path_cut = refl
 
 list_read : has_texts texts 1 6 4112 ≡ true
-unfolding has_texts text_at
+unfolding texts_at text_at
 list_read = refl
 
 -- a pointer 0 alone is an empty list
 list_empty : has_texts texts 0 6 4120 ≡ true
-unfolding has_texts
+unfolding texts_at
 list_empty = refl
 
 one_too_many : has_texts texts 0 6 4112 ≡ false
-unfolding has_texts
+unfolding texts_at
 one_too_many = refl
 
 text_too_long : has_texts texts 1 5 4112 ≡ false
-unfolding has_texts text_at
+unfolding texts_at text_at
 text_too_long = refl
 
 pointer_cut : has_texts texts 31 4096 4121 ≡ false
-unfolding has_texts
+unfolding texts_at
 pointer_cut = refl
 
 -- ---- exec and open
@@ -196,17 +206,74 @@ exec_no_path = refl
 
 -- the list is tested before the name
 exec_no_list : told_of_texts 7 4102 8 ≡ Some (NoList 8)
-unfolding reason_told row_of tests text_at has_texts
+unfolding reason_told row_of tests text_at texts_at
 exec_no_list = refl
 
 -- the console is no program
 exec_console : told_of_texts 7 4102 4112 ≡ Some NoProgram
-unfolding reason_told row_of tests text_at has_texts no_slashes
+unfolding reason_told row_of tests text_at texts_at no_slashes
 exec_console = refl
 
-exec_unloaded : told_of_texts 7 4096 4112 ≡ Some (NotLoaded 3)
-unfolding reason_told row_of tests text_at has_texts no_slashes
-exec_unloaded = refl
+-- exec of cat with its path as its one word, if these bytes are cat's file
+abbrev told_of_file : (file : List ℕ) → Option Reason
+told_of_file file = reason_told (call 7 4096 4112 0) (record texts { file = λ name. cond (bytes_eq name (codes "cat")) (Some file) None }) (negsuc 0)
+
+-- a file header of 64 bytes, with so many program headers right behind it
+abbrev elf : (count : ℕ) → List ℕ
+elf count = 0x7F ∷ 0x45 ∷ 0x4C ∷ 0x46 ∷ replicate 28 0 ++ 64 ∷ replicate 23 0 ++ count ∷ replicate 7 0
+
+-- a program header that isn't to be loaded, and one that has a byte in the file and none in memory
+abbrev note : List ℕ
+note = replicate 56 0
+
+abbrev bad_load : List ℕ
+bad_load = 1 ∷ replicate 31 0 ++ 1 ∷ replicate 23 0
+
+exec_zeros : told_of_file (replicate 64 0) ≡ Some NotElf
+unfolding reason_told row_of tests text_at texts_at no_slashes load_error is_elf file_header
+exec_zeros = refl
+
+-- 63 bytes are too few for a file header
+exec_cut : told_of_file (take 63 (elf 0)) ≡ Some NotElf
+unfolding reason_told row_of tests text_at texts_at no_slashes load_error is_elf file_header
+exec_cut = refl
+
+-- program headers are counted from 0
+exec_second_header : told_of_file (elf 2 ++ note ++ bad_load) ≡ Some (BadHeader 1)
+unfolding reason_told row_of tests text_at texts_at no_slashes load_error is_elf file_header program_header is_bad is_refused_after least_below
+exec_second_header = refl
+
+-- the least one that can't be loaded is told
+exec_two_headers : told_of_file (elf 2 ++ bad_load ++ bad_load) ≡ Some (BadHeader 0)
+unfolding reason_told row_of tests text_at texts_at no_slashes load_error is_elf file_header program_header is_bad is_refused_after least_below
+exec_two_headers = refl
+
+-- a program header that isn't wholly in the file
+exec_no_header : told_of_file (elf 1 ++ replicate 55 0) ≡ Some (BadHeader 0)
+unfolding reason_told row_of tests text_at texts_at no_slashes load_error is_elf file_header program_header is_bad is_refused_after least_below
+exec_no_header = refl
+
+-- it can be loaded
+exec_short : told_of_file (elf 1 ++ note) ≡ Some (NoFrames 3)
+unfolding reason_told row_of tests text_at texts_at no_slashes load_error is_elf file_header program_header is_bad is_refused_after least_below
+exec_short = refl
+
+-- a word, its zero byte, its address and a pointer 0 have 4,096 bytes
+word_fits : load_error (Some (elf 0)) (Some (replicate 4079 97 ∷ [])) ≡ None
+unfolding load_error is_elf file_header least_below
+word_fits = refl
+
+word_too_long : load_error (Some (elf 0)) (Some (replicate 4080 97 ∷ [])) ≡ Some ArgsTooLong
+unfolding load_error is_elf file_header least_below
+word_too_long = refl
+
+-- the file is tested before the words
+header_first : load_error (Some (elf 1)) (Some (replicate 4080 97 ∷ [])) ≡ Some (BadSegment 0)
+unfolding load_error is_elf file_header program_header is_bad is_refused_after least_below
+header_first = refl
+
+too_long_told : first (of_loading (call 7 4096 4112 0) here true (Some ArgsTooLong)) ≡ Some LongWords
+too_long_told = refl
 
 open_no_path : told_of_texts 15 8 9 ≡ Some (NoPath 8)
 unfolding reason_told row_of tests text_at

@@ -10,6 +10,7 @@ use Rattle.xk_base.specs.Words.{count_below}
 use Rattle.kernel_spec.specs.rows.Buffers.{reaches_touching}
 use Rattle.kernel_spec.specs.rows.Calls.{has_child}
 use Rattle.kernel_spec.specs.views.Programs.{program_named}
+use Rattle.kernel_spec.specs.views.State.{ProgramFile}
 use Rattle.kernel_spec.specs.views.View.{View, Descriptor, Shown, Shown_file, Shown_pipe, in_use}
 use Rattle.call_reasons.specs.declared.opened.Opened.{Opened}
 
@@ -31,6 +32,8 @@ pub record Facts : Type 0 where
   pub is_pid : ℤ → Bool
   -- a program has this name
   pub is_program : (name : List ℕ) → Bool
+  -- the bytes of that program's file
+  pub file : (name : List ℕ) → Option (List ℕ)
   -- how many frames are free
   pub free : ℕ
 
@@ -56,6 +59,10 @@ abbrev pub names_process : View → ℤ → Bool
 names_process v (pos n) = not (n == 0) && list_any (λ p. n == p) v.pids
 names_process v (negsuc k) = false
 
+-- the bytes of the file of the program that has a name
+abbrev pub file_named : (name : List ℕ) → List ProgramFile → Option (List ℕ)
+file_named name programs = option_map (λ (p : ProgramFile). p.bytes) (program_named name programs)
+
 abbrev pub facts_of : View → Facts
 facts_of v = record {
   opened = λ number. option_map opened_of (in_use v number);
@@ -67,5 +74,6 @@ facts_of v = record {
   has_child = has_child v;
   is_pid = λ number. names_process v number;
   is_program = λ name. is_some (program_named name v.programs);
+  file = λ name. file_named name v.programs;
   free = v.free;
 }

@@ -1,18 +1,25 @@
 -- What holds of the reasons.
-use Rattle.std.specs.Prelude.{◌≡◌, ◌≢◌, ◌≤◌, ℕ, ℤ, true, false, Option, None, Some, IsSome}
+use Rattle.std.specs.Prelude.{◌≡◌, ◌≢◌, ◌≤◌, ℕ, ℤ, true, false, List, Option, None, Some, Err, IsSome}
 use Rattle.xk_base.specs.declared.access.Access.{Access}
-use Rattle.xk_base.specs.declared.limits.TheConstants.{ADDRESS_END}
+use Rattle.xk_base.specs.declared.errors.ExecError.{ExecError}
+use Rattle.xk_base.specs.declared.errors.ExecError.TheVariants as errors
+use Rattle.xk_base.specs.declared.limits.TheConstants.{ADDRESS_END, ARG_BYTES, MAXARG, MAXPATH}
+use Rattle.xk_base.specs.Loaded.{loaded}
 use Rattle.proc_table.specs.declared.process.Call.{Call}
-use Rattle.kernel_spec.specs.rows.Buffers.{may_touching}
-use Rattle.kernel_spec.specs.rows.Calls.{answered, perform, refused}
+use Rattle.kernel_spec.specs.rows.Buffers.{may_touching, no_slashes, text_at, texts_at}
+use Rattle.kernel_spec.specs.rows.Calls.{Exec, answered, perform, refused, row_of}
 use Rattle.kernel_spec.specs.runs.Run.{World, Event, Outcome, Happens}
 use Rattle.kernel_spec.specs.steps.Own.{Called}
 use Rattle.kernel_spec.specs.steps.Step.{begun, call_in}
+use Rattle.kernel_spec.specs.views.Programs.{program_named}
+use Rattle.kernel_spec.specs.views.State.{ProgramFile}
 use Rattle.kernel_spec.specs.views.View.{View, view}
 use Rattle.kernel_spec.specs.views.Words.{minus_one}
 use Rattle.call_reasons.specs.Facts.{Facts, facts_of}
 use Rattle.call_reasons.specs.Last.{is_refusal, reason_asked}
 use Rattle.call_reasons.specs.Reasons.{reason_of, reason_told}
+use Rattle.call_reasons.specs.declared.reason.Reason.{Reason}
+use Rattle.call_reasons.specs.declared.reason.Reason.TheVariants.{NotElf, BadHeader, LongWords}
 
 -- the call is done in this view, and has this answer
 abbrev pub Answers : Call → View → ℤ → Type 0
@@ -41,6 +48,29 @@ OthersHaveNone = (c : Call) (f : Facts) (value : ℤ) → value ≢ minus_one �
 -- After a call that was refused the same is told as before it
 abbrev pub ToldAfterwards : Type 0
 ToldAfterwards = (c : Call) (v : View) (value : ℤ) → reason_told c (facts_of (answered minus_one v)) value ≡ reason_told c (facts_of v) value
+
+-- ---- of exec
+
+-- the program and the texts that exec asks for, which can't be loaded for this error
+pub record FailsToLoad (c : Call) (v : View) (error : ExecError) : Type 0 where
+  pub path : List ℕ
+  pub texts : List (List ℕ)
+  pub program : ProgramFile
+  pub path_is : text_at MAXPATH v.image c.a0 ≡ Some path
+  pub texts_is : texts_at MAXARG ARG_BYTES v.image c.a1 ≡ Some texts
+  pub program_is : program_named (no_slashes path) v.programs ≡ Some program
+  pub fails : loaded program.bytes texts ≡ Err error
+
+-- the error of loading that a reason tells, if it tells one
+abbrev pub error_told : Reason → Option ExecError
+error_told NotElf = Some errors.NotElf
+error_told (BadHeader number) = Some (errors.BadSegment number)
+error_told LongWords = Some errors.ArgsTooLong
+error_told _ = None
+
+-- If the reason of an exec tells an error, the program and the texts can't be loaded for that error
+abbrev pub ErrorsAreCauses : Type 0
+ErrorsAreCauses = (c : Call) (v : View) (reason : Reason) (error : ExecError) → row_of c.number ≡ Some Exec → reason_of c v ≡ Some reason → error_told reason ≡ Some error → FailsToLoad c v error
 
 -- ---- of a run
 

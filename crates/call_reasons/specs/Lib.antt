@@ -2,6 +2,7 @@ pub mod Asked
 pub mod Facts
 pub mod Last
 pub mod Laws
+pub mod Loading
 pub mod Reasons
 pub mod Shown
 pub mod Texts

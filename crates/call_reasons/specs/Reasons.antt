@@ -8,6 +8,7 @@ use Rattle.std.specs.Ordering.{int_eq}
 use Rattle.xk_base.specs.declared.limits.TheConstants.{ARG_BYTES, MAXARG, MAXPATH, NPROC, PID_MAX, SIZE_LIMIT}
 use Rattle.xk_base.specs.Image.{Image, price}
 use Rattle.xk_base.specs.Loaded.{Loaded, loaded}
+use Rattle.xk_base.specs.declared.errors.ExecError.{ExecError}
 use Rattle.addr_space.specs.Absent.{pages_at}
 use Rattle.proc_table.specs.declared.process.Call.{Call}
 use Rattle.kernel_spec.specs.rows.Buffers as buffers
@@ -20,11 +21,12 @@ use Rattle.kernel_spec.specs.views.State.{ProgramFile}
 use Rattle.kernel_spec.specs.views.View.{View}
 use Rattle.kernel_spec.specs.views.Words.{c_int, minus_one}
 use Rattle.call_reasons.specs.Facts.{Facts, facts_of}
-use Rattle.call_reasons.specs.Texts.{has_texts, is_console, is_named, name_in, text_at}
+use Rattle.call_reasons.specs.Loading.{bad_header, is_bad_header, is_not_elf, is_too_long, load_error}
+use Rattle.call_reasons.specs.Texts.{has_texts, is_console, is_named, name_in, text_at, texts_at}
 use Rattle.call_reasons.specs.declared.opened.Opened.{Opened}
 use Rattle.call_reasons.specs.declared.reason.Reason.{Reason}
 use Rattle.call_reasons.specs.declared.reason.Reason.TheVariants.{NoCall, NotOpen, NotForReading, NotForWriting, BelowZero, NotReadable, NotWritable, NoReader, NoChild, NoProcess, NoDescriptor}
-use Rattle.call_reasons.specs.declared.reason.Reason.TheVariants.{BadSize, NoFrames, NoRoom, NoPath, NoList, NotNamed, NoProgram, NotInMode, NotLoaded}
+use Rattle.call_reasons.specs.declared.reason.Reason.TheVariants.{BadSize, NoFrames, NoRoom, NoPath, NoList, NotNamed, NoProgram, NotInMode, NotElf, BadHeader, LongWords}
 
 -- ---- lists of tests
 
@@ -114,14 +116,22 @@ module _ (c : Call) (f : Facts) (short : Bool) where
   abbrev pub of_kill : List (Reason × Bool)
   of_kill = (NoProcess (c_int c.a0), not (f.is_pid (c_int c.a0))) ∷ []
 
+  -- a program that is loaded with this error, if it is one ("Code: exec")
+  abbrev pub of_loading : Option ExecError → List (Reason × Bool)
+  of_loading error =
+      (NotElf, is_not_elf error)
+      ∷ (BadHeader (bad_header error), is_bad_header error)
+      ∷ (LongWords, is_too_long error)
+      ∷ (NoFrames f.free, short)
+      ∷ []
+
   -- exec(path, argv) ("Code: exec")
   abbrev pub of_exec : List (Reason × Bool)
   of_exec =
       (NoPath c.a0, is_none (text_at f MAXPATH c.a0))
       ∷ (NoList c.a1, not (has_texts f MAXARG ARG_BYTES c.a1))
       ∷ (NoProgram, not (f.is_program (name_in (text_at f MAXPATH c.a0))))
-      ∷ (NotLoaded f.free, short)
-      ∷ []
+      ∷ of_loading (load_error (f.file (name_in (text_at f MAXPATH c.a0))) (texts_at f MAXARG ARG_BYTES c.a1))
 
   -- dup(fd) ("I/O and File descriptors")
   abbrev pub of_dup : List (Reason × Bool)

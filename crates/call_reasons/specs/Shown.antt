@@ -24,7 +24,7 @@ use Rattle.kcall_core.specs.Observers.{byte_at, child_at, descriptor_of, size_of
 use Rattle.kcall_core.specs.ObservedPipes.{pipe_counts_of}
 use Rattle.kcall_core.specs.declared.kernel.observers.Descriptor.{Descriptor}
 use Rattle.kcall_core.specs.declared.memories.piping.PipeCounts.{PipeCounts}
-use Rattle.call_reasons.specs.Facts.{Facts, can_reach, facts_of}
+use Rattle.call_reasons.specs.Facts.{Facts, can_reach, facts_of, file_named}
 use Rattle.call_reasons.specs.Reasons.{reason_told}
 use Rattle.call_reasons.specs.declared.opened.Opened.{Opened}
 use Rattle.call_reasons.specs.declared.reason.Reason.{Reason}
@@ -102,6 +102,7 @@ facts_in s p = record {
   has_child = has_child_in s p;
   is_pid = λ number. is_pid_in s number;
   is_program = λ name. is_some (program_named name s.programs);
+  file = λ name. file_named name s.programs;
   free = s.free;
 }
 

@@ -1,5 +1,5 @@
 -- The texts that a call names, by facts of its caller (the xv6 book, "Code: System call arguments" and "Code: exec").
-use Rattle.std.specs.Prelude.{ℕ, zero, suc, ◌+◌, ◌==◌, ◌&&◌, ◌||◌, Bool, false, if◌then◌else◌, List, [], map, Option, None, Some, is_some, bytes_eq}
+use Rattle.std.specs.Prelude.{ℕ, zero, suc, ◌+◌, ◌==◌, ◌||◌, Bool, if◌then◌else◌, List, [], ◌∷◌, map, Option, None, Some, is_some, option_map, bytes_eq}
 use Rattle.std.specs.List.{range_with_len}
 use Rattle.xk_base.specs.Words.{le}
 use Rattle.kernel_spec.specs.rows.Buffers.{no_slashes, text_from}
@@ -11,10 +11,15 @@ abbrev pub text_with : Option ℕ → Option (List ℕ) → Option (List ℕ)
 text_with None rest = None
 text_with (Some byte) rest = text_from byte rest
 
--- a pointer: it is 0, or its text is there and the rest of its list
-abbrev pub list_with : Option ℕ → (has_text : ℕ → Bool) → (rest : Bool) → Bool
-list_with None has_text rest = false
-list_with (Some pointer) has_text rest = (pointer == 0) || has_text pointer && rest
+-- a text, and the texts after it, if both are there
+abbrev pub text_before : Option (List ℕ) → (rest : Option (List (List ℕ))) → Option (List (List ℕ))
+text_before None rest = None
+text_before (Some text) rest = option_map (λ texts. text ∷ texts) rest
+
+-- a pointer, if it may be read: 0 ends a list, and any other leads to a text, and the list goes on
+abbrev pub list_with : Option ℕ → (text : ℕ → Option (List ℕ)) → (rest : Option (List (List ℕ))) → Option (List (List ℕ))
+list_with None text rest = None
+list_with (Some pointer) text rest = if pointer == 0 then Some [] else text_before (text pointer) rest
 
 module _ (f : Facts) where
   -- the byte at an address, if the process may read it
@@ -30,10 +35,14 @@ module _ (f : Facts) where
   abbrev pub pointer_at : (address : ℕ) → Option ℕ
   pointer_at address = if f.reads address 8 then Some (le (map f.byte (range_with_len address 8))) else None
 
-  -- from an address on stand pointers to texts of at most `limit` bytes, at most `most` of them, and then a pointer 0
-  unfoldable pub has_texts : (most limit address : ℕ) → Bool
-  has_texts zero limit address = list_with (pointer_at address) (λ pointer. false) false
-  has_texts (suc most) limit address = list_with (pointer_at address) (λ pointer. is_some (text_at limit pointer)) (has_texts most limit (address + 8))
+  -- the texts of at most `limit` bytes that the pointers from an address on lead to: at most `most` pointers, and then a pointer 0
+  unfoldable pub texts_at : (most limit address : ℕ) → Option (List (List ℕ))
+  texts_at zero limit address = list_with (pointer_at address) (λ pointer. None) None
+  texts_at (suc most) limit address = list_with (pointer_at address) (λ pointer. text_at limit pointer) (texts_at most limit (address + 8))
+
+  -- such texts are there
+  abbrev pub has_texts : (most limit address : ℕ) → Bool
+  has_texts most limit address = is_some (texts_at most limit address)
 
 -- ---- names
 

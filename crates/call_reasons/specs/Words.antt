@@ -5,7 +5,7 @@ use Rattle.std.specs.Fmt.{signed_decimal}
 use Rattle.debug_words.specs.Texts.{hexadecimal}
 use Rattle.call_reasons.specs.declared.reason.Reason.{Reason}
 use Rattle.call_reasons.specs.declared.reason.Reason.TheVariants.{NoCall, NotOpen, NotForReading, NotForWriting, BelowZero, NotReadable, NotWritable, NoReader, NoChild, NoProcess, NoDescriptor}
-use Rattle.call_reasons.specs.declared.reason.Reason.TheVariants.{BadSize, NoFrames, NoRoom, NoPath, NoList, NotNamed, NoProgram, NotInMode, NotLoaded}
+use Rattle.call_reasons.specs.declared.reason.Reason.TheVariants.{BadSize, NoFrames, NoRoom, NoPath, NoList, NotNamed, NoProgram, NotInMode, NotElf, BadHeader, LongWords}
 
 -- so many bytes from an address on
 abbrev pub bytes_words : (address count : ℕ) → List ℕ
@@ -32,4 +32,6 @@ reason_words (NoList address) = codes "no list of at most 31 words can be read a
 reason_words NotNamed = codes "nothing has this name"
 reason_words NoProgram = codes "no program has this name"
 reason_words (NotInMode mode) = codes "it can't be opened in mode " ++ signed_decimal mode
-reason_words (NotLoaded free) = codes "its file can't be loaded, its words don't fit on the stack page, or too few frames are free: " ++ decimal free
+reason_words NotElf = codes "its file isn't an ELF program"
+reason_words (BadHeader number) = codes "program header " ++ decimal number ++ codes " of its file can't be loaded"
+reason_words LongWords = codes "its words don't fit on the stack page"

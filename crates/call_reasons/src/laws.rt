@@ -1,5 +1,5 @@
 //! What holds of reasons.
-ghost use Rattle.call_reasons.specs.Laws.{OthersHaveNone, ReasonsRefuse, RefusalsHaveReasons, RefusedStepsHaveReasons, ToldAfterwards, ToldIsReason};
+ghost use Rattle.call_reasons.specs.Laws.{ErrorsAreCauses, OthersHaveNone, ReasonsRefuse, RefusalsHaveReasons, RefusedStepsHaveReasons, ToldAfterwards, ToldIsReason};
 
 /// Calls have reasons exactly if they are refused.
 pub fn refusals_have_reasons()
@@ -20,6 +20,12 @@ pub fn answers_tell_reasons()
 
     // The view after a refused call tells the same as the one before it.
     ensures told_afterwards { ToldAfterwards }
+{}
+
+/// What is told of a program that can't be loaded is so.
+pub fn errors_are_causes()
+    // If the reason of an exec is its file or its words, they can't be loaded for that.
+    ensures { ErrorsAreCauses }
 {}
 
 /// A machine shows why the next step's call is refused.

@@ -8,6 +8,7 @@
 mod asked;
 mod last;
 pub mod laws;
+mod loading;
 mod opened;
 mod reason;
 mod shown;

@@ -46,8 +46,12 @@ pub enum Reason {
     NoProgram,
     /// What has the name may not be opened in this mode.
     NotInMode { mode: i32 },
-    /// The program's file can't be loaded, the words don't fit on its stack page, or too few frames of RAM are free.
-    NotLoaded { free: u32 },
+    /// The program's file has fewer than 64 bytes, or doesn't begin with 7F 45 4C 46.
+    NotElf,
+    /// The program header of this number can't be loaded. Those before it can be.
+    BadHeader { number: u16 },
+    /// The words, their addresses and a pointer 0 don't fit on the stack page.
+    LongWords,
 }
 
 // So many bytes from an address on.
@@ -116,12 +120,11 @@ impl fmt::Display for Reason {
             Reason::NotNamed => f.write_str("nothing has this name"),
             Reason::NoProgram => f.write_str("no program has this name"),
             Reason::NotInMode { mode } => write!(f, "it can't be opened in mode {mode}"),
-            Reason::NotLoaded { free } => {
-                write!(
-                    f,
-                    "its file can't be loaded, its words don't fit on the stack page, or too few frames are free: {free}"
-                )
+            Reason::NotElf => f.write_str("its file isn't an ELF program"),
+            Reason::BadHeader { number } => {
+                write!(f, "program header {number} of its file can't be loaded")
             }
+            Reason::LongWords => f.write_str("its words don't fit on the stack page"),
         }
     }
 }

@@ -7,23 +7,26 @@ ghost use Rattle.kernel_spec.specs.views.State.{live};
 ghost use Rattle.kernel_spec.specs.views.Words.{c_int, minus_one, or_zero};
 ghost use Rattle.kcall_core.specs.Observers.{size_of};
 ghost use Rattle.xk_base.specs.declared.access.Access.TheVariants.{Store};
-ghost use Rattle.xk_base.specs.declared.limits.TheConstants.{MAXPATH};
+ghost use Rattle.xk_base.specs.declared.limits.TheConstants.{ARG_BYTES, MAXARG, MAXPATH};
 ghost use Rattle.call_reasons.specs.Asked.{call_asked};
+ghost use Rattle.call_reasons.specs.Facts.{file_named};
+ghost use Rattle.call_reasons.specs.Loading.{load_error};
 ghost use Rattle.call_reasons.specs.Reasons as meant;
 ghost use Rattle.call_reasons.specs.Shown.{facts_in, opened_in, reach_in, reason_in};
-ghost use Rattle.call_reasons.specs.Texts.{is_named, text_at};
+ghost use Rattle.call_reasons.specs.Texts.{has_texts, is_named, text_at, texts_at};
 ghost use Rattle.call_reasons.specs.declared.reason.Reason.TheVariants.{NoFrames};
 
 use crate::asked::{Asked, c_int};
 use crate::last::REFUSED;
+use crate::loading::{error_with, error_with_long};
 use crate::opened::Opened;
 use crate::reason::Reason;
 use crate::shown::{free_descriptors, has_child, is_pid, opened, reaches, size};
-use crate::texts::{has_texts, is_console, is_program, name_in, text_at};
+use crate::texts::{args_at, has_texts, is_console, is_program, name_in, program_named, text_at};
 use arrayvec::ArrayVec;
 use kernel_calls::KernelCall;
 use xk_base::limits::{ARG_BYTES, MAXPATH, SIZE_LIMIT};
-use xk_base::{Access, Pid};
+use xk_base::{Access, ExecError, Pid};
 use xv_machine::{Call, Machine};
 
 // Whether what has a name may be opened in a mode.
@@ -216,6 +219,36 @@ impl<'a> Refused<'a> {
         text_at(self.machine, self.pid, MAXPATH, self.call.a0)
     }
 
+    // Why the program of a name can't be loaded with the texts that the second argument names.
+    fn load_error(&self, name: &[u8]) -> Option<ExecError>
+        requires { has_texts (facts_in self.now.machine.now.world.state self.now.pid) MAXARG ARG_BYTES self.now.call.now.a1 ≡ true }
+        ensures { result
+            ≡ load_error (file_named name.now self.now.machine.now.world.state.programs)
+            (texts_at (facts_in self.now.machine.now.world.state self.now.pid) MAXARG ARG_BYTES self.now.call.now.a1) }
+    {
+        let Some(program) = program_named(self.machine, name) else {
+            return None;
+        };
+        match args_at(self.machine, self.pid, self.call.a1) {
+            Some(args) => error_with(&program.bytes, &args),
+            None => Some(error_with_long(&program.bytes)),
+        }
+    }
+
+    // The reason of a program that can't be loaded, or costs too much.
+    fn of_loading(&self, error: Option<ExecError>) -> Reason
+        ensures { Some result ≡ meant.first (meant.of_loading self.now.call.now (facts_in self.now.machine.now.world.state self.now.pid) true error) }
+    {
+        match error {
+            Some(ExecError::NotElf) => Reason::NotElf,
+            Some(ExecError::BadSegment(number)) => Reason::BadHeader { number },
+            Some(ExecError::ArgsTooLong) => Reason::LongWords,
+            Some(ExecError::TooManyArgs) => self.no_frames(),
+            Some(ExecError::NoFrames) => self.no_frames(),
+            None => self.no_frames(),
+        }
+    }
+
     fn of_exec(&self) -> Reason
         ensures { Some result ≡ meant.first (meant.of_exec self.now.call.now (facts_in self.now.machine.now.world.state self.now.pid) true) }
     {
@@ -229,12 +262,11 @@ impl<'a> Refused<'a> {
                 address: self.call.a1,
             };
         }
-        if !is_program(self.machine, name_in(path.as_slice())) {
+        let name = name_in(path.as_slice());
+        if !is_program(self.machine, name) {
             return Reason::NoProgram;
         }
-        Reason::NotLoaded {
-            free: self.machine.free_frames(),
-        }
+        self.of_loading(self.load_error(name))
     }
 
     fn of_dup(&self) -> Option<Reason>

@@ -1,9 +1,11 @@
 //! The texts of a process's memory that a call names.
-ghost use Rattle.std.specs.Prelude.{◌≡◌, ◌+◌, ◌<◌, ◌≤◌, map, is_some, IfNone, IfSome, Some, None};
+ghost use Rattle.std.specs.Prelude.{◌≡◌, ◌+◌, ◌<◌, ◌≤◌, ℕ, List, length, map, is_some, IfNone, IfSome, Some, None, option_copied, option_map};
 ghost use Rattle.std.specs.List.{range_with_len};
 ghost use Rattle.xk_base.specs.declared.limits.TheConstants.{ADDRESS_END, ARG_BYTES, MAXARG};
 ghost use Rattle.kernel_spec.specs.rows.Buffers.{no_slashes};
+ghost use Rattle.exec_core.specs.ArgTexts.{terminated};
 ghost use Rattle.kernel_spec.specs.views.Programs.{program_named};
+ghost use Rattle.kernel_spec.specs.views.State.{named_file};
 ghost use Rattle.kernel_spec.specs.views.Words.{or_zero};
 ghost use Rattle.kcall_core.specs.Observers as observers;
 ghost use Rattle.call_reasons.specs.Shown.{facts_in};
@@ -12,8 +14,9 @@ ghost use Rattle.call_reasons.specs.Texts as meant;
 use crate::shown::reaches;
 use arrayvec::ArrayVec;
 use byteorder::{ByteOrder, LittleEndian};
+use exec_core::ArgList;
 use xk_base::limits::{ARG_BYTES, MAXARG};
-use xk_base::{Access, Pid};
+use xk_base::{Access, Pid, Program};
 use xv_machine::Machine;
 
 /// Bytes of a pointer.
@@ -124,6 +127,37 @@ pub(crate) fn has_texts(machine: &Machine, pid: Pid, address: u64) -> bool
     is_null_at(machine, pid, last)
 }
 
+/// The argument texts at an address. `None` if no list of texts stands there, or if they are too long together.
+pub(crate) fn args_at(machine: &Machine, pid: Pid, address: u64) -> Option<ArgList>
+    ensures found { IfSome result (λ texts. meant.texts_at (facts_in machine.now.world.state pid) MAXARG ARG_BYTES address ≡ Some texts) }
+    ensures none { IfNone result
+        ((texts : List (List ℕ))
+        → meant.texts_at (facts_in machine.now.world.state pid) MAXARG ARG_BYTES address ≡ Some texts
+        → ARG_BYTES < length (terminated texts)) }
+{
+    let mut texts = ArgList::new();
+    for done in 0..MAXARG {
+        let at = address + 8 * done as u64;
+        let Some(pointer) = pointer_at(machine, pid, at) else {
+            return None;
+        };
+        if pointer == 0 {
+            return Some(texts);
+        }
+        let Some(text) = text_at(machine, pid, ARG_BYTES, pointer) else {
+            return None;
+        };
+        if texts.push(text.as_slice()).is_err() {
+            return None;
+        }
+    }
+    let last = address + 8 * MAXARG as u64;
+    if !is_null_at(machine, pid, last) {
+        return None;
+    }
+    Some(texts)
+}
+
 /// A path without its leading slashes.
 pub(crate) fn name_in(path: &[u8]) -> &[u8]
     ensures { result.now ≡ no_slashes path.now }
@@ -139,6 +173,16 @@ pub(crate) fn is_console(name: &[u8]) -> bool
     ensures { result ≡ meant.is_console name.now }
 {
     name == b"console".as_slice()
+}
+
+/// The program of a machine that has a name.
+pub(crate) fn program_named<'a>(machine: &'a Machine, name: &[u8]) -> Option<&'a Program>
+    ensures { option_map named_file (option_copied result) ≡ program_named name.now machine.now.world.state.programs }
+{
+    machine
+        .programs()
+        .iter()
+        .find(|program| program.name.as_slice() == name)
 }
 
 /// Whether a program of a machine has a name.
