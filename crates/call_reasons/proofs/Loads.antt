@@ -16,9 +16,11 @@ use Rattle.kernel_spec.specs.views.State.{ProgramFile}
 use Rattle.call_reasons.specs.Facts.{file_named}
 use Rattle.call_reasons.specs.Loading.{error_of, load_error}
 
-lowest_below : (texts : List (List ℕ)) (top : ℕ) → lowest top (text_places top texts) ≤ top - length (terminated texts)
-lowest_below [] top = omega arith
-lowest_below (text ∷ later) top = omega (arith, lowest_below later (down top (length text + 1)), length-append (text ++ 0 ∷ []) (terminated later), length-append text (0 ∷ []))
+-- texts that are so long lead so low
+lowest_within : (texts : List (List ℕ)) (top low : ℕ) → top ≤ low + length (terminated texts) → lowest top (text_places top texts) ≤ low
+lowest_within [] top low long = omega (arith, long)
+lowest_within (text ∷ later) top low long =
+    lowest_within later (down top (length text + 1)) low (omega (arith, long, length-append (text ++ 0 ∷ []) (terminated later), length-append text (0 ∷ [])))
 
 -- the program that starts with these texts at a stack pointer, unless that is too low
 abbrev unless_low : Bool → Loaded → Result Loaded ExecError
@@ -29,7 +31,7 @@ module _ (file : List ℕ) (texts : List (List ℕ)) (long : ARG_BYTES < length 
   with_long header segments =
       let s = page_up (end_after 0 segments) in
       let sp = stack_pointer (s + 8192) texts in
-      let low : sp < s + 4096 = omega (arith, long, lowest_below texts (s + 8192)) in
+      let low : sp < s + 4096 = omega (arith, lowest_within texts (s + 8192) (s + 4095) (omega (arith, long))) in
       ap (λ b. unless_low b (record { image = program_image file segments texts; pc = aligned header.entry; sp = sp; argc = length texts })) (lt-ltb sp (s + 4096) low)
 
   -- an error that comes with no texts comes with these as well
@@ -77,7 +79,8 @@ module _ (name : List ℕ) (programs : List ProgramFile) (o : Option (List (List
       told ∙ sym (ap (λ (q : Option ProgramFile). load_error (option_map (λ (p : ProgramFile). p.bytes) q) o) is ∙ ap (load_error (Some program.bytes)) there)
 
   -- the texts are too long
-  pub of_long : (program : ProgramFile) (e : ExecError) → program_named name programs ≡ Some program → is_some o ≡ true → ((texts : List (List ℕ)) → o ≡ Some texts → ARG_BYTES < length (terminated texts))
+  pub of_long : (program : ProgramFile) (e : ExecError) → program_named name programs ≡ Some program → is_some o ≡ true
+      → ((texts : List (List ℕ)) → o ≡ Some texts → ARG_BYTES < length (terminated texts))
       → ((texts : List (List ℕ)) → ARG_BYTES < length (terminated texts) → Some e ≡ error_of (loaded program.bytes texts)) → Some e ≡ load_error (file_named name programs) o
   of_long program e is there long told = by o refl there
     where

@@ -9,6 +9,7 @@ use Rattle.std.proofs.lemmas.List.{length-append}
 use Rattle.std.proofs.lemmas.Option.{none-some, same_Some}
 use Rattle.std.proofs.lemmas.List.FromFn.{take-map-range_with_len}
 use Rattle.byteorder.specs.Endian.{little_number}
+use Rattle.xk_base.proofs.Options.{none_from_is_some}
 use Rattle.xk_base.specs.declared.access.Access.{Access}
 use Rattle.xk_base.specs.declared.errors.ExecError.{ExecError}
 use Rattle.xk_base.specs.declared.limits.TheConstants.{ADDRESS_END, ARG_BYTES}
@@ -119,9 +120,9 @@ one_behind : (before : List (List ℕ)) (text : List ℕ) (rest : Option (List (
 one_behind before text None = refl
 one_behind before text (Some texts) = ap Some (sym (append_assoc before (text ∷ []) texts))
 
-longer : (xs ys : List (List ℕ)) → length (terminated xs) ≤ length (terminated (xs ++ ys))
-longer [] ys = omega arith
-longer (x ∷ xs) ys = omega (arith, longer xs ys, length-append (x ++ 0 ∷ []) (terminated xs), length-append (x ++ 0 ∷ []) (terminated (xs ++ ys)))
+both_terminated : (xs ys : List (List ℕ)) → length (terminated (xs ++ ys)) ≡ length (terminated xs) + length (terminated ys)
+both_terminated [] ys = omega arith
+both_terminated (x ∷ xs) ys = omega (arith, both_terminated xs ys, length-append (x ++ 0 ∷ []) (terminated xs), length-append (x ++ 0 ∷ []) (terminated (xs ++ ys)))
 
 -- what a list that took a text, or didn't, was told
 pub taken_if : {A : Type 0} (r : Result (Unit {0}) ExecError) → is_err r ≡ false → OnOk r A → A
@@ -131,10 +132,6 @@ taken_if (Err e) is a = let no : ⊥ = cc in absurd no
 pub refused_if : (r : Result (Unit {0}) ExecError) → is_err r ≡ true → (e : ExecError) × (r ≡ Err e)
 refused_if (Ok done) is = let no : ⊥ = cc in absurd no
 refused_if (Err e) is = (e, refl)
-
-is_missing : {A : Type 0} (o : Option A) → is_some o ≡ false → o ≡ None
-is_missing None none = refl
-is_missing (Some a) none = let no : ⊥ = cc in absurd no
 
 -- an empty list, if it is so
 abbrev empty_if : Bool → Option (List (List ℕ))
@@ -252,7 +249,7 @@ module _ (f : Facts) (most limit a : ℕ) where
           where
             by : (o : Option (List (List ℕ))) → behind (before ++ text ∷ []) o ≡ Some texts → ARG_BYTES < length (terminated texts)
             by None e = absurd (none-some texts e)
-            by (Some rest) e = omega (arith, long, longer (before ++ text ∷ []) rest, ap (λ xs. length (terminated xs)) (same_Some _ _ e))
+            by (Some rest) e = omega (arith, long, both_terminated (before ++ text ∷ []) rest, ap (λ xs. length (terminated xs)) (same_Some _ _ e))
 
   module _ (done : ℕ) (is : done ≡ most) where
     last_left : left done ≡ texts_at f 0 limit (a + 8 * most)
@@ -267,7 +264,7 @@ module _ (f : Facts) (most limit a : ℕ) where
     last_gathered before gathers there = gathers.0 ∙ ap (behind before) (last_left ∙ only_empty f limit (a + 8 * most) there) ∙ ap Some (append-nil before)
 
     pub last_missing : (before : List (List ℕ)) → Gathers done before → has_texts f 0 limit (a + 8 * most) ≡ false → texts_at f most limit a ≡ None
-    last_missing before gathers none = gathers.0 ∙ ap (behind before) (last_left ∙ is_missing (texts_at f 0 limit (a + 8 * most)) none)
+    last_missing before gathers none = gathers.0 ∙ ap (behind before) (last_left ∙ none_from_is_some (texts_at f 0 limit (a + 8 * most)) none)
 
 -- a pointer 0, after as many texts as may be
 module _ (f : Facts) (limit a : ℕ) where

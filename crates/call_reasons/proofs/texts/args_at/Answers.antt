@@ -57,7 +57,8 @@ pub returns-then-not-is_null_at-clause-none : goal.returns-then-not-is_null_at-c
 returns-then-not-is_null_at-clause-none c texts is =
     let f = facts_in c.args.machine.now.world.state c.args.pid in
     let same : c.loop-done.done ≡ MAXARG = omega (arith, c.loop-done-test.false, c.loop-done.auto.done-end) in
-    absurd (none-some texts (sym (last_missing f MAXARG ARG_BYTES c.args.address c.loop-done.done same c.loop-done.texts c.loop-done.invariant.0 (sym c.is_null_at.ensures ∙ c.if-not-is_null_at.true)) ∙ is))
+    let no = sym c.is_null_at.ensures ∙ c.if-not-is_null_at.true in
+    absurd (none-some texts (sym (last_missing f MAXARG ARG_BYTES c.args.address c.loop-done.done same c.loop-done.texts c.loop-done.invariant.0 no) ∙ is))
 
 pub returns-clause-found : goal.returns-clause-found
 returns-clause-found c =
