@@ -4,8 +4,8 @@
 //! that is asked for. [`recorded_programs`] are the programs that were recorded, of those that are given, and
 //! [`recorded_files`] has what is known of their sources too. [`play_record`] lets a player play the record: its machine
 //! gets just the record's events, in order, and the sink just what they show. [`recording_of`] has the events each by its
-//! place. What the exit status of such a run says
-//! stands in `specs/Replays.antt`, and what it says of what was asked for in `specs/Statuses.antt`.
+//! place. What the exit status of such a run says stands in `specs/Replays.antt`, and what it says of what was asked for in
+//! `specs/Statuses.antt`.
 #![tactic(auto)]
 
 mod counting;

@@ -15,6 +15,7 @@ pub mod Reached
 pub mod Results
 pub mod Searched
 pub mod Stretched
+pub mod ToTicks
 pub mod ToldOutput
 pub mod ToldPipes
 pub mod ToldProcesses

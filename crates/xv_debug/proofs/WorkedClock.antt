@@ -3,7 +3,7 @@ use Rattle.std.proofs.Common.{◌≡◌, ◌∙◌, ℕ, ℤ, true, false, List,
 use Rattle.kernel_spec.specs.runs.Run as runs
 use Rattle.kernel_spec.specs.runs.Run.{Event, Run, Tick, Send, Key, World}
 use Rattle.xv_report.specs.declared.waits.Wait.TheVariants.{Until, Child}
-use Rattle.xv_debug.specs.motion.Clock.{HasAhead, IsAhead, IsByClock, IsNext, NoneAhead, begun, round_of}
+use Rattle.xv_debug.specs.motion.Clock.{HasAhead, IsAhead, IsByClock, IsNext, NoneAhead, begun, events_to_tick, round_of}
 use Rattle.xv_debug.specs.motion.Plan.{Planned, key_due, later_keys}
 use Rattle.xv_debug.specs.motion.Reaching.{is_turn_of}
 use Rattle.xv_debug.specs.motion.Resting.{RestsBy, RestsQuiet, SomebodyMayGoOn, is_clock}
@@ -26,6 +26,25 @@ more_than_all = refl
 -- a key takes no Run, and is the round's to its end
 keyed_round : round_of 3 (Run ∷ Key 97 ∷ Run ∷ Send ∷ []) ≡ record { left = 1; keyed = true }
 keyed_round = refl
+
+-- ---- up to a tick
+
+abbrev two_ticks : List Event
+two_ticks = Run ∷ Tick ∷ Key 97 ∷ Tick ∷ Run ∷ []
+
+-- the Tick is one of them, and what comes after it is not
+to_the_first : events_to_tick 1 two_ticks ≡ 2
+to_the_first = refl
+
+to_the_second : events_to_tick 2 two_ticks ≡ 4
+to_the_second = refl
+
+-- there is no third one: all
+to_the_third : events_to_tick 3 two_ticks ≡ 5
+to_the_third = refl
+
+to_none : events_to_tick 0 two_ticks ≡ 0
+to_none = refl
 
 -- ---- which key is due
 

@@ -22,7 +22,7 @@ use Rattle.xv_debug.specs.motion.Plan.{Planned}
 use Rattle.xv_debug.specs.motion.Reaching.{Test, met_from}
 use Rattle.xv_debug.specs.declared.motion.journey.Stop.{Stop}
 use Rattle.xv_debug.specs.declared.motion.output.Output.{Output}
-use Rattle.xv_debug.specs.Effects.{ByRecord, IsAimOf, Plays, SearchesWithin, SendsFirst, Steps, events_ahead}
+use Rattle.xv_debug.specs.Effects.{ByRecord, IsAimOf, Plays, SearchesWithin, SendsFirst, Steps, events_ahead, events_to_ticks}
 use Rattle.xv_debug.specs.LookText.{Shows}
 use Rattle.xv_debug.specs.OutputText.{output_text}
 use Rattle.xv_debug.specs.ReasonText.{IsReasonText}
@@ -82,7 +82,7 @@ StepsOnTell may_end plan word count old new before after =
 
 abbrev pub PlaysOnTell : (may_end : Bool) → (plan : Planned) → Word → (rounds : ℕ) → (old new : Recorded) → (before after : List ℕ) → Type 0
 PlaysOnTell may_end plan word rounds old new before after =
-    ByRecord plan old ((most : ℕ) × (most ≤ events_ahead plan old) × GoesOnTells may_end plan word most old new before after) (RoundsTell may_end plan word rounds old new before after)
+    ByRecord plan old (GoesOnTells may_end plan word (min (events_to_ticks plan rounds old) EVENTS_MOST) old new before after) (RoundsTell may_end plan word rounds old new before after)
 
 -- ---- the word that goes back
 

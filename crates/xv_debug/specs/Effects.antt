@@ -1,5 +1,5 @@
 -- What the words do to a session: words that look leave it as it was; the others send events, or go back.
-use Rattle.std.specs.Prelude.{◌≡◌, ◌≢◌, ◌⊎◌, ◌≤◌, ◌<◌, ◌-◌, ℕ, Bool, true, false, List, [], map, take, length, min, replicate, Option, None, Some, IfSome}
+use Rattle.std.specs.Prelude.{◌≡◌, ◌≢◌, ◌⊎◌, ◌≤◌, ◌<◌, ◌-◌, ℕ, Bool, true, false, List, [], map, take, drop, length, min, replicate, Option, None, Some, IfSome}
 use Rattle.kernel_spec.specs.runs.Run as runs
 use Rattle.kernel_spec.specs.runs.Run.{Event, Outcome}
 use Rattle.xv_session.specs.Answers.{WentBack}
@@ -18,7 +18,7 @@ use Rattle.xv_debug.specs.motion.Backwards.{GoesBackUntil}
 use Rattle.xv_debug.specs.motion.Lines.{IsLineOf}
 use Rattle.xv_debug.specs.declared.motion.aiming.Aim.{Aim}
 use Rattle.xv_debug.specs.declared.motion.aiming.Aim.TheVariants.{Nothing, On}
-use Rattle.xv_debug.specs.motion.Clock.{HasAhead, NoneAhead}
+use Rattle.xv_debug.specs.motion.Clock.{HasAhead, NoneAhead, events_to_tick}
 use Rattle.xv_debug.specs.motion.Plan.{Planned}
 use Rattle.xv_debug.specs.motion.Ran.{Ran}
 use Rattle.xv_debug.specs.motion.Reaching.{Reaches, IsRefusal, IsRefusedBy, Test, met_from}
@@ -139,9 +139,13 @@ events_ahead plan s = length plan.recorded - length s.events
 abbrev pub StepsOn : (may_end : Bool) → (plan : Planned) → (count : ℕ) → (old new : Recorded) → Type 0
 StepsOn may_end plan count old new = ByRecord plan old (GoesOn may_end plan (min count (events_ahead plan old)) old new) (Steps may_end count old new)
 
--- On a record some of its events were sent, none behind its end; and else rounds were played
+-- how many events the record has for it up to so many Ticks from there on
+abbrev pub events_to_ticks : Planned → (ticks : ℕ) → Recorded → ℕ
+events_to_ticks plan ticks s = events_to_tick ticks (drop (length s.events) plan.recorded)
+
+-- On a record its events up to so many Ticks were sent, or as many of them as a word may send; and else rounds were played
 abbrev pub PlaysOn : (may_end : Bool) → (plan : Planned) → (rounds : ℕ) → (old new : Recorded) → Type 0
-PlaysOn may_end plan rounds old new = ByRecord plan old ((most : ℕ) × (most ≤ events_ahead plan old) × GoesOn may_end plan most old new) (Plays may_end plan rounds old new)
+PlaysOn may_end plan rounds old new = ByRecord plan old (GoesOn may_end plan (min (events_to_ticks plan rounds old) EVENTS_MOST) old new) (Plays may_end plan rounds old new)
 
 -- It has gone to the place after so many events: back, or on
 pub record GoesTo (may_end : Bool) (plan : Planned) (place : ℕ) (old new : Recorded) : Type 0 where

@@ -1,5 +1,5 @@
 -- Which event comes next on a way: the record's, as long as the run is on it, and then the clock's. A round of the clock has so many Runs, its quantum, and then a Tick comes. It begins with a key, if the plan has one for it.
-use Rattle.std.specs.Prelude.{◌≡◌, ◌≢◌, ◌⊎◌, ℕ, ◌-◌, ◌<◌, ◌≤◌, Bool, true, false, if◌then◌else◌, List, [], ◌∷◌, ◌++◌, replicate}
+use Rattle.std.specs.Prelude.{◌≡◌, ◌≢◌, ◌⊎◌, ℕ, zero, suc, ◌-◌, ◌<◌, ◌≤◌, Bool, true, false, if◌then◌else◌, List, [], ◌∷◌, ◌++◌, replicate}
 use Rattle.kernel_spec.specs.runs.Run.{World, Event, Run, Tick, Key, Send}
 use Rattle.xv_machine.specs.Events.{event_of}
 use Rattle.recordings.specs.Recording.{Begins}
@@ -68,6 +68,12 @@ HasAhead recorded before = (e : Event) × IsAhead recorded before e
 -- It has no event for this place: it is over, or the run has got another event than it
 abbrev pub NoneAhead : (recorded before : List Event) → Type 0
 NoneAhead recorded before = ¬ (HasAhead recorded before)
+
+-- How many events there are up to the Tick of this number, which is one of them; all, if there are fewer Ticks
+abbrev pub events_to_tick : (number : ℕ) → List Event → ℕ
+events_to_tick zero events = 0
+events_to_tick (suc n) [] = 0
+events_to_tick (suc n) (e ∷ es) = suc (events_to_tick (if is_tick e then n else suc n) es)
 
 -- ---- the next event
 

@@ -34,7 +34,7 @@ impl Plan {
     ghost use Rattle.kernel_spec.specs.runs.Rounds.{key_events};
     ghost use Rattle.xv_machine.specs.Events.{event_of};
     ghost use Rattle.recordings.specs.Recording.{Begins, event_among};
-    ghost use Rattle.xv_debug.specs.motion.Clock.{HasAhead, NoneAhead};
+    ghost use Rattle.xv_debug.specs.motion.Clock.{HasAhead, NoneAhead, events_to_tick};
     ghost use Rattle.xv_debug.specs.motion.Plan.{keyless};
 
     /// Rounds of so many Runs, in which no key is typed.
@@ -124,7 +124,7 @@ impl Plan {
 
     /// How many events the record has from a place on, up to so many Ticks, or to its end if it has fewer.
     pub(crate) fn up_to_ticks(&self, place: u64, ticks: u32) -> u64
-        ensures { result ≤ length self.now.recorded - place }
+        ensures { result ≡ events_to_tick ticks (drop place self.now.recorded) }
     {
         let recorded = self.recorded();
         let mut at = place;
