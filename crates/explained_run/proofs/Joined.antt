@@ -28,7 +28,7 @@ use Rattle.xv_session.proofs.RunsMade.{first-no-step, runs-on, steps}
 use Rattle.explained_run.specs.Counts.{done_if, done_in, program_of, row, tallied}
 use Rattle.explained_run.specs.Counts.{counted as count_in, done_by as count_by}
 use Rattle.explained_run.specs.Lines.{told, told_by}
-use Rattle.explained_run.specs.Seen.{Before, before, is_marked, place_of}
+use Rattle.explained_run.specs.Seen.{Before, before, is_marked, name_in, place_of}
 use Rattle.explained_run.specs.Sent.{byte_sent, is_run}
 use Rattle.explained_run.specs.Told.{IsTold, ToldOf}
 use Rattle.explained_run.specs.declared.choice.Choice.{Choice}
@@ -42,7 +42,7 @@ either false text = refl
 silent-by : (choice : Choice) (at : ℕ) (w : World) (names : List Named) (current : Option ℕ) (o : Outcome) (s : State) → ((b : Before) → shows choice b o ≡ false)
     → told_by choice at w names current o s ≡ []
 silent-by choice at w names None o s quiet = refl
-silent-by choice at w names (Some p) o s quiet = rw (quiet (before choice.numbers at w names p)) (either (shows_process choice p) [])
+silent-by choice at w names (Some p) o s quiet = rw (quiet (before choice.numbers at w names p)) (either (shows_process choice p (name_in w names p)) [])
 
 -- ---- events by which nothing is done
 

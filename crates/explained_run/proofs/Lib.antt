@@ -5,3 +5,4 @@ pub mod Texts
 mod WorkedAsked
 mod WorkedCounts
 mod WorkedLines
+mod WorkedPrograms

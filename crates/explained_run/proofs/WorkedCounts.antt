@@ -1,15 +1,16 @@
 -- Worked cases of the table.
-use Rattle.std.specs.Prelude.{◌≡◌, Bool, true, false, pos, negsuc, List, [], ◌∷◌, Option, None, Some, refl}
+use Rattle.std.specs.Prelude.{◌≡◌, Bool, true, false, pos, negsuc, List, [], ◌∷◌, Option, None, Some, Vec, refl}
+use Rattle.std.specs.declared.alloc.Global.{Global}
 use Rattle.kernel_calls.specs.declared.call.KernelCall.{KernelCall}
-use Rattle.kernel_calls.specs.declared.call.KernelCall.TheVariants.{Kill}
+use Rattle.kernel_calls.specs.declared.call.KernelCall.TheVariants.{Fork, Kill}
 use Rattle.kernel_spec.specs.runs.Run.{World, Step_of, Turn, Sent}
 use Rattle.kernel_spec.specs.steps.Own.{Stepped, Called, Exited}
 use Rattle.xv_session.specs.declared.names.Named.{Named}
 use Rattle.explained_run.specs.Counts.{added, counted, done_by, done_if, program_of, row, tallied}
 use Rattle.explained_run.specs.declared.choice.Choice.{Choice}
 
-abbrev chosen : (call : Option KernelCall) → (failed : Bool) → Choice
-chosen call failed = record { lines = false; pid = None; call = call; failed = failed; numbers = false }
+abbrev chosen : (calls : Option (Vec KernelCall Global)) → (failed : Bool) → Choice
+chosen calls failed = record { lines = false; pid = None; program = None; calls = calls; failed = failed; numbers = false }
 
 abbrev all : Choice
 all = chosen None false
@@ -33,24 +34,26 @@ an_instruction = refl
 a_turn : done_by all 3 None false (Turn 3) ≡ row 3 None 0 0 0
 a_turn = refl
 
--- if calls are asked for that have failed, no other counts; if one call is asked for, no other counts
+-- if calls are asked for that have failed, no other counts; if calls are asked for, no other counts
 no_failure : done_by (chosen None true) 3 (Some 1) false (Step_of 3 (Called (pos 5) (pos 8))) ≡ row 3 (Some 1) 0 0 0
 no_failure = refl
 
 a_failure : done_by (chosen None true) 3 (Some 1) false (Step_of 3 (Called (pos 6) (negsuc 0))) ≡ row 3 (Some 1) 1 1 0
 a_failure = refl
 
-another_call : done_by (chosen (Some Kill) false) 3 (Some 1) false (Step_of 3 (Called (pos 5) (negsuc 0))) ≡ row 3 (Some 1) 0 0 0
-another_call = refl
+another_call : (calls : Vec KernelCall Global) → calls.items ≡ Fork ∷ Kill ∷ []
+    → done_by (chosen (Some calls) false) 3 (Some 1) false (Step_of 3 (Called (pos 5) (negsuc 0))) ≡ row 3 (Some 1) 0 0 0
+another_call calls are = rw are refl
 
-the_call : done_by (chosen (Some Kill) false) 3 (Some 1) false (Step_of 3 (Called (pos 6) (negsuc 0))) ≡ row 3 (Some 1) 1 1 0
-the_call = refl
+the_call : (calls : Vec KernelCall Global) → calls.items ≡ Fork ∷ Kill ∷ []
+    → done_by (chosen (Some calls) false) 3 (Some 1) false (Step_of 3 (Called (pos 6) (negsuc 0))) ≡ row 3 (Some 1) 1 1 0
+the_call calls are = rw are refl
 
 -- a process that isn't asked for has no row
-another_process : counted (record { lines = false; pid = Some 2; call = None; failed = false; numbers = false }) [] (row 3 (Some 1) 1 1 0) ≡ []
+another_process : counted (record { lines = false; pid = Some 2; program = None; calls = None; failed = false; numbers = false }) [] (row 3 (Some 1) 1 1 0) ≡ []
 another_process = refl
 
-the_process : counted (record { lines = false; pid = Some 3; call = None; failed = false; numbers = false }) [] (row 3 (Some 1) 1 1 0) ≡ row 3 (Some 1) 1 1 0 ∷ []
+the_process : counted (record { lines = false; pid = Some 3; program = None; calls = None; failed = false; numbers = false }) [] (row 3 (Some 1) 1 1 0) ≡ row 3 (Some 1) 1 1 0 ∷ []
 the_process = refl
 
 -- the first of a process makes a row behind the others; more of it is added there, and its program is the last one

@@ -9,7 +9,7 @@ use Rattle.xv_session.specs.declared.names.Named.{Named}
 use Rattle.call_lines.specs.Line.{answer_shown}
 use Rattle.call_reasons.specs.declared.asked.Asked.{Asked}
 use Rattle.explained_run.specs.Chosen.{shows, shows_process}
-use Rattle.explained_run.specs.Seen.{Before, asked_text, before}
+use Rattle.explained_run.specs.Seen.{Before, asked_text, before, name_in}
 use Rattle.explained_run.specs.declared.choice.Choice.{Choice}
 
 -- what stands before a call that has waited
@@ -61,7 +61,7 @@ told_of choice b s p o = if shows choice b o then line b s p o else []
 
 abbrev pub told_by : Choice → (place : ℕ) → World → List Named → (current : Option ℕ) → Outcome → State → List ℕ
 told_by choice place w names None o s = []
-told_by choice place w names (Some p) o s = if shows_process choice p then told_of choice (before choice.numbers place w names p) s p o else []
+told_by choice place w names (Some p) o s = if shows_process choice p (name_in w names p) then told_of choice (before choice.numbers place w names p) s p o else []
 
 -- what is told of an event that leads from a world, to which so many events led and in which processes run these programs, to a state
 abbrev pub told : Choice → (place : ℕ) → World → List Named → Outcome → State → List ℕ

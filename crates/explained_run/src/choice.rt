@@ -1,5 +1,5 @@
 //! Which lines are asked for.
-ghost use Rattle.std.specs.Prelude.{◌≡◌};
+ghost use Rattle.std.specs.Prelude.{◌≡◌, option_map};
 ghost use Rattle.xv_machine.specs.Events.{outcome_of};
 ghost use Rattle.explained_run.specs.Chosen as meant;
 ghost use Rattle.explained_run.specs.Seen.{seen_of};
@@ -12,14 +12,16 @@ use xk_base::Pid;
 use xv_machine::Outcome;
 
 /// Which lines are asked for.
-#[derive(Clone, Copy)]
+#[derive(Drop)]
 pub struct Choice {
     /// Lines are written at all.
     pub lines: bool,
     /// Those of this process alone.
     pub pid: Option<Pid>,
-    /// Those of this call alone.
-    pub call: Option<KernelCall>,
+    /// Those of processes while they run the program of this name alone.
+    pub program: Option<String>,
+    /// Those of these calls alone.
+    pub calls: Option<Vec<KernelCall>>,
     /// Those of calls that have failed, and of what ends a process.
     pub failed: bool,
     /// Each begins with the number of events before its own.
@@ -39,6 +41,23 @@ impl Asks for Brand {
     ghost asked = { no_line };
 }
 
+// Whether a program has this name; one that isn't known has none.
+fn has_name(asked: &str, name: Option<&[u8]>) -> bool
+    ensures { result ≡ meant.has_name asked.now (option_map (λ name. name.now) name.entry) }
+{
+    match name {
+        Some(name) => name == asked.as_bytes(),
+        None => false,
+    }
+}
+
+// Whether one of these calls has this number.
+fn is_of(calls: &[KernelCall], number: i32) -> bool
+    ensures { result ≡ meant.is_of calls.now number }
+{
+    calls.iter().any(|call| call.number() == number)
+}
+
 impl Choice {
     /// Whether it is a process that is asked for.
     pub(crate) fn is_process(&self, pid: Pid) -> bool
@@ -50,19 +69,29 @@ impl Choice {
         }
     }
 
-    /// Whether lines of a process are asked for.
-    pub(crate) fn shows_process(&self, pid: Pid) -> bool
-        ensures { result ≡ meant.shows_process self.now pid }
+    /// Whether the program of this name is asked for.
+    pub(crate) fn is_program(&self, name: Option<&[u8]>) -> bool
+        ensures { result ≡ meant.is_program self.now.program (option_map (λ name. name.now) name.entry) }
     {
-        self.lines && self.is_process(pid)
+        match &self.program {
+            Some(asked) => has_name(asked.as_str(), name),
+            None => true,
+        }
+    }
+
+    /// Whether lines of a process are asked for while it runs the program of this name.
+    pub(crate) fn shows_process(&self, pid: Pid, program: Option<&[u8]>) -> bool
+        ensures { result ≡ meant.shows_process self.now pid (option_map (λ name. name.now) program.entry) }
+    {
+        self.lines && self.is_process(pid) && self.is_program(program)
     }
 
     // Whether lines of a call are asked for.
     fn shows_call(&self, number: i32) -> bool
         ensures { result ≡ meant.shows_call self.now number }
     {
-        match self.call {
-            Some(call) => call.number() == number,
+        match &self.calls {
+            Some(calls) => is_of(calls.as_slice(), number),
             None => true,
         }
     }
@@ -89,7 +118,7 @@ impl Choice {
     fn shows_ends(&self) -> bool
         ensures { result ≡ meant.shows_ends self.now }
     {
-        self.call.is_none()
+        self.calls.is_none()
     }
 
     /// Whether what came of a step is told.

@@ -23,7 +23,10 @@ const PID: NumberOption = NumberOption {
     most: PID_MAX,
 };
 
-/// The word that names a kernel call.
+/// The word that names a program.
+const PROGRAM: &str = "program";
+
+/// The word that names kernel calls.
 const CALL: &str = "call";
 
 /// The word that asks for calls that failed.
@@ -56,7 +59,8 @@ what was stored. `killed` and `fault` tell that a process is gone without a call
 
 With --count a table tells at the end how many calls each process has done, how many of them
 answered less than 0, and how many instructions it has done. It stands in place of the lines, and of
-processes and calls it counts those that --pid, --call and --failed leave.";
+processes and calls it counts those that --pid, --call and --failed leave, and with --program it has
+the rows of processes that ran this program last.";
 
 const COMMAND_LINE: CommandLine = CommandLine {
     name: NAME,
@@ -70,9 +74,14 @@ const COMMAND_LINE: CommandLine = CommandLine {
         CommandWord::Number(&BUDGET),
         CommandWord::Number(&PID),
         CommandWord::Text {
-            name: CALL,
+            name: PROGRAM,
             value: "NAME",
-            help: "Tell this kernel call alone, as read",
+            help: "Tell only what processes do that run this program",
+        },
+        CommandWord::Text {
+            name: CALL,
+            value: "NAMES",
+            help: "Tell these kernel calls alone, as read,write",
         },
         CommandWord::Flag {
             name: FAILED,
@@ -118,7 +127,8 @@ pub(crate) fn settings<R: Env + AllocGlobal>(rt: &R) -> Result<Settings, WordsEr
     let trace = given.number(&TRACE)?;
     let budget = given.number(&BUDGET)?;
     let pid = given.number(&PID)?;
-    let call = given.text(CALL)?;
+    let program = given.text(PROGRAM)?;
+    let calls = given.text(CALL)?;
     let failed = given.flag(FAILED);
     let numbers = given.flag(NUMBERS);
     let count = given.flag(COUNT);
@@ -131,7 +141,8 @@ pub(crate) fn settings<R: Env + AllocGlobal>(rt: &R) -> Result<Settings, WordsEr
         trace,
         budget,
         pid: chosen_pid(pid),
-        call,
+        program,
+        calls,
         failed,
         numbers,
         count,

@@ -6,6 +6,7 @@
 //! `3 (wc): read(0, "echo hi\n", 64) = 8`. Which lines these are says `specs/Lines.antt`.
 #![tactic(auto)]
 
+mod asking;
 mod choice;
 mod command_line;
 mod counts;

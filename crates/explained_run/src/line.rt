@@ -17,8 +17,10 @@ pub struct Settings {
     pub budget: u32,
     /// The process whose lines alone are asked for, if there is one.
     pub pid: Option<Pid>,
-    /// The name of the call whose lines alone are asked for, if there is one.
-    pub call: Option<String>,
+    /// The name of the program whose lines alone are asked for, if there is one.
+    pub program: Option<String>,
+    /// The names of the calls whose lines alone are asked for, with commas between, if there are any.
+    pub calls: Option<String>,
     /// Whether only calls that have failed are to be told, and faults and kills.
     pub failed: bool,
     /// Whether each line begins with the number of events before its own.

@@ -12,6 +12,7 @@ ghost use Rattle.explained_run.specs.Handed.{Holds};
 ghost use Rattle.explained_run.specs.Handing.{ReplayTold, SaysReplayTold};
 
 use crate::NAME;
+use crate::asking::check_program;
 use crate::choice::{Asks, Choice};
 use crate::explained::Explained;
 use crate::line::Settings;
@@ -149,6 +150,7 @@ fn replay<'a>(
     ensures refused { IfErr result (λ e. failure_status e ≡ 2) }
 {
     let made = given_programs(rt, settings.files.as_slice())?;
+    check_program(rt.alloc(), &choice, made.programs.as_slice())?;
     let record = record_of(rt, NAME, &asked)?;
     let chosen = recorded_programs(rt.alloc(), made.programs.as_slice(), &record)?;
     let mut sink = Counted::new(rt.stdout());

@@ -5,11 +5,12 @@ ghost use Rattle.program_files.specs.Failures.{failure_status};
 ghost use Rattle.program_files.specs.Statuses.{status_of};
 ghost use Rattle.run_work.specs.Runs.{IsRunStatus, IsStatusOfRun};
 ghost use Rattle.xv_machine.specs.Meaning.{Meaning};
-ghost use Rattle.explained_run.specs.Asked.{IsCallAsked, IsChoiceOf, IsNoCall, IsStatusOf, IsStatusOfWords, config_of, plan_of};
+ghost use Rattle.explained_run.specs.Asked.{IsStatusOf, IsStatusOfWords, config_of, plan_of};
 ghost use Rattle.explained_run.specs.Handed.{Holds};
 ghost use Rattle.explained_run.specs.Handing.{RunTold, SaysTold};
 
 use crate::NAME;
+use crate::asking::{check_program, choice_of};
 use crate::choice::{Asks, Choice};
 use crate::command_line::settings;
 use crate::explained::Explained;
@@ -18,8 +19,6 @@ use crate::lines::{Lines, Written};
 use crate::replaying::replay_chosen;
 use crate::table::write_counts;
 use crate::watching::{Stop, Watched};
-use kernel_calls::{CALLS, KernelCall};
-use program_files::exit_statuses::WORDS_REFUSED;
 use program_files::{Failure, close_run, show_trace};
 use recorded_runs::given_programs;
 use run_work::{Work, budget_of, close_over_budget};
@@ -146,49 +145,6 @@ fn run_as<R: KeySource, W: ByteSink, L: Lines + Drop, E: Write + Drop, K: Asks>(
     }
 }
 
-// The call of the name that is given, if one is; if no call has it, the name.
-fn call_of(given: &Option<String>) -> Result<Option<KernelCall>, &str>
-    ensures call { IfOk result (IsCallAsked given.now) }
-    ensures refused { IfErr result (λ name. IsNoCall given.now name.now) }
-{
-    let Some(name) = given else {
-        return Ok(None);
-    };
-    let name = name.as_str();
-    match KernelCall::of_name(name) {
-        Some(call) => Ok(Some(call)),
-        None => Err(name),
-    }
-}
-
-// Which lines the settings ask for; if no call has the name that they have, that name.
-fn choice_of(settings: &Settings) -> Result<Choice, &str>
-    ensures choice { IfOk result (IsChoiceOf settings.now) }
-    ensures refused { IfErr result (λ name. IsNoCall settings.now.call name.now) }
-{
-    let call = call_of(&settings.call)?;
-    Ok(Choice {
-        lines: !settings.count,
-        pid: settings.pid,
-        call,
-        failed: settings.failed,
-        numbers: settings.numbers,
-    })
-}
-
-// Tells that no call has this name, and which names there are, and gives the status.
-fn refuse_call<E: Write>(name: &str, errors: &mut E) -> u8
-    ensures { result ≡ 1 }
-{
-    let _ = write!(errors, "{NAME}: no kernel call is called {name}: there are");
-    for call in CALLS {
-        let name = call.name();
-        let _ = write!(errors, " {name}");
-    }
-    let _ = writeln!(errors);
-    WORDS_REFUSED
-}
-
 // Runs the programs that the settings name, and gives the exit status.
 fn run<'a>(rt: &HostRuntime, settings: &'a Settings, choice: Choice) -> Result<u8, Failure<'a>>
     ensures status { IfOk result (λ status. IsRunStatus status) }
@@ -196,6 +152,7 @@ fn run<'a>(rt: &HostRuntime, settings: &'a Settings, choice: Choice) -> Result<u
     ensures refused { IfErr result (λ e. failure_status e ≡ 2) }
 {
     let made = given_programs(rt, settings.files.as_slice())?;
+    check_program(rt.alloc(), &choice, made.programs.as_slice())?;
     let config = Config {
         frames: settings.frames,
         trace: settings.trace,
@@ -250,9 +207,9 @@ pub fn explain_by_words<W: Env + AllocGlobal>(rt: &HostRuntime, words: &W) -> u8
     ensures asked { IsStatusOfWords result }
 {
     match settings(words) {
-        Ok(settings) => match choice_of(&settings) {
+        Ok(settings) => match choice_of(rt.alloc(), &settings) {
             Ok(choice) => tell_asked(rt, &settings, choice),
-            Err(name) => refuse_call(name, &mut rt.stderr()),
+            Err(refusal) => refusal.close(&mut rt.stderr()),
         },
         Err(error) => error.close(NAME, &mut rt.stdout(), &mut rt.stderr()),
     }

@@ -22,7 +22,20 @@ pub(crate) fn write_counts<E: Write>(explained: &Explained, errors: &mut E) {
     }
 }
 
-// Writes the table, a process in each row. What can't be written is left out.
+// Writes the row of a process that ran the program of this name last. What can't be written is left out.
+fn write_row<E: Write>(count: &Count, name: &[u8], errors: &mut E) {
+    let pid = count.pid.number();
+    let name = Plain(name);
+    let calls = Grouped(count.calls);
+    let failed = Grouped(count.failed);
+    let instructions = Grouped(count.instructions);
+    let _ = writeln!(
+        errors,
+        "{pid:>5}  {name:<14} {calls:>7} {failed:>7} {instructions:>15}"
+    );
+}
+
+// Writes the table, a process in each row, of those that ran the program last that is asked for.
 fn write_table<E: Write>(explained: &Explained, errors: &mut E) {
     let Some(counts) = explained.counts.all() else {
         let _ = writeln!(errors, "there was too little memory to count calls");
@@ -33,14 +46,9 @@ fn write_table<E: Write>(explained: &Explained, errors: &mut E) {
         "  pid  program          calls  failed    instructions"
     );
     for count in counts {
-        let pid = count.pid.number();
-        let name = Plain(name_of(explained, count));
-        let calls = Grouped(count.calls);
-        let failed = Grouped(count.failed);
-        let instructions = Grouped(count.instructions);
-        let _ = writeln!(
-            errors,
-            "{pid:>5}  {name:<14} {calls:>7} {failed:>7} {instructions:>15}"
-        );
+        let name = name_of(explained, count);
+        if explained.choice.is_program(Some(name)) {
+            write_row(count, name, errors);
+        }
     }
 }
