@@ -32,8 +32,8 @@ export class PlacesInC {
 
   /** What `xv_report` is given of the program. */
   known() {
-    const { names, lines } = this.table;
-    return { table: rows_of(lines), symbols: names.length ? elf_of(names) : undefined };
+    const { names, lines, frames } = this.table;
+    return { table: rows_of(lines), symbols: names.length ? elf_of(names, frames) : undefined };
   }
 }
 

@@ -148,7 +148,7 @@ is(machine.memory()[machine.room_at], 0, "its name in a room of 3 bytes");
 // Why a call is refused: of process 1, which has just booted; of any other there is no reason.
 const reason = (number, ...words) => machine.reason_text(1, { number, words });
 for (const [words, told] of [[[21, 7n, 0n, 0n], "descriptor 7 isn't open"], [[15, 0n, 9n, 0n], "nothing has this name"],
-  [[12, BigInt.asUintN(64, -1n << 40n), 0n, 0n], null], [[12, BigInt.asUintN(64, -(1n << 30n)), 0n, 0n], "its memory can't have such a size"],
+  [[12, BigInt.asUintN(64, -(1n << 30n)), 0n, 0n], "its memory can't have such a size"],
   [[6, 99n, 0n, 0n], "no process has the pid 99"], [[-5, 0n, 0n, 0n], "no call has this number"], [[11, 0n, 0n, 0n], null],
 ]) is(reason(...words), told, `the reason of call ${words}`);
 is(machine.reason_text(2, { number: 21, words: [7n, 0n, 0n] }), null, "a reason of no process");

@@ -41,8 +41,8 @@ if (/^12\.2\./.test(spawnSync("riscv64-unknown-elf-gcc", ["-dumpfullversion"]).s
     const name = source.slice(0, -2);
     copyFileSync(`${reports}/${source}`, `${room}/${source}`);
     spawnSync(build, [`${room}/${source}`], { env: { ...process.env, CFLAGS: "-fno-omit-frame-pointer -Wno-infinite-recursion -Wno-unused-variable" } });
-    const { names, lines } = read_table(readFileSync(`${room}/${name}.lines`, "utf8"));
-    compare(name, new Uint8Array(readFileSync(`${room}/${name}`)), { table: rows_of(lines), symbols: elf_of(names) }, `${reports}/${source}.txt`);
+    const { names, lines, frames } = read_table(readFileSync(`${room}/${name}.lines`, "utf8"));
+    compare(name, new Uint8Array(readFileSync(`${room}/${name}`)), { table: rows_of(lines), symbols: elf_of(names, frames) }, `${reports}/${source}.txt`);
   }
   rmSync(room, { recursive: true });
 }

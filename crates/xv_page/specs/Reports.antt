@@ -3,18 +3,20 @@ use Rattle.std.specs.Prelude.{◌≡◌, ◌⊎◌, ℕ, List, [], ◌∷◌, �
 use Rattle.std.specs.Str.{IsUtf8}
 use Rattle.std.specs.declared.boxed.Box.{Box}
 use Rattle.xk_base.specs.declared.access.Cause.{Cause}
-use Rattle.kernel_spec.specs.runs.Run.{World}
-use Rattle.kernel_spec.specs.views.State.{State}
+use Rattle.kcall_core.specs.Observers.{registers_of}
 use Rattle.uasm_core.specs.FileFormat.{file_of}
 use Rattle.uasm_core.specs.LineTable.{LineTable, line_table, table_seen}
 use Rattle.uasm_core.specs.Written.{Fault}
 use Rattle.xv_report.specs.Hints.{hint_of}
-use Rattle.xv_report.specs.Reports.{AreCallersOf}
+use Rattle.xv_report.specs.Locations.{IsSourceOf}
+use Rattle.xv_report.specs.Reports.{AreCallsOf}
+use Rattle.xv_report.specs.Unwound.{frames_known}
 use Rattle.xv_report.specs.declared.fault.FaultReport.{FaultReport}
 use Rattle.xv_report.specs.declared.unwinding.Calls.{Calls}
-use Rattle.xv_report.specs.declared.unwinding.Calls.TheVariants.{Known, FromRa, Guessed}
+use Rattle.xv_report.specs.declared.sources.ProgramSource.{ProgramSource}
 use Rattle.xv_report.specs.declared.sources.Sources.{Sources}
 use Rattle.xv_session.specs.Looking.{next_step_of}
+use Rattle.xv_session.specs.Names.{place_in}
 use Rattle.xv_session.specs.Recorded.{Recorded}
 use Rattle.xv_page.specs.Told.{laid}
 use Rattle.xv_page.specs.declared.answers.Answer.{Answer}
@@ -97,29 +99,30 @@ TellsOf named None answer before after = (answer ≡ NotBooted) × (after ≡ be
 TellsOf None (Some s) answer before after = (answer ≡ Unknown) × (after ≡ before)
 TellsOf (Some named) (Some s) answer before after = TextTold answer before after
 
--- the calls that led process p to where it is are guessed, by frame pointers and ra
-abbrev pub AreGuessed : State → (p : ℕ) → Calls → Type 0
-AreGuessed s p (Guessed callers) = AreCallersOf s p callers
-AreGuessed s p (Known addresses) = ⊥
-AreGuessed s p (FromRa addresses) = ⊥
+-- the calls that led process p to where it is, by what is known of the source of its program
+abbrev pub AreCalls : Option Sources → Recorded → (p : ℕ) → Calls → Type 0
+AreCalls sources s p calls =
+    (source : ProgramSource) × IsSourceOf sources s.machine.world.state.programs (place_in p s.names) source × AreCallsOf (frames_known source.symbols.now) s.machine.world.state p calls
 
 -- the step that process p is about to make, with this cause of its fault, the calls that led to it, and what may be wrong; none if it isn't live
-abbrev pub ReportOf : Cause → World → (p : ℕ) → Option FaultReport → Type 0
-ReportOf cause w p None = next_step_of w.state p ≡ None
-ReportOf cause w p (Some r) = (next_step_of w.state p ≡ Some r.fault.step) × (r.fault.cause ≡ cause) × AreGuessed w.state p r.calls × (r.hint ≡ hint_of w.state r.fault)
+abbrev pub ReportOf : Option Sources → Cause → Recorded → (p : ℕ) → Option FaultReport → Type 0
+ReportOf sources cause s p None = (next_step_of s.machine.world.state p ≡ None) ⊎ (registers_of s.machine.world.state p ≡ None)
+ReportOf sources cause s p (Some r) =
+    (next_step_of s.machine.world.state p ≡ Some r.fault.step) × (r.fault.cause ≡ cause) × AreCalls sources s p r.calls × (r.hint ≡ hint_of s.machine.world.state r.fault)
 
 -- of the process that runs, if one does
-abbrev pub ReportNow : Cause → World → (current : Option ℕ) → Option FaultReport → Type 0
-ReportNow cause w None r = r ≡ None
-ReportNow cause w (Some p) r = ReportOf cause w p r
+abbrev pub ReportNow : Option Sources → Cause → Recorded → (current : Option ℕ) → Option FaultReport → Type 0
+ReportNow sources cause s None r = r ≡ None
+ReportNow sources cause s (Some p) r = ReportOf sources cause s p r
 
 -- a text is told of a report, if there is one
 abbrev pub ReportTold : Option FaultReport → Answer → (before after : ℕ × List ℕ) → Type 0
 ReportTold None answer before after = (answer ≡ Unknown) × (after ≡ before)
 ReportTold (Some r) answer before after = TextTold answer before after
 
--- a text is told of the fault of this cause that the next step comes to; nothing if no fault has it, or nobody runs
-abbrev pub FaultTold : Option Cause → Option Recorded → Answer → (before after : ℕ × List ℕ) → Type 0
-FaultTold cause None answer before after = (answer ≡ NotBooted) × (after ≡ before)
-FaultTold None (Some s) answer before after = (answer ≡ Unknown) × (after ≡ before)
-FaultTold (Some cause) (Some s) answer before after = (r : Option FaultReport) × ReportNow cause s.machine.world s.machine.world.turns.current r × ReportTold r answer before after
+-- a text is told of the fault of this cause that the next step comes to; nothing if no fault has it, nobody runs, or the host has too little memory
+abbrev pub FaultTold : Option Sources → Option Cause → Option Recorded → Answer → (before after : ℕ × List ℕ) → Type 0
+FaultTold sources cause None answer before after = (answer ≡ NotBooted) × (after ≡ before)
+FaultTold sources None (Some s) answer before after = (answer ≡ Unknown) × (after ≡ before)
+FaultTold sources (Some cause) (Some s) answer before after =
+    ((answer ≡ Memory) × (after ≡ before)) ⊎ ((r : Option FaultReport) × ReportNow sources cause s s.machine.world.turns.current r × ReportTold r answer before after)

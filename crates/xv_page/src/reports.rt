@@ -20,7 +20,7 @@ use uasm_core::{AsmError, SourceLines, assemble_with_lines};
 use xk_base::{Cause, Pid};
 use xv_report::text::{FaultText, KillText, Place, RefusedText, WaitLine};
 use xv_report::{
-    Calls, FaultReport, Lines, Sources, call_name, callers_of, hint_of, program_name, source_of,
+    FaultReport, Lines, Sources, call_name, calls_of, hint_of, program_name, source_of,
 };
 use xv_session::{Fault, Session, next_step};
 
@@ -135,7 +135,9 @@ pub fn xv_page_source(
 }
 
 /// What is known of the sources, if something is.
-fn known(sources: &Option<Box<Sources>>) -> Option<&Sources> {
+fn known(sources: &Option<Box<Sources>>) -> Option<&Sources>
+    ensures { option_map (λ s. s.now) result ≡ known sources.now }
+{
     match sources {
         Some(sources) => Some(sources),
         None => None,
@@ -192,21 +194,30 @@ pub fn xv_page_wait(
     laid(wait_text(alloc, session, known(sources), pid), told, room)
 }
 
-/// A fault of the process that runs, the calls that led to it, and what may be wrong; `None` if nobody runs.
-fn report_of(session: &Session, cause: Cause) -> Option<FaultReport>
-    ensures { ReportNow cause session.now.machine.world session.now.machine.world.turns.current result }
+/// A fault of the process that runs, the calls that led to it, by what is known of its program's source, and what may be
+/// wrong; `None` if nobody runs.
+fn report_of(
+    alloc: Global,
+    session: &Session,
+    sources: Option<&Sources>,
+    cause: Cause,
+) -> Result<Option<FaultReport>, AllocError>
+    ensures { IfOk result (ReportNow (option_map (λ s. s.now) sources.entry) cause session.now session.now.machine.world.turns.current) }
 {
     let machine = session.machine();
-    let pid = machine.current()?;
-    let step = next_step(machine, pid)?;
-    let callers = callers_of(machine, pid)?;
+    let Some(pid) = machine.current() else {
+        return Ok(None);
+    };
+    let Some(step) = next_step(machine, pid) else {
+        return Ok(None);
+    };
+    let source = source_of(sources, session, session.program_of(pid));
+    let Some(calls) = calls_of(alloc, machine, pid, &source)? else {
+        return Ok(None);
+    };
     let fault = Fault { step, cause };
     let hint = hint_of(machine, &fault);
-    Some(FaultReport {
-        fault,
-        calls: Calls::Guessed(callers),
-        hint,
-    })
+    Ok(Some(FaultReport { fault, calls, hint }))
 }
 
 /// A fault, as text.
@@ -236,7 +247,7 @@ pub fn xv_page_fault(
     told: &mut u64,
     room: &mut [u8],
 ) -> Answer
-    ensures { FaultTold (cause_named cause) (held session.now) result (told.old, room.old) (told.new, room.new) }
+    ensures { FaultTold (known sources.now) (cause_named cause) (held session.now) result (told.old, room.old) (told.new, room.new) }
 {
     let Some(session) = session else {
         return Answer::NotBooted;
@@ -244,8 +255,10 @@ pub fn xv_page_fault(
     let Some(cause) = cause_named(cause) else {
         return Answer::Unknown;
     };
-    let Some(report) = report_of(session, cause) else {
-        return Answer::Unknown;
+    let report = match report_of(alloc, session, known(sources), cause) {
+        Ok(Some(report)) => report,
+        Ok(None) => return Answer::Unknown,
+        Err(_) => return Answer::Memory,
     };
     laid(
         fault_text(alloc, session, known(sources), &report),
