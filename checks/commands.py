@@ -11,7 +11,8 @@ A command is run if it begins as BEGINS says, if all files that it names are the
 if it needs no terminal, no kit and no package; programs in C are built if the compiler is there. Those of a page are run one
 after another, in a folder of their own in which the repository's files are; pages are run side by side. A source in C without a folder is the one of
 `checks` that has its name, or else the page's first program in C; a file in `mine` is a right answer of the exercise. What is
-shown has to be printed; a command of which nothing is shown mustn't be refused (status 1, 2, or 125 and above).
+shown has to be printed; a command of which nothing is shown mustn't be refused (status 1, 2, or 125 and above). What is done
+by Node alone isn't run without it, nor by modules of an earlier state, and that is said.
 
 It needs Python 3, and the built programs or Node (18.17 or later). `--tell` names the commands that aren't run. PATIENCE is
 how many seconds a command may take: 120 without it. The status is 0 if all is as shown, 2 if no program runs here, else 1.
@@ -29,11 +30,16 @@ import tempfile
 import threading
 
 TOP = pathlib.Path(__file__).resolve().parents[1]
+sys.path.append(str(TOP / "checks/grading"))
+from modules import what_lacks  # (of checks/grading)
+
 PATIENCE = float(os.environ.get("PATIENCE", 120))
 COMPILED = r"(cp \S+ \. && )?(CFLAGS=\S+ )?(\$top/)?programs/c/build\.sh"
 BEGINS = re.compile(rf"((\$top/|\./)xv|node xv\.mjs|bin/xv_\w+|python3 -B checks/|programs/course/grade\.sh|{COMPILED}"
                     r"|mkdir mine && cp|echo .*[|>]|printf .*[|>])(\s|$|\w)")
 BY_HAND = re.compile(r"\.\.(\s|$)|\[-|\b[A-Z]{5,}\b|--(build|unproved|gdb|record|replay)\b|build\.sh --debug")
+BY_NODE = re.compile(r"(^|[|;&]\s*)(node|(\$top/|\./)xv ("
+                     + "|".join(re.findall(r"(?m)^own (--\w+) node$", (TOP / "programs/host/words.txt").read_text())) + r"))\s")
 COMPILES = threading.Lock()
 HAS_COMPILER = shutil.which(os.environ.get("RISCV", "riscv64-unknown-elf-") + "gcc") is not None
 
@@ -48,6 +54,7 @@ class Command:
     program: str = ""
     before: "Command" = None
     is_by_hand: bool = False
+    lacks_node: bool = False
 
     def __str__(self):
         return f"{self.page.relative_to(TOP)}:{self.line}: {self.words}"
@@ -202,7 +209,7 @@ def lay_answer(command, page, folder):
             shutil.copy(answer, folder / it)
 
 
-def looked_at(page):
+def looked_at(page, has_node):
     """The commands of a page, and what is wrong with those that are run."""
     found, wrong = list(commands(page)), []
     with tempfile.TemporaryDirectory() as room:
@@ -212,7 +219,9 @@ def looked_at(page):
         for it in found:
             lay_answer(it, page, folder)
             it.is_by_hand = bool(it.before and it.before.is_by_hand) or it.is_for_hands(folder) or not lay_source(it, page, folder)
-            if it.is_by_hand:
+            before_lacks = it.before is not None and it.before.lacks_node
+            it.lacks_node = not it.is_by_hand and not has_node and bool(before_lacks or BY_NODE.search(it.words))
+            if it.is_by_hand or it.lacks_node:
                 continue
             why = wrong_with(it, room)
             wrong += [(it, why)] if why else []
@@ -226,18 +235,20 @@ def main(words):
         return 2
     named = [it for it in words if it != "--tell"]
     pages = named or run("git ls-files '*.md'", TOP)[0]
-    found, wrong = [], []
+    found, wrong, lack = [], [], what_lacks()
     with concurrent.futures.ThreadPoolExecutor(os.cpu_count()) as pool:
-        for of_page, wrong_ones in pool.map(looked_at, [TOP / it for it in pages]):
+        for of_page, wrong_ones in pool.map(lambda page: looked_at(TOP / page, not lack), pages):
             found, wrong = found + of_page, wrong + wrong_ones
     for it, why in wrong:
         print(f"{it}\n    {why}")
-    by_hand = [it for it in found if it.is_by_hand]
+    by_hand, untried = [it for it in found if it.is_by_hand], [it for it in found if it.lacks_node]
     if "--tell" in words:
         print("\n".join(f"by hand: {it}" for it in by_hand))
-    compared = sum(bool(it.shown) and not it.is_by_hand for it in found)
-    print(f"{len(found)} commands of {len(pages)} pages: {len(found) - len(by_hand)} run, "
-          f"{compared} compared with what is shown, {len(wrong)} not so; {len(by_hand)} by hand")
+    done = [it for it in found if not it.is_by_hand and not it.lacks_node]
+    print(f"{len(found)} commands of {len(pages)} pages: {len(done)} run, {sum(bool(it.shown) for it in done)} compared "
+          f"with what is shown, {len(wrong)} not so; {len(by_hand)} by hand")
+    if untried:
+        print(f"not tried, since {lack}:", *(f"\n    {it}" for it in untried), sep="")
     return 1 if wrong else 0
 
 
