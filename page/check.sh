@@ -3,8 +3,9 @@
 # whole, cut off or damaged are read as xv_terminal reads them, and stand at an event as in every other tool; plays the
 # stored runs and the sessions of the repository by the module of the page, in Node, and compares; then goes to and fro in
 # a run and compares with the proved `back_to`, makes a long record again, brings back runs that keys have cut off, tries
-# what keys do to a source, gives the module bad input, looks back in a run for stores and stops, and compares the reports
-# of faults and sleepers with those of xv_why, and the module's SHA-256 with Node's.
+# what keys do to a source, and what is written in the place of words of another assembler, gives the module bad input,
+# looks back in a run for stores and stops, and compares the reports of faults and sleepers with those of xv_why, and the
+# module's SHA-256 with Node's.
 # It needs node (Debian's nodejs) and python3. The status is 1 if something differs.
 set -euo pipefail
 cd "$(dirname "$(readlink -f "$0")")"
@@ -23,6 +24,7 @@ node try/records.mjs || failed=1
 node try/replayed.mjs "$work/page.wasm" ../programs/bin || failed=1
 node try/sums.mjs "$work/page.wasm" || failed=1
 node try/source_edits.mjs || failed=1
+node try/written.mjs "$work/page.wasm" || failed=1
 # By Node, on a host with other work, a session or a run may take long: it gets ten minutes.
 export PATIENCE=600
 XV_RUN=$work/xv_run ../checks/sessions/run.sh | grep -v '^ok ' || failed=1

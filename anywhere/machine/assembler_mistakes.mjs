@@ -1,5 +1,6 @@
 // The mistakes of a source: all of them, what is wrong in each line in words, and the line that is to stand in its
 // place.
+import { letter_of, loop_for_product, number_for_name, room_for_alignment, with_forms } from "./written_lines.mjs";
 
 /** So many mistakes are told of one source. */
 export const MOST_MISTAKES = 20;
@@ -12,25 +13,52 @@ function line_without(kind, text) {
   return kind === "DuplicateLabel" ? text.slice(label.length) : label;
 }
 
+/** The lines of a source with what is written in the place of one. */
+function with_written(lines, place, { written, others }) {
+  const made = [...lines];
+  made[place] = written;
+  for (const [line, text] of others) made[line - 1] = text;
+  return made;
+}
+
 /**
- * The mistakes of a source, by the order in which the assembler tells them: {line, kind, written} each, of which
- * `written` is the line as it is meant, or null; and whether there are `more`. `first_of` tells the first mistake of a
- * text, or nothing. A line that is told is written as it is meant then, if the assembler takes that; else it is left
+ * What is written for a line with a mistake, the lines then, and their first mistake; null if that can't be told. Which
+ * other lines change is told of the source's own ones.
+ */
+function tried(mistake, { lines, own }, { assemble, first_of }) {
+  const place = mistake.line - 1, made = lines[place] ? mended(mistake, { lines, of: lines }, assemble) : null;
+  if (!made) return null;
+  const told = mended(mistake, { lines, of: own }, assemble);
+  const next_lines = with_written(lines, place, made), next = first_of(next_lines);
+  const more = made.written.split("\n").length - 1;
+  if (next && next.line >= mistake.line && next.line <= mistake.line + more) return null;
+  // (Behind several lines the others would have other numbers.)
+  return more ? { told, next_lines: null, next: null } : { told, next_lines, next };
+}
+
+/**
+ * The mistakes of a source, by the order in which the assembler tells them: {line, kind, written, others, button} each,
+ * of which `written` is the line as it is meant, or null, `others` are lines that change too, [line, text], and
+ * `button` has words for it; and whether there are `more`. `assemble` tells the first mistake of a text, or its file
+ * and its labels. A line that is told is written as it is meant then, if the assembler takes that; else it is left
  * out, but for its label, so a mistake may come of one before it. A mistake of no line, as too little memory, is the
  * last that is told.
  */
-export function all_mistakes(source, first_of) {
-  const lines = source.split("\n"), mistakes = [];
-  const first_with = (place, text) => { lines[place] = text; return first_of(lines.join("\n")); };
-  let first = first_of(source);
+export function all_mistakes(source, assemble) {
+  const first_of = (its_lines) => {
+    const { file, line, kind } = assemble(its_lines.join("\n"));
+    return file ? null : { line, kind };
+  };
+  const mistakes = [];
+  const own = source.split("\n");
+  let lines = own, first = first_of(lines);
   while (first && mistakes.length < MOST_MISTAKES) {
-    const { line, kind } = first, place = line - 1, text = lines[place], written = text ? mended(first, text) : null;
-    let next = written === null ? first : first_with(place, written);
-    const is_meant = next?.line !== line;
-    mistakes.push({ line, kind, written: is_meant ? written : null });
+    const { line, kind } = first, place = line - 1, text = lines[place];
+    const found = tried(first, { lines, own }, { assemble, first_of });
+    mistakes.push({ line, kind, written: null, others: [], ...found?.told });
     if (!text) return { mistakes, more: false };
-    if (!is_meant) next = first_with(place, line_without(kind, text));
-    first = next;
+    lines = found?.next_lines ?? with_written(lines, place, { written: line_without(kind, text), others: [] });
+    first = found?.next_lines ? found.next : first_of(lines);
   }
   return { mistakes, more: Boolean(first) };
 }
@@ -133,7 +161,6 @@ function fitted(hint, operands) {
   });
 }
 
-const letter_of = (text) => ({ "\\n": "\n", "\\t": "\t", "\\0": "\0", "\\r": "\r" })[text] ?? text;
 function decimal(digits, base) {
   const value = parseInt(digits, base);
   return `numbers are decimal, or begin with 0x: write ${value} or 0x${value.toString(16)}`;
@@ -198,15 +225,6 @@ const LEFT_OUT = new Set([".globl", ".global"]);
 /** The sections of others, by how their names begin. */
 const SECTIONS = [[/^\.text\b/, ".text"], [/^\.(data|rodata|bss|sdata)\b/, ".data"]];
 
-/** Forms of other assemblers that have one meaning, and what stands in the place of each. */
-const FORMS = [
-  [/'(\\?.)'/g, (form, letter) => String(letter_of(letter).codePointAt(0))],
-  [/\b0[bB]([01]+)\b/g, (form, digits) => String(parseInt(digits, 2))],
-  [/\b0[oO]([0-7]+)\b/g, (form, digits) => String(parseInt(digits, 8))],
-  [/\b0X[0-9a-fA-F]+\b/g, (form) => form.toLowerCase()],
-  [/\/\/.*$/, (form) => `#${form.slice(2)}`],
-];
-
 /** The instruction in place of one that other assemblers know, with the same operands; null if none can be told. */
 function instruction_for(word, operands) {
   if (Object.hasOwn(OTHER_NAMES, word)) return `${OTHER_NAMES[word]} ${operands}`.trimEnd();
@@ -223,20 +241,33 @@ function with_commas(operands) {
   return given.length > 1 && given.every((it) => /^-?\w+(\(\w+\))?$/.test(it)) ? given.join(", ") : null;
 }
 
-/** The line of a source that has a mistake, as it is meant; null if that can't be told. */
-export function mended({ kind }, text) {
-  if (kind !== "UnknownWord" && kind !== "BadOperand") return null;
+/** The line that has a mistake, as it is meant; null if that can't be told of it alone. */
+function mended_line(kind, text) {
   const line = /^(\s*(?:[A-Za-z_]\w*:)?\s*)((?:"(?:[^"\\]|\\.)*"?|'\\?.'|[^#"'])*)(.*)$/s;
   const [, before, code, comment] = line.exec(text);
   const [, word, operands, end] = /^(\.?[\w.]*)\s*(.*?)(\s*)$/s.exec(code);
   const other = kind === "UnknownWord" ? instruction_for(word, operands) : null;
   if (other !== null) return other || comment ? `${before}${other}${other ? end : ""}${comment}` : before.trimEnd();
   if (!/"/.test(code)) {
-    const made = FORMS.reduce((so_far, [form, to]) => so_far.replace(form, to), code);
+    const made = with_forms(code);
     if (made !== code) return before + made + comment;
   }
   const listed = kind === "BadOperand" ? with_commas(operands) : null;
   return listed === null ? null : `${before}${word} ${listed}${end}${comment}`;
+}
+
+/**
+ * What is written for one of the lines that has a mistake: {written, others, button}, with those others of the lines
+ * `of` that change too; null if that can't be told.
+ */
+function mended({ line, kind }, { lines, of }, assemble) {
+  if (kind !== "UnknownWord" && kind !== "BadOperand") return null;
+  const place = line - 1, of_more = [number_for_name, room_for_alignment, loop_for_product];
+  const made = kind === "UnknownWord" ? of_more.map((it) => it({ lines, place, of }, assemble)).find((it) => it) : null;
+  if (made) return made;
+  const written = mended_line(kind, lines[place]);
+  if (written === null) return null;
+  return { written, others: [], button: written.trim() ? `write ${written.trim()}` : "leave it out" };
 }
 
 /** A mistake of a source in words: the line, what is wrong in it, and what to write. */

@@ -195,17 +195,19 @@ function button_of(words, act) {
 }
 
 /**
- * The row of a mistake: a button that goes to its line, what is wrong, if that isn't told above the list, and a button that
- * writes the line as it is meant.
+ * The row of a mistake: a button that goes to its line, what is wrong, if that isn't told above the list, and a button
+ * that writes the line as it is meant.
  */
-function row_of_mistake({ line, kind, written, words: of_c, file, is_warning }, is_told) {
-  const row = document.createElement("li"), text = state.lines[line - 1];
+function row_of_mistake(mistake, is_told) {
+  const { line, kind, written, others, words: of_c, file, is_warning } = mistake;
+  const row = document.createElement("li"), { lines } = state;
   if (of_c) return row_of_c(row, { line, words: of_c, file, is_warning });
   const [, words] = /^line \d+: (.*)$/s.exec(mistake_words({ line, kind }, state.lines.join("\n")));
   row.append(button_of(`line ${line}`, () => go_to(line)), is_told ? " " : ` ${words} `);
   if (written === null) return row;
-  const write = () => { if (state.lines[line - 1] === text) write_line(line, written); };
-  row.append(button_of(written.trim() ? `write ${written.trim()}` : "leave it out", write));
+  const places = [line, ...others.map(([other]) => other)].map((it) => it - 1);
+  const is_as_told = () => places.every((it) => state.lines[it] === lines[it]);
+  row.append(button_of(mistake.button, () => { if (is_as_told()) write_lines(mistake); }));
   return row;
 }
 
@@ -242,10 +244,14 @@ function write(text) {
   edited();
 }
 
-/** Writes another text in a line's place. */
-function write_line(line, text) {
+/** Writes what is meant in a line's place, and in those of the lines that change with it, as one edit. */
+function write_lines({ line, written, others }) {
+  const changed = new Map([...others, [line, written]]), first = Math.min(...changed.keys()), made = [];
+  const last = Math.max(...changed.keys());
+  for (let k = first; k <= last; k++) made.push(changed.get(k) ?? state.lines[k - 1]);
   go_to(line);
-  write(text);
+  $("source").setSelectionRange(letters_of(first).from, letters_of(last).to);
+  write(made.join("\n"));
 }
 
 /** Chooses letters of the source, and scrolls to them. */

@@ -323,12 +323,6 @@ function reach_on(way) {
 
 // ---- messages
 
-/** The first mistake of a source, or nothing. */
-function first_mistake(text) {
-  const { file, line, kind } = machine.assemble(text);
-  return file ? null : { line, kind };
-}
-
 /** Break points as the page sends them, each with whether its condition is so. */
 const with_conditions = (list) => (
   list.map((it) => (it.condition ? { ...it, is_met: condition_of(it.condition) } : it))
@@ -447,7 +441,7 @@ const obey = {
   },
   assemble({ text, id }) {
     const made = machine.assemble(text);
-    postMessage({ assembled: { id, ...made, ...(made.file ? {} : all_mistakes(text, first_mistake)) } });
+    postMessage({ assembled: { id, ...made, ...(made.file ? {} : all_mistakes(text, (it) => machine.assemble(it))) } });
   },
   sum({ bytes, id }) { postMessage({ summed: { id, sum: machine.sum(bytes) } }); },
   record() {

@@ -99,8 +99,8 @@ is(machine.assemble("  beqz a0, x\n").kind, "UnknownWord", "beqz");
 is(machine.assemble("  li a0, 1\n  j nowhere\n").line, 2, "the line of an unknown label");
 
 // All mistakes of a source, and lines that are written in place of others: each of these assembles.
-const first_of = (source) => { const { file, line, kind } = machine.assemble(source); return file ? null : { line, kind }; };
-const mistakes_in = (source) => { const { mistakes, more } = all_mistakes(source, first_of); return mistakes.map(({ line, kind }) => `${line} ${kind}`).join(", ") + (more ? ", .." : ""); };
+const assemble = (source) => machine.assemble(source), first_of = (source) => { const { file, line, kind } = assemble(source); return file ? null : { line, kind }; };
+const mistakes_in = (source) => { const { mistakes, more } = all_mistakes(source, assemble); return mistakes.map(({ line, kind }) => `${line} ${kind}`).join(", ") + (more ? ", .." : ""); };
 is(mistakes_in("  li a0, 1\n"), "", "a source without mistakes");
 is(mistakes_in("x: beqz a0, x\n  li a0 1\n  j nowhere\nx:\n  addi a0, a0, 5000\n  j x\n"), "1 UnknownWord, 2 BadOperand, 4 DuplicateLabel, 5 OutOfRange, 3 UnknownLabel", "five mistakes");
 is(mistakes_in("foo\n".repeat(MOST_MISTAKES)).split(", ").length, MOST_MISTAKES, "as many mistakes as are told");
@@ -109,12 +109,12 @@ for (const [line, wanted] of [["  beqz a0, x # c", "  beq a0, x0, x # c"], ["  b
   ["  bgtu a0, a1, x", "  bltu a1, a0, x"], ["  bleu a0, a1, x", "  bgeu a1, a0, x"], ["  neg a0, a1", "  sub a0, x0, a1"], ["  not a0, a1", "  xori a0, a1, -1"], ["  negw a0, a1", "  subw a0, x0, a1"], ["  sltz a0, a1", "  slt a0, a1, x0"], ["  sgtz a0, a1", "  slt a0, x0, a1"], ["  seqz a0, a1", "  sltiu a0, a1, 1"], ["  snez a0, a1", "  sltu a0, x0, a1"], ["  jr ra", "  jalr x0, 0(ra)"], ["  tail x", "  j x"], ["  lla a0, x", "  la a0, x"], ["  sext.w a0, a1", "  addiw a0, a1, 0"],
   [".globl x", ""], ["y: .globl x # c", "y: # c"], [".section .rodata", ".data"], ["  li a0, 'a'", "  li a0, 97"], ["  li a0, '#' # n", "  li a0, 35 # n"], ["  li a0, '\\n'", "  li a0, 10"], ["  li a0, 0b101 // five", "  li a0, 5 # five"], ["  li a0, 0X1F", "  li a0, 0x1f"], ["  addi a0 a1 1", "  addi a0, a1, 1"], ["  lw a0 4(sp)", "  lw a0, 4(sp)"],
   [".data\ny: .string \"a#b\" # c", "y: .asciz \"a#b\" # c"], [".data\n.zero 8", ".space 8"], [".data\n.skip 8", ".space 8"], [".bss\n.space 8", ".data"], [".data\n.8byte 8", ".dword 8"], [".data\n.4byte 8", ".word 8"], [".data\n.quad 8", ".dword 8"], [".data\n.long 8", ".word 8"]]) {
-  const source = `x: ecall\n${line}\n`, [told] = all_mistakes(source, first_of).mistakes, lines = source.split("\n");
+  const source = `x: ecall\n${line}\n`, [told] = all_mistakes(source, assemble).mistakes, lines = source.split("\n");
   is(told?.written, wanted, `in place of ${line}`);
   if (told) lines[told.line - 1] = told.written ?? "";
   is(first_of(lines.join("\n")), null, `${told?.written} assembles`);
 }
-for (const line of ["  mul a0, a0, a1", "  beqz a0", "  constructor a0", "  __proto__ a0", "  ret a0 b", "  li a0, zz", "  j x; ecall"]) is(all_mistakes(`x: ecall\n${line}\n`, first_of).mistakes[0]?.written, null, `nothing can be written in place of ${line}`);
+for (const line of ["  mul x0, a0, a1", "  mul a0, sp, a1", "  mul a0, a1", "  div a0, a0, a1", "  .align 13", "  .align", "  .align a", "  .balign 3", "  .balign 8", ".equ a0, 5", ".equ x, 5", ".equ N, 2*3", "  beqz a0", "  constructor a0", "  __proto__ a0", "  ret a0 b", "  li a0, zz", "  j x; ecall"]) is(all_mistakes(`x: ecall\n${line}\n`, assemble).mistakes[0]?.written, null, `nothing can be written in place of ${line}`);
 const at = machine.put(new Uint8Array([32, 255, 10]));
 machine.calls.xv_page_assemble(at, 3n, machine.room, 65536n, machine.table, machine.told);
 is(machine.view().getUint32(machine.at, true), 7, "a source that is no text");

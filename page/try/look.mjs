@@ -58,6 +58,26 @@ async function panels(page, name) {
   for (const tab of ["instruction", "pages", "opened", "why"]) { await page.eval(`show_tab('${tab}')`); await page.sleep(500); await page.picture(`${folder}/${name}-${tab}.png`, { full: true }); }
 }
 
+/** A click writes what takes more than its line: a number for its name, an alignment, a product. Undo takes each back. */
+async function more_lines_are_written(page) {
+  const source = ".equ N, 6\n_start:\n  li a1, N\n  mul a0, a1, a1\n  li a7, 2\n  ecall\n.data\na: .byte N\n.align 3\nb: .dword a\n";
+  const text = () => page.eval("document.getElementById('source').value"), press = (k) => page.eval(`document.querySelectorAll('#mistakes li')[${k}].lastElementChild.click()`);
+  await page.eval(`(() => { const it = document.getElementById('source'); it.value = ${JSON.stringify(source)}; it.dispatchEvent(new Event('input')); })()`);
+  await page.until("document.querySelectorAll('#mistakes li').length === 3");
+  const buttons = await page.eval("[...document.querySelectorAll('#mistakes li')].map((it) => it.lastElementChild.textContent)");
+  holds(buttons.join("; ") === "write 6 wherever N stands; write a loop of 17 lines; write .space 7, which leads there", `buttons for more than a line: ${buttons.join("; ")}`);
+  await page.picture(`${folder}/mistakes-of-more-lines.png`);
+  await press(0);
+  await page.until("document.querySelectorAll('#mistakes li').length === 2");
+  holds((await text()) === source.replace(".equ N, 6", "# N is 6").replace("a1, N", "a1, 6").replace(".byte N", ".byte 6"), "a number stands wherever its name stood");
+  await page.key("z", { control: true });
+  await page.until("document.querySelectorAll('#mistakes li').length === 3").then(() => holds(true, "undo takes that back at once"), () => holds(false, "undo takes that back at once"));
+  for (let left = 2; left >= 0; left--) { await press(0); await page.until(`document.querySelectorAll('#mistakes li').length === ${left}`); }
+  holds(await page.until("document.getElementById('mistake').textContent.startsWith('assembles')").then(() => true, () => false), "then it assembles");
+  await page.eval("page.programs.boot({ play: true })");
+  holds(await page.until("page.app.view?.facts.halted && page.app.view.facts.status === 36").then(() => true, () => false), "and ends with the product");
+}
+
 /** All mistakes of a source are listed: a click goes to a line, another writes it, and undo takes that back. */
 async function mistakes(page) {
   const rows = () => page.eval("[...document.querySelectorAll('#mistakes li')].map((it) => it.textContent)");
@@ -75,6 +95,7 @@ async function mistakes(page) {
   await page.key("z", { control: true });
   await page.until("document.querySelectorAll('#mistakes li').length === 4").then(() => holds(true, "undo takes it back"), () => holds(false, "undo takes it back"));
   holds((await rows()).every((it) => /^line \d+ /.test(it)), "each mistake has its line");
+  await more_lines_are_written(page);
 }
 
 async function programs(page) {
