@@ -3,7 +3,6 @@ ghost use Rattle.std.specs.Prelude.{◌≡◌, Some, ◌≤◌, ◌+◌, ◌%◌
 ghost use Rattle.arrayvec.specs.ArrayVec.{array_vec_len};
 ghost use Rattle.rv64i_core.specs.Registers.{reg};
 ghost use Rattle.kcall_core.specs.Observers.{registers_of};
-ghost use Rattle.xv_session.specs.Looking.{word_at};
 ghost use Rattle.xv_report.specs.Callers as meant;
 ghost use Rattle.xv_report.specs.Callers.{double_at, is_code, is_call_at, is_call_word, caller_at, callers_from, frames_told};
 ghost use Rattle.xv_report.specs.Reports.{AreCallersWith, AreCallersOf};
@@ -13,6 +12,7 @@ use rv64i_core::{Instr, Regs, decode};
 use xk_base::limits::{PAGE_BYTES, VPN_END};
 use xk_base::{Pid, Reg, Vpn};
 use xv_machine::Machine;
+use xv_session::word_at;
 
 /// The most calls that are told.
 pub const CALLERS_MAX: usize = 64;
@@ -39,18 +39,6 @@ pub struct Callers {
     pub frames: ArrayVec<u64, CALLERS_MAX>,
     /// By the register ra alone: an earlier call may have left it. None if no call stands right before it.
     pub ra: Option<u64>,
-}
-
-/// The four bytes at an address, the first as the lowest.
-fn word_at(machine: &Machine, pid: Pid, address: u64) -> Option<u32>
-    requires { address % 4 ≡ 0 }
-    ensures { result ≡ word_at machine.now.world.state pid address }
-{
-    let first = u32::from(machine.peek(pid, address)?);
-    let second = u32::from(machine.peek(pid, address + 1)?);
-    let third = u32::from(machine.peek(pid, address + 2)?);
-    let fourth = u32::from(machine.peek(pid, address + 3)?);
-    Some(first + 256 * (second + 256 * (third + 256 * fourth)))
 }
 
 /// The eight bytes at an address, the first as the lowest.

@@ -10,10 +10,13 @@ pub mod Plays
 pub mod Programs
 pub mod RunsCounted
 pub mod RunsMade
+pub mod SearchedBack
 pub mod Searches
 pub mod Spans
 pub mod Stretches
 pub mod Texts
 pub mod Unwatched
+pub mod WhoMayRun
 mod WorkedSpans
+mod WorkedStanding
 mod WorkedSteps

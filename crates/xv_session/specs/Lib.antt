@@ -12,3 +12,5 @@ pub mod Until
 pub mod Stops
 pub mod Looking
 pub mod Again
+pub mod LastFound
+pub mod Resting

@@ -11,7 +11,9 @@ use Rattle.kernel_spec.specs.steps.Own.{Stepped, Called, Blocked, Exited, Faulte
 use Rattle.kernel_spec.specs.runs.Run.{World, Run, Outcome, Step_of}
 use Rattle.kernel_spec.specs.views.State.{State}
 use Rattle.kernel_spec.specs.views.Words.{is_this}
-use Rattle.kcall_core.specs.Observers.{registers_of}
+use Rattle.kcall_core.specs.Observers.{process_at, registers_of}
+use Rattle.kcall_core.specs.declared.kernel.observers.ProcessState.{ProcessState}
+use Rattle.kcall_core.specs.declared.kernel.observers.ProcessState.TheVariants.{Live}
 use Rattle.xv_machine.specs.Meaning.{Meaning}
 use Rattle.xv_session.specs.Looking.{next_step_of}
 use Rattle.xv_session.specs.Steps.{Advances}
@@ -46,9 +48,18 @@ abbrev pub pc_is : ℕ → Option Registers → Bool
 pc_is pc None = false
 pc_is pc (Some regs) = nat_eq regs.pc pc
 
--- process p runs, and its next instruction stands at this address
+-- a process of which this is told lives, and is in no kernel call
+abbrev pub is_outside_calls : Option ProcessState → Bool
+is_outside_calls (Some (Live parent marked None asleep)) = true
+is_outside_calls _ = false
+
+-- process p stands before the instruction at this address: its pc is there, and it is in no kernel call, whose answer it hasn't got yet
+abbrev pub is_before : (pc : ℕ) → World → (p : ℕ) → Bool
+is_before pc w p = pc_is pc (registers_of w.state p) && is_outside_calls (process_at w p)
+
+-- process p runs, and stands before the instruction at this address
 abbrev pub stands_at : (p pc : ℕ) → World → Bool
-stands_at p pc w = is_this p w.turns.current && pc_is pc (registers_of w.state p)
+stands_at p pc w = is_this p w.turns.current && is_before pc w p
 
 -- an instruction was done
 abbrev pub is_done : Outcome → Bool

@@ -48,8 +48,8 @@ fn address_of(regs: &Regs, word: Option<u32>) -> Option<u64>
     data_address(regs, &instr)
 }
 
-/// The four bytes at an address.
-fn word_at(machine: &Machine, pid: Pid, address: u64) -> Option<u32>
+/// The four bytes at an address, the first as the lowest; `None` where one of them isn't there.
+pub fn word_at(machine: &Machine, pid: Pid, address: u64) -> Option<u32>
     requires { address % 4 ≡ 0 }
     ensures { result ≡ word_at machine.now.world.state pid address }
 {

@@ -4,13 +4,15 @@ ghost use Rattle.kernel_spec.specs.runs.Run as runs;
 ghost use Rattle.xv_machine.specs.Events.{outcome_of};
 ghost use Rattle.xv_session.specs.Follows.{Follows};
 ghost use Rattle.xv_session.specs.Steps.{IsSound};
-ghost use Rattle.xv_session.specs.Until.{makes_step, is_on_call, faults, ends, stands_at, is_done, instruction_in, puts_at, is_storing, store_awaited, meets_with, Searched};
+ghost use Rattle.kcall_core.specs.Observers.{process_at};
+ghost use Rattle.xv_session.specs.Until.{makes_step, is_on_call, faults, ends, is_outside_calls, is_before, stands_at, is_done};
+ghost use Rattle.xv_session.specs.Until.{instruction_in, puts_at, is_storing, store_awaited, meets_with, Searched};
 
 use crate::followed::Followed;
 use crate::looking::next_step;
 use rv64i_core::{Instr, decode, store_width};
 use xk_base::Pid;
-use xv_machine::{Machine, Outcome};
+use xv_machine::{Machine, Outcome, ProcessState};
 
 /// What a search among Runs waits for.
 #[derive(Clone, Copy)]
@@ -19,7 +21,7 @@ pub enum Condition {
     StepOf(Pid),
     /// A step of the kernel call of this number is made: it is done, or it waits.
     Call(i32),
-    /// The process of this pid runs, and its next instruction stands at this address.
+    /// The process of this pid runs, and stands before the instruction at this address: it is in no kernel call.
     At { pid: Pid, pc: u64 },
     /// A process is gone by a fault.
     Fault,
@@ -84,7 +86,28 @@ fn ends(outcome: &Outcome) -> bool
     }
 }
 
-/// Whether the process runs, and its next instruction stands at this address.
+/// Whether the process lives, and is in no kernel call.
+fn is_outside_calls(machine: &Machine, pid: Pid) -> bool
+    ensures { result ≡ is_outside_calls (process_at machine.now.world pid) }
+{
+    match machine.process(pid) {
+        Some(ProcessState::Live { call: None, .. }) => true,
+        _ => false,
+    }
+}
+
+/// Whether the process stands before the instruction at this address: its pc is there, and it is in no kernel call,
+/// whose answer it hasn't got yet.
+pub fn is_before(machine: &Machine, pid: Pid, pc: u64) -> bool
+    ensures { result ≡ is_before pc machine.now.world pid }
+{
+    match machine.registers(pid) {
+        Some(regs) => regs.pc() == pc && is_outside_calls(machine, pid),
+        None => false,
+    }
+}
+
+/// Whether the process runs, and stands before the instruction at this address.
 fn stands_at(machine: &Machine, pid: Pid, pc: u64) -> bool
     ensures { result ≡ stands_at pid pc machine.now.world }
 {
@@ -94,10 +117,7 @@ fn stands_at(machine: &Machine, pid: Pid, pc: u64) -> bool
     if current.number() != pid.number() {
         return false;
     }
-    match machine.registers(pid) {
-        Some(regs) => regs.pc() == pc,
-        None => false,
-    }
+    is_before(machine, pid, pc)
 }
 
 /// Whether an instruction was done.
