@@ -1,4 +1,5 @@
 // Which break points stop a machine where it stands, and what came of the call that it has just made.
+import { pc_before } from "../machine/break_points.mjs";
 import { told_event } from "../machine/event_words.mjs";
 import { KIND } from "../machine/machine.mjs";
 import { is_made } from "../machine/record.mjs";
@@ -17,9 +18,8 @@ export class Stops {
 
   /** The break points that the process that runs meets where it stands, and whose conditions hold. */
   met() {
-    const { run, breaks } = this, { machine } = run, pid = run.current;
-    if (!pid) return [];
-    const pc = machine.register(pid, 0);
+    const { run, breaks } = this, pid = run.current, pc = pid ? pc_before(run.machine, pid) : null;
+    if (pc === null) return [];
     const is_here = ({ kind, address }) => (
       kind === ADDRESS ? address === pc : kind === STORE && breaks.is_stored_next(pid, pc, address)
     );

@@ -2,7 +2,7 @@
 // point stops. The record is gone through from its end, part by part, and within a part the module searches. It is done
 // in the worker.
 import { KIND, UNTIL } from "./machine.mjs";
-import { is_so } from "./break_points.mjs";
+import { is_so, pc_before } from "./break_points.mjs";
 import { call_name } from "./calls.mjs";
 import { call_of, stored_by } from "./event_words.mjs";
 
@@ -103,7 +103,7 @@ function stop_in(run, from, to, before, breaks) {
         run.replay(end);
         // A call, or a turn, may lead to the address too.
         const { current } = run, may_stop = it.kind === "address" && current && fits(it, current);
-        const is_at = may_stop && machine.register(current, 0) === it.address;
+        const is_at = may_stop && pc_before(machine, current) === it.address;
         if (is_at && is_so(it, run, current)) note(run.at, `at ${it.name}`);
       }
     });

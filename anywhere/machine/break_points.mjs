@@ -15,9 +15,14 @@ function is_stored_next(machine, pid, pc, address) {
   return width > 0 && address >= to && address < to + BigInt(width);
 }
 
+/** Before which instruction a process stands; null in a kernel call, whose answer it hasn't got yet. */
+export function pc_before(machine, pid) {
+  return machine.process(pid)?.call ? null : machine.register(pid, 0);
+}
+
 /** Whether the process that runs stands before a stop. */
 export function stands_before(machine, { addresses, bytes }) {
-  const pid = machine.current(), pc = pid ? machine.register(pid, 0) : null;
+  const pid = machine.current(), pc = pid ? pc_before(machine, pid) : null;
   return pc !== null && (addresses.includes(pc) || bytes.some((it) => is_stored_next(machine, pid, pc, it)));
 }
 
@@ -51,9 +56,9 @@ export class BreakPoints {
 
   /** Which break point stops the process that runs, whose next step is looked at, in words; null if none does. */
   words_here() {
-    const { run } = this, { machine } = run, pid = run.current;
-    if (!pid) return null;
-    const pc = machine.register(pid, 0), is_at = (it) => it.kind === "address" && it.address === pc;
+    const { run } = this, pid = run.current, pc = pid ? pc_before(run.machine, pid) : null;
+    if (pc === null) return null;
+    const is_at = (it) => it.kind === "address" && it.address === pc;
     const is_before = (it) => it.kind === "store" && this.is_stored_next(pid, pc, it.address);
     const found = this.of_process(pid).find((it) => (is_at(it) || is_before(it)) && is_so(it, run, pid));
     return found ? `${found.kind === "store" ? "before a store to" : "at"} ${found.name}` : null;

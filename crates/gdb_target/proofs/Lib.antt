@@ -2,7 +2,6 @@ pub mod Below
 pub mod Coming
 pub mod Ends
 pub mod Fresh
-pub mod LastPlaces
 pub mod Planned
 pub mod Telling
 pub mod Turning

@@ -1,7 +1,9 @@
 -- What stood last among the places that a run goes by.
-use Rattle.std.specs.Prelude.{◌≡◌, ◌⊎◌, ℕ, zero, suc, ◌+◌, ◌<◌, Bool, true, false, length, Option, None, Some}
+use Rattle.std.proofs.Common.{◌∙◌, subst}
+use Rattle.std.specs.Prelude.{◌≡◌, ◌⊎◌, ℕ, zero, suc, ◌+◌, ◌<◌, Bool, true, false, length, Option, None, Some, IfSome}
 use Rattle.kernel_spec.specs.runs.Run.{Outcome}
 use Rattle.kernel_spec.specs.views.Words.{is_this}
+use Rattle.xv_session.specs.LastFound.{IsLast}
 use Rattle.gdb_packets.specs.declared.answers.StopReason.TheVariants.{Begin, Trap}
 use Rattle.gdb_target.specs.Came.{Comes}
 use Rattle.gdb_target.specs.Forth.{current_of}
@@ -88,11 +90,31 @@ pub record LooksFrom (back : Back) (begin : ℕ) (here to : Target) (hit : Optio
   pub looked : Looked back looks from to hit
   pub up_to : length to.run.session.events ≡ length here.run.session.events
 
--- Nothing stood only if it was looked for from the first place on
-pub record IsLastOf (back : Back) (here to : Target) (hit : Option Hit) : Type 0 where
-  pub begin : ℕ
+-- So it was, and the run is the same; and what stood is told of a place before here, and of a process that is let run
+pub record LooksBefore (back : Back) (begin : ℕ) (here to : Target) (hit : Option Hit) : Type 0 where
   pub looks : LooksFrom back begin here to hit
-  pub whole : hit ≡ None → begin ≡ 0
+  pub same_run : beginning to.run ≡ beginning here.run
+  pub before : IfSome hit (IsHitBefore back (length here.run.session.events))
+
+-- looked for once more, from where nothing was found
+pub looks_again : (back : Back) (before begin : ℕ) (a b c : Target) (hit : Option Hit) → LooksBefore back before a b None → LooksBefore back begin b c hit
+    → LooksBefore back begin a c hit
+looks_again back before begin a b c hit vain looks = record {
+  looks = record {
+    from = looks.looks.from;
+    looks = looks.looks.looks;
+    same_run = looks.looks.same_run ∙ vain.same_run;
+    begins = looks.looks.begins;
+    looked = looks.looks.looked;
+    up_to = looks.looks.up_to ∙ vain.looks.up_to;
+  };
+  same_run = looks.same_run ∙ vain.same_run;
+  before = subst (λ (n : ℕ). IfSome hit (IsHitBefore back n)) vain.looks.up_to looks.before;
+}
+
+-- It stood last before here; nothing did only if it was looked for from the first place on
+abbrev pub IsLastOf : Back → (here to : Target) → (hit : Option Hit) → Type 0
+IsLastOf back here to hit = IsLast (LooksFrom back) here to hit
 
 -- A use of watched bytes is told as what it is, and of its process; else a trap is told, or that it is the run's begin
 abbrev pub IsToldUse : Option Use → (p : ℕ) → Stopped → Type 0

@@ -1,10 +1,11 @@
 //! Going back.
-ghost use Rattle.std.specs.Prelude.{◌≡◌, ℕ, ◌≤◌, ◌<◌, true, None, Some, IfOk, IfSome, length};
+ghost use Rattle.std.proofs.Common.{◌∙◌};
+ghost use Rattle.std.specs.Prelude.{◌≡◌, ℕ, ◌≤◌, ◌<◌, true, None, Some, IfOk, IfSome, length, refl};
 ghost use Rattle.xv_machine.specs.Events.{outcome_of};
 ghost use Rattle.gdb_target.specs.Found.{IsBefore, StandsFor, trapped};
 ghost use Rattle.gdb_target.specs.Choices.{choices};
 ghost use Rattle.gdb_target.specs.LastHit.{GoesBackToLast, GoesForth, IsHitBefore, IsHitOf, IsLastOf, IsPointHit, IsToldBy};
-ghost use Rattle.gdb_target.specs.LastHit.{Looked, LooksAt, LooksFrom, later, let_run_of, step_hit};
+ghost use Rattle.gdb_target.specs.LastHit.{Looked, LooksAt, LooksBefore, LooksFrom, later, let_run_of, looks_again, step_hit};
 ghost use Rattle.gdb_target.specs.LetRun.{lets};
 ghost use Rattle.gdb_target.specs.Touches.{IsByChange, watched_addresses};
 ghost use Rattle.gdb_target.specs.SameRun.{beginning};
@@ -20,16 +21,7 @@ use gdb_packets::StopReason;
 use std::alloc::Global;
 use xk_base::Pid;
 use xv_machine::Outcome;
-use xv_session::SessionError;
-
-/// How far back is looked first, in events.
-const FIRST_WINDOW: u64 = 1024;
-
-/// How many times as far is looked each time.
-const WINDOW_GROWTH: u64 = 16;
-
-/// How often it is looked further back, before all of a run is.
-const WINDOWS: u32 = 16;
+use xv_session::{Endless, LooksBack, Patience, SessionError, last_before_here};
 
 /// What is looked for, back in the run.
 #[derive(Clone, Copy)]
@@ -55,7 +47,7 @@ impl Back {
 
 /// A place of the run, and the process that stops there.
 #[derive(Clone, Copy)]
-pub(crate) struct Hit {
+pub struct Hit {
     place: u64,
     pid: Pid,
     /// How it uses watched bytes by the next event, if that is why it stops.
@@ -134,6 +126,44 @@ fn later(first: Option<Hit>, second: Option<Hit>) -> Option<Hit>
         Some(hit) => Some(hit),
         None => first,
     }
+}
+
+/// A run looks for what stood before here on its own machine: back, and on again to where it was.
+impl LooksBack for Target {
+    type Goal = Back;
+
+    type Found = Hit;
+
+    type Refusal = SessionError;
+
+    ghost places = { λ t. length t.run.session.events };
+
+    ghost looked = { LooksBefore };
+
+    ghost stays = { λ old new. (beginning new.run ≡ beginning old.run) × (choices new ≡ choices old) };
+
+    ghost refuses = { λ may_end error. Unit {0} };
+
+    fn places(&self) -> u64 {
+        self.run.at()
+    }
+
+    fn look_from<P: Patience>(
+        &mut self,
+        alloc: Global,
+        goal: &Back,
+        begin: u64,
+        patience: &mut P,
+    ) -> Result<Option<Hit>, SessionError> {
+        let _ = patience;
+        self.last_from(alloc, goal, begin)
+    }
+
+    ghost stays_first = { λ a. (refl, refl) };
+
+    ghost stays_on = { λ a b c first second. (second.0 ∙ first.0, second.1 ∙ first.1) };
+
+    ghost looked_again = { looks_again };
 }
 
 impl Target {
@@ -292,8 +322,7 @@ impl Target {
         Ok(hit)
     }
 
-    /// The last place before here at which what is looked for stood. It is looked for from ever further back on, and
-    /// the run is then where it was.
+    /// The last place before here at which what is looked for stood. The run is then where it was.
     fn search(&mut self, alloc: Global, back: &Back) -> Result<Option<Hit>, SessionError>
         ensures hit { IfOk result (λ h. IfSome h (λ found. IsHitBefore back.now (length self.old.run.session.events) found)) }
         ensures last { IfOk result (λ h. IsLastOf back.now self.old self.new h) }
@@ -302,19 +331,7 @@ impl Target {
         ensures same { beginning self.new.run ≡ beginning self.old.run }
         ensures choices { choices self.new ≡ choices self.old }
     {
-        let mut window = FIRST_WINDOW;
-        'windows: for _ in 0..WINDOWS {
-            let begin = self.run.at().saturating_sub(window);
-            let hit = self.last_from(alloc, back, begin)?;
-            if hit.is_some() {
-                return Ok(hit);
-            }
-            if begin == 0 {
-                return Ok(hit);
-            }
-            window = window.saturating_mul(WINDOW_GROWTH);
-        }
-        self.last_from(alloc, back, 0)
+        last_before_here(self, alloc, back, &mut Endless)
     }
 
     /// The process, if it does an instruction by the next event.

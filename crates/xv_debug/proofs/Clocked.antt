@@ -1,6 +1,6 @@
 -- How far a round is, and who goes on after an instruction.
 use Rattle.std.proofs.Common.{◌≡◌, ◌∙◌, ◌+◌, ◌-◌, ◌<◌, ◌≤◌, ℕ, ℤ, zero, suc, Bool, true, false, List, [], ◌∷◌, ◌++◌, length, drop, take, replicate, Option, None, Some, inl}
-use Rattle.std.proofs.Common.{refl, sym, ap, ap₂, subst, arith, ◌&&◌, ◌||◌, ◌≢◌, IfNone, IfSome, is_none, is_some, not, option_map, slice_get}
+use Rattle.std.proofs.Common.{refl, sym, ap, ap₂, subst, arith, ◌&&◌, ◌||◌, ◌≢◌, IfNone, IfSome, is_none, not, slice_get}
 use Rattle.std.specs.FinMap.{get}
 use Rattle.std.specs.FinSet.{contains}
 use Rattle.std.specs.Prelude.{IsSome, if◌then◌else◌}
@@ -11,14 +11,8 @@ use Rattle.kernel_spec.specs.runs.Run.{Event, Run, Tick, Outcome, RunHappens, St
 use Rattle.kernel_spec.specs.runs.Rounds.{key_events}
 use Rattle.kernel_spec.specs.steps.Own.{Stepped}
 use Rattle.kernel_spec.specs.steps.Step.{own}
-use Rattle.proc_table.specs.declared.process.Call.{Call}
-use Rattle.kernel_spec.specs.views.Processes.{Live, Process, Alive, Zombie}
-use Rattle.kernel_spec.specs.views.State.{live, live_part}
-use Rattle.kernel_spec.specs.views.View.{view, view_of}
-use Rattle.kernel_spec.specs.waking.Wakes.{IsRunnable}
-use Rattle.kcall_core.specs.Observers.{process_at, told as told_as}
-use Rattle.kcall_core.specs.declared.kernel.observers.ProcessState.{ProcessState}
-use Rattle.kcall_core.specs.declared.kernel.observers.ProcessState.TheVariants as state
+use Rattle.kernel_spec.specs.views.Processes.{Live}
+use Rattle.kernel_spec.specs.views.State.{live}
 use Rattle.kernel_spec.proofs.Common.{alive_part}
 use Rattle.xv_report.specs.Waits.{wait_in}
 use Rattle.xv_session.specs.Answers.{Sent}
@@ -230,25 +224,6 @@ done-due plan round a b o one done =
     let w = a.machine.world in
     let kept = run-keeps w b.machine.world w.turns.halted w.turns.current o one.event.promised.0 done in
     ap₂ (λ (h : Option ℤ) (n : ℕ). if not round.keyed && is_none h then key_events (drop n plan.keys) else []) kept.0 kept.1
-
--- ---- who may run
-
-abbrev asleep_in : Option ProcessState → Bool
-asleep_in (Some (state.Live parent killed call asleep)) = asleep
-asleep_in _ = true
-
--- one that is told as a live one that doesn't sleep
-pub may_run : (w : World) (p : ℕ) (r : Option ProcessState) (parent : Option ℕ) (killed : Bool) (call : Option Call) (asleep : Bool) → r ≡ process_at w p
-    → r ≡ Some (state.Live parent killed call asleep) → not asleep ≡ true → IsRunnable w p
-may_run w p r parent killed call asleep told is awake = by (get w.state.processes p) refl (contains w.turns.sleepers p) refl (sym told ∙ is)
-  where
-    by : (o : Option Process) → get w.state.processes p ≡ o → (b : Bool) → contains w.turns.sleepers p ≡ b → option_map (told_as b) o ≡ Some (state.Live parent killed call asleep) → IsRunnable w p
-    by None e b f i = let bad : ⊥ = cc in absurd bad
-    by (Some (Zombie q status)) e b f i = let bad : ⊥ = cc in absurd bad
-    by (Some (Alive l)) e true f i = let same : true ≡ asleep = ap asleep_in i in let no : false ≡ true = ap not same ∙ awake in let bad : ⊥ = cc in absurd bad
-    by (Some (Alive l)) e false f i =
-        let seen : is_some (view w.state p) ≡ true = ap (λ (o : Option Process). is_some (option_map (view_of w.state p) (live_part o))) e in
-        (seen, λ sleeps. let no : false ≡ true = sym f ∙ sleeps in let bad : ⊥ = cc in bad)
 
 -- ---- who sleeps up to a tick
 

@@ -12,12 +12,12 @@ use Rattle.kernel_spec.specs.steps.Own as answers
 use Rattle.kernel_spec.specs.views.State.{State}
 use Rattle.kernel_spec.specs.views.Words.{is_this}
 use Rattle.kernel_spec.proofs.Common.{this_is}
-use Rattle.kcall_core.specs.Observers.{registers_of}
+use Rattle.kcall_core.specs.Observers.{process_at, registers_of}
 use Rattle.xv_machine.specs.Meaning.{Meaning}
 use Rattle.xv_session.specs.Looking.{next_step_of}
 use Rattle.xv_session.specs.Names.{place_in}
 use Rattle.xv_session.specs.Stops.{is_before_stop, pc_is_one, stops_for, stores_by}
-use Rattle.xv_session.specs.Until.{faults, ends, is_done, is_on_call, is_storing, pc_is, storing_by, storing_in}
+use Rattle.xv_session.specs.Until.{faults, ends, is_before, is_done, is_on_call, is_outside_calls, is_storing, pc_is, storing_by, storing_in}
 use Rattle.xv_session.specs.declared.looking.NextStep.{NextStep}
 use Rattle.xv_session.specs.declared.running.Running.{Running}
 use Rattle.xv_session.specs.declared.until.Condition.TheVariants as waits_for
@@ -80,7 +80,10 @@ no-mark-at r (At program address ∷ ms) none =
 
     by : (current : Option ℕ) → at_in r.machine.world.state current address ≡ false → marked.stands_in program address r current ≡ false
     by None e = refl
-    by (Some p) e = and_right (is_this program (place_in p r.names)) _ (at_pc (registers_of r.machine.world.state p) e)
+    by (Some p) e =
+        let w = r.machine.world in
+        and_right (is_this program (place_in p r.names)) (is_before address w p)
+        (and_left (pc_is address (registers_of w.state p)) (is_outside_calls (process_at w p)) (at_pc (registers_of w.state p) e))
 no-mark-at r (Store address ∷ ms) none = no-mark-at r ms none
 
 no-mark-due : (w : World) (ms : List Mark) → list_any (λ a. is_storing a w) (flat_map (λ m. option_to_list (of_mark Bytes m)) ms) ≡ false → marked.is_any_due ms w ≡ false
@@ -133,10 +136,11 @@ no-end-of q (runs.Sent byte) done = (refl, refl)
 no-end-of q runs.Halted done = (refl, refl)
 
 -- it stands elsewhere than at this address
-elsewhere : (s : State) (current : Option ℕ) (p pc : ℕ) (b : Bool) → is_this p current ≡ b → at_in s current pc ≡ false → (b && pc_is pc (registers_of s p)) ≡ false
-elsewhere s current p pc false is e = refl
-elsewhere s current p pc true is e =
-    by (registers_of s p) (subst (λ (c : Option ℕ). at_in s c pc ≡ false) (this_is p current is) e)
+elsewhere : (w : World) (p pc : ℕ) (b : Bool) → is_this p w.turns.current ≡ b → at_in w.state w.turns.current pc ≡ false → (b && is_before pc w p) ≡ false
+elsewhere w p pc false is e = refl
+elsewhere w p pc true is e =
+    and_left (pc_is pc (registers_of w.state p)) (is_outside_calls (process_at w p))
+    (by (registers_of w.state p) (subst (λ (c : Option ℕ). at_in w.state c pc ≡ false) (this_is p w.turns.current is) e))
   where
     by : (o : Option Registers) → pc_is_one (pc ∷ []) o ≡ false → pc_is pc o ≡ false
     by None e = refl
@@ -159,7 +163,7 @@ no-aim (On (waits_for.StepOf p)) o m far done none = absurd far
 no-aim (On (waits_for.Call n)) o m far done none = not-on-call n o done
 no-aim (On (waits_for.At p pc)) o m far done none =
     let w = m.world in
-    elsewhere w.state w.turns.current p pc (is_this p w.turns.current) refl (or_parts (at_in w.state w.turns.current pc) false none).0
+    elsewhere w p pc (is_this p w.turns.current) refl (or_parts (at_in w.state w.turns.current pc) false none).0
 no-aim (On waits_for.Fault) o m far done none = (no-end o done).0
 no-aim (On waits_for.Exit) o m far done none = (no-end o done).1
 no-aim (On (waits_for.StoreTo address)) o m far done none = refl

@@ -1,27 +1,13 @@
 //! Instructions of a process, as text, with the functions and lines that they stand in.
 ghost use Rattle.std.specs.Prelude.{◌≡◌, ◌%◌, option_map};
-ghost use Rattle.xv_session.specs.Looking.{word_at};
 ghost use Rattle.xv_debug.specs.Instructions.{instruction_text};
 
 use rv64i_core::decode;
 use std::alloc::{AllocError, Global};
 use uasm_text::{InstructionText, text_at};
 use xk_base::Pid;
-use xv_machine::Machine;
 use xv_report::{Sources, source_of};
-use xv_session::Session;
-
-/// The four bytes at an address, the first as the lowest; `None` where one of them isn't there.
-fn word_at(machine: &Machine, pid: Pid, address: u64) -> Option<u32>
-    requires { address % 4 ≡ 0 }
-    ensures { result ≡ word_at machine.now.world.state pid address }
-{
-    let first = u32::from(machine.peek(pid, address)?);
-    let second = u32::from(machine.peek(pid, address + 1)?);
-    let third = u32::from(machine.peek(pid, address + 2)?);
-    let fourth = u32::from(machine.peek(pid, address + 3)?);
-    Some(first + 256 * (second + 256 * (third + 256 * fourth)))
-}
+use xv_session::{Session, word_at};
 
 /// The text of the instruction at an address whose four bytes are these; `None` if they are none, or aren't there.
 fn instruction_text(word: Option<u32>, address: u64) -> Option<InstructionText>

@@ -4,15 +4,11 @@ use Rattle.proc_table.specs.declared.process.Call.{Call}
 use Rattle.kernel_spec.specs.runs.Run.{World}
 use Rattle.kernel_spec.specs.views.Processes.{Live}
 use Rattle.kernel_spec.specs.views.State.{live}
-use Rattle.kernel_spec.specs.waking.Wakes.{IsRunnable}
+use Rattle.xv_session.specs.Resting.{NobodyMayRun}
 
--- no process runs, and none lives that doesn't sleep
-abbrev pub NobodyMayRun : World → Type 0
-NobodyMayRun w = (w.turns.current ≡ None) × ((p : ℕ) → ¬ IsRunnable w p)
-
--- a Run does nothing: the machine has halted, or nobody may run
+-- a Run does nothing: the machine has halted, or no process runs, and none may
 abbrev pub RunsDoNothing : World → Type 0
-RunsDoNothing w = w.turns.halted ≡ None → NobodyMayRun w
+RunsDoNothing w = w.turns.halted ≡ None → (w.turns.current ≡ None) × NobodyMayRun w
 
 -- a live process is in the kernel call sleep (13), which waits for ticks
 pub record WaitsForTicks (w : World) (p : ℕ) : Type 0 where

@@ -1,7 +1,6 @@
 //! Whether there is anything for a machine to do.
 ghost use Rattle.std.specs.Prelude.{◌≡◌, ℕ, false};
 ghost use Rattle.kernel_spec.specs.waking.Turns.{HasSlot};
-ghost use Rattle.kernel_spec.specs.waking.Wakes.{IsRunnable};
 ghost use Rattle.xv_machine.specs.Sound.{IsSoundMachine};
 ghost use Rattle.xv_live.specs.Resting.{NothingHappens, RunsDoNothing, WaitsForTicks};
 
@@ -9,40 +8,7 @@ use kernel_calls::numbers::SLEEP;
 use xk_base::Pid;
 use xk_base::limits::NPROC;
 use xv_machine::{Machine, ProcessState};
-
-// Whether the process of this pid lives, and doesn't sleep.
-fn is_runnable(machine: &Machine, pid: Pid) -> bool
-    ensures { result ≡ false → ¬ IsRunnable machine.now.world pid }
-{
-    match machine.process(pid) {
-        Some(ProcessState::Live { asleep, .. }) => !asleep,
-        _ => false,
-    }
-}
-
-// Whether the process in a slot lives, and doesn't sleep.
-fn is_slot_runnable(machine: &Machine, slot: usize) -> bool
-    requires { IsSoundMachine machine.now }
-    ensures { result ≡ false → (p : ℕ) → HasSlot machine.now.world.turns p slot → ¬ IsRunnable machine.now.world p }
-{
-    match machine.pid_in(slot) {
-        Some(pid) => is_runnable(machine, pid),
-        None => false,
-    }
-}
-
-// Whether a process lives that doesn't sleep.
-fn is_any_runnable(machine: &Machine) -> bool
-    requires { IsSoundMachine machine.now }
-    ensures { result ≡ false → (p : ℕ) → ¬ IsRunnable machine.now.world p }
-{
-    for slot in 0..NPROC {
-        if is_slot_runnable(machine, slot) {
-            return true;
-        }
-    }
-    false
-}
+use xv_session::is_any_runnable;
 
 /// Whether Runs do something: a process runs, or may.
 pub fn may_run(machine: &Machine) -> bool

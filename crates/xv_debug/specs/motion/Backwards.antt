@@ -4,6 +4,7 @@ use Rattle.kernel_spec.specs.runs.Run.{Event, Run, Outcome}
 use Rattle.xv_machine.specs.Meaning.{Meaning}
 use Rattle.xv_machine.specs.Reached.{IsEvent}
 use Rattle.xv_session.specs.Answers.{WentBack}
+use Rattle.xv_session.specs.LastFound as found
 use Rattle.xv_session.specs.Recorded.{Recorded, IsPlayed}
 use Rattle.xv_debug.specs.motion.Aims.{meets}
 use Rattle.xv_debug.specs.declared.motion.aiming.Aim.{Aim}
@@ -40,10 +41,8 @@ abbrev pub LooksFrom : Aim → (begin : ℕ) → Recorded → (answer : Option �
 LooksFrom aim begin s answer = (to : Meaning) × LookedTo aim begin (length s.events - 1) s to answer
 
 -- It is the last place before here to which a Run led that is the aim; none is told only if all events were looked at
-pub record IsLast (aim : Aim) (s : Recorded) (answer : Option ℕ) : Type 0 where
-  pub begin : ℕ
-  pub looks : LooksFrom aim begin s answer
-  pub whole : answer ≡ None → begin ≡ 0
+abbrev pub IsLast : Aim → Recorded → (answer : Option ℕ) → Type 0
+IsLast aim s answer = found.IsLast (λ begin old new told. LooksFrom aim begin old told) s s answer
 
 -- It has gone back there; if there is none, it stays
 abbrev pub EndsAt : (answer : Option ℕ) → Recorded → Recorded → Type 0

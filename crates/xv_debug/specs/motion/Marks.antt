@@ -3,17 +3,16 @@ use Rattle.std.specs.Prelude.{ℕ, ◌&&◌, ◌||◌, Bool, false, List, Option
 use Rattle.std.specs.List.{list_any}
 use Rattle.kernel_spec.specs.runs.Run.{World, Outcome}
 use Rattle.kernel_spec.specs.views.Words.{is_this}
-use Rattle.kcall_core.specs.Observers.{registers_of}
 use Rattle.xv_session.specs.Names.{place_in}
-use Rattle.xv_session.specs.Until.{is_done, is_storing, pc_is}
+use Rattle.xv_session.specs.Until.{is_before, is_done, is_storing}
 use Rattle.xv_session.specs.declared.running.Running.{Running}
 use Rattle.debug_words.specs.declared.vocabulary.Mark.{Mark}
 use Rattle.debug_words.specs.declared.vocabulary.Mark.TheVariants.{At, Store}
 
--- process p runs the program at a place, and its next instruction stands at this address
+-- process p runs the program at a place, and stands before the instruction at this address: it is in no kernel call
 abbrev pub stands_in : (program pc : ℕ) → Running → Option ℕ → Bool
 stands_in program pc r None = false
-stands_in program pc r (Some p) = is_this program (place_in p r.names) && pc_is pc (registers_of r.machine.world.state p)
+stands_in program pc r (Some p) = is_this program (place_in p r.names) && is_before pc r.machine.world p
 
 -- so does the process that runs
 abbrev pub is_at : (program pc : ℕ) → Running → Bool

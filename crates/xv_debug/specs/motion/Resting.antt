@@ -2,6 +2,7 @@
 use Rattle.std.specs.Prelude.{◌≡◌, ◌≢◌, ◌⊎◌, ℕ, Bool, true, false, [], Option, None, Some, IsSome}
 use Rattle.kernel_spec.specs.runs.Run.{World}
 use Rattle.kernel_spec.specs.waking.Wakes.{IsRunnable}
+use Rattle.xv_session.specs.Resting.{NobodyMayRun}
 use Rattle.xv_report.specs.Waits.{wait_of}
 use Rattle.xv_report.specs.declared.waits.Wait.{Wait}
 use Rattle.xv_report.specs.declared.waits.Wait.TheVariants.{Until}
@@ -9,10 +10,6 @@ use Rattle.xv_debug.specs.motion.Plan.{Planned, key_due, later_keys}
 use Rattle.xv_debug.specs.declared.motion.clock.Round.{Round}
 use Rattle.xv_debug.specs.declared.motion.journey.Stop.{Stop}
 use Rattle.xv_debug.specs.declared.motion.journey.Stop.TheVariants.{Asleep, Halted}
-
--- No process lives that doesn't sleep
-abbrev pub NobodyMayRun : World → Type 0
-NobodyMayRun w = (p : ℕ) → ¬ IsRunnable w p
 
 -- A process runs; or the machine hasn't halted, and one may have its turn
 abbrev pub SomebodyMayGoOn : World → Type 0

@@ -1,5 +1,6 @@
 //! Going back to the last Run that was what is waited for.
-ghost use Rattle.std.specs.Prelude.{◌≡◌, ◌+◌, ◌-◌, ◌^◌, ◌≤◌, ◌<◌, IfOk, IfErr, drop, length, replicate, take};
+ghost use Rattle.std.proofs.Common.{◌∙◌};
+ghost use Rattle.std.specs.Prelude.{◌≡◌, ◌+◌, ◌-◌, ◌^◌, ◌≤◌, ◌<◌, IfOk, IfErr, drop, length, refl, replicate, take};
 ghost use Rattle.xv_machine.specs.Events.{event_of};
 ghost use Rattle.xv_session.specs.Answers.{IsUnplayedBy};
 ghost use Rattle.xv_debug.specs.motion.Backwards.{GoesBackUntil, IsLast, Looked, LookedAt, LooksFrom, is_run, later};
@@ -8,16 +9,7 @@ use crate::motion::aiming::{Aim, is_due, is_met};
 use crate::motion::pace::{Pace, STRETCH};
 use std::alloc::Global;
 use xv_machine::{Event, Machine};
-use xv_session::{Patience, PlayError, Session};
-
-/// How many events are looked at first.
-const FIRST_WINDOW: u64 = 1024;
-
-/// How many times as many each time.
-const WINDOW_GROWTH: u64 = 16;
-
-/// How often, before all events are looked at.
-const WINDOWS: u32 = 8;
+use xv_session::{LooksBack, Patience, PlayError, Session, last_before_here};
 
 /// Whether an event is a Run.
 pub(crate) fn is_run(event: Event) -> bool
@@ -118,7 +110,50 @@ fn last_from<P: Patience>(
     Ok(found)
 }
 
-/// The last place before here to which a Run led that is the aim. It is looked for from ever further back on.
+/// Who looks at the Runs of a session but the last.
+#[derive(Drop)]
+struct Looker<'a> {
+    session: &'a Session,
+}
+
+impl<'a> LooksBack for Looker<'a> {
+    type Goal = Aim;
+
+    type Found = u64;
+
+    type Refusal = PlayError;
+
+    ghost places = { λ l. length l.session.now.events - 1 };
+
+    ghost looked = { λ aim begin old new found. LooksFrom aim begin old.session.now found };
+
+    ghost stays = { λ old new. new ≡ old };
+
+    ghost refuses = { λ may_end error. IsUnplayedBy may_end error };
+
+    fn places(&self) -> u64 {
+        self.session.at().saturating_sub(1)
+    }
+
+    fn look_from<P: Patience>(
+        &mut self,
+        alloc: Global,
+        goal: &Aim,
+        begin: u64,
+        patience: &mut P,
+    ) -> Result<Option<u64>, PlayError> {
+        let end = self.places();
+        last_from(alloc, self.session, goal, begin, end, patience)
+    }
+
+    ghost stays_first = { λ a. refl };
+
+    ghost stays_on = { λ a b c first second. second ∙ first };
+
+    ghost looked_again = { λ aim before begin a b c found vain looks. looks };
+}
+
+/// The last place before here to which a Run led that is the aim.
 fn last_place<P: Patience>(
     alloc: Global,
     session: &Session,
@@ -128,20 +163,8 @@ fn last_place<P: Patience>(
     ensures last { IfOk result (IsLast aim.now session.now) }
     ensures unplayed { IfErr result (IsUnplayedBy P.may_end) }
 {
-    let end = session.at().saturating_sub(1);
-    let mut window = FIRST_WINDOW;
-    for _ in 0..WINDOWS {
-        let begin = end.saturating_sub(window);
-        let found = last_from(alloc, session, aim, begin, end, patience)?;
-        if found.is_some() || begin == 0 {
-            return Ok(found);
-        }
-        if patience.is_over() {
-            return Err(PlayError::Broken);
-        }
-        window = window.saturating_mul(WINDOW_GROWTH);
-    }
-    last_from(alloc, session, aim, 0, end, patience)
+    let mut looker = Looker { session };
+    last_before_here(&mut looker, alloc, aim, patience)
 }
 
 /// Goes back to the last place before here to which a Run led that is the aim. The answer is how many events that took

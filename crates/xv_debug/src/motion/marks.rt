@@ -9,7 +9,7 @@ ghost use Rattle.xv_debug.specs.motion.Marks.{is_any_due, is_at_mark, is_store_d
 
 use debug_words::Mark;
 use xv_machine::{Machine, Outcome};
-use xv_session::{Condition, Session};
+use xv_session::{Condition, Session, is_before};
 
 /// Whether a mark waits for the store that the process which runs is about to make.
 pub(crate) fn is_store_due(machine: &Machine, mark: &Mark) -> bool
@@ -29,7 +29,7 @@ pub(crate) fn is_any_due(session: &Session, marks: &[Mark]) -> bool
     marks.iter().any(|mark| is_store_due(machine, mark))
 }
 
-/// Whether the process that runs runs the program at a place, and its next instruction stands at this address.
+/// Whether the process that runs runs the program at a place, and stands before the instruction at this address.
 fn is_at(session: &Session, program: usize, address: u64) -> bool
     ensures { result ≡ meant.is_at program address (running_of session.now) }
 {
@@ -42,10 +42,7 @@ fn is_at(session: &Session, program: usize, address: u64) -> bool
     if place != program {
         return false;
     }
-    match session.machine().registers(pid) {
-        Some(regs) => regs.pc() == address,
-        None => false,
-    }
+    is_before(session.machine(), pid, address)
 }
 
 /// Whether the process that runs stands at a mark.
