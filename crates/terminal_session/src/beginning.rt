@@ -1,4 +1,11 @@
 //! A session, from the files to its end.
+ghost use Rattle.std.specs.Prelude.{◌≡◌, ◌⊎◌, true, IfOk, map, option_map};
+ghost use Rattle.kernel_spec.specs.views.State.{named_file};
+ghost use Rattle.xv_session.specs.Answers.{IsNew};
+ghost use Rattle.terminal_session.specs.Asked.{Came, EndsSo, IsStatusOf, LivedAsked, PlayedAsked, PlayedOf};
+ghost use Rattle.terminal_session.specs.Stretches.{Lives};
+ghost use Rattle.terminal_session.specs.Tells.{Tells};
+
 use crate::NAME;
 use crate::conversing::{live, replay};
 use crate::first_screen::FirstScreen;
@@ -29,7 +36,9 @@ fn boot(
     frames: u32,
     trace: u32,
     programs: Vec<Program>,
-) -> Result<Session, BootError> {
+) -> Result<Session, BootError>
+    ensures { IfOk result (IsNew frames trace (map named_file programs.items)) }
+{
     Session::boot(alloc, Config { frames, trace }, programs)
 }
 
@@ -52,7 +61,9 @@ fn attend_to<W: ByteSink, E: Write>(
     settings: &Settings,
     recorder: &mut Recorder<HostFile>,
     screen: &mut Screen<W, Notes<E>>,
-) -> u8 {
+) -> u8
+    ensures { Tells (Lives true debugger.old.plan session.old session.new (W.sink screen.old.sink).held (W.sink screen.new.sink).held) result session.new }
+{
     if settings.terminal && !settings.apart {
         let programs = session.machine().programs();
         screen.teller.write_note(FirstScreen { programs });
@@ -88,7 +99,9 @@ fn begin_recording<E: Write>(
 }
 
 // The exit status of a session: that of its end, or that its record couldn't be written.
-fn status_with(status: u8, recorder: &Recorder<HostFile>) -> u8 {
+fn status_with(status: u8, recorder: &Recorder<HostFile>) -> u8
+    ensures { (result ≡ status) ⊎ (result ≡ 5) }
+{
     match recorder.failure {
         Some(_) => DEVICE_FAILED,
         None => status,
@@ -103,7 +116,9 @@ fn go_through<'a>(
     debugger: &mut Debugger,
     settings: &'a Settings,
     record: Option<&Record>,
-) -> Result<u8, Failure<'a>> {
+) -> Result<u8, Failure<'a>>
+    ensures { IfOk result (EndsSo debugger.old.plan (option_map (λ r. r.now) record.entry) session.old session.new) }
+{
     let file = record_file(rt, settings)?;
     let notes = Notes {
         errors: rt.stderr(),
@@ -127,32 +142,28 @@ fn go_through<'a>(
     Ok(status_with(status, &recorder))
 }
 
-// Boots the machine that the settings ask for, and attends to it, or plays the record that is asked for.
-fn begin<'a>(
-    rt: &HostRuntime,
-    settings: &'a Settings,
-    asked: Option<Replay<'a>>,
-) -> Result<u8, Failure<'a>> {
+// Boots the machine that the settings ask for, and attends to it.
+fn live_files<'a>(rt: &HostRuntime, settings: &'a Settings) -> Result<u8, Failure<'a>>
+    ensures { IfOk result (LivedAsked settings.now) }
+{
     let files = settings.files.as_slice();
     let made = programs(rt, files)?;
-    let Some(asked) = asked else {
-        let table = line_table(rt, &settings.lines)?;
-        let sources = Sources::of_files(rt, files, made.lines, table.as_str())?;
-        let mut debugger = Debugger::with_sources(sources);
-        let mut session = boot(rt.alloc(), settings.frames, settings.trace, made.programs)?;
-        return go_through(rt, &mut session, &mut debugger, settings, None);
-    };
-    let record = record_of(rt, NAME, &asked)?;
-    begin_record(rt, settings, made.programs.as_slice(), &record)
+    let table = line_table(rt, &settings.lines)?;
+    let sources = Sources::of_files(rt, files, made.lines, table.as_str())?;
+    let mut debugger = Debugger::with_sources(sources);
+    let mut session = boot(rt.alloc(), settings.frames, settings.trace, made.programs)?;
+    go_through(rt, &mut session, &mut debugger, settings, None)
 }
 
-// Boots the machine that was recorded, and plays its record.
-fn begin_record<'a>(
+// Boots the machine that was recorded, with those of these programs that the record names, and plays its record.
+fn play_record<'a>(
     rt: &HostRuntime,
     settings: &'a Settings,
     programs: &[Program],
     record: &Record,
-) -> Result<u8, Failure<'a>> {
+) -> Result<u8, Failure<'a>>
+    ensures { IfOk result (PlayedOf settings.now.trace programs.now record.now) }
+{
     let programs = recorded_programs(rt.alloc(), programs, record)?;
     let mut session = boot(rt.alloc(), record.frames, settings.trace, programs)?;
     go_through(
@@ -164,14 +175,46 @@ fn begin_record<'a>(
     )
 }
 
-/// Does what the settings ask for, and gives the exit status.
-pub fn run(rt: &HostRuntime, settings: &Settings) -> u8 {
-    let asked = match settings.replay.replay() {
-        Ok(asked) => asked,
-        Err(refusal) => return refusal.close(NAME, &mut rt.stderr()),
-    };
-    match begin(rt, settings, asked) {
+// Plays the record that is asked for, with programs of the FILEs.
+fn play_files<'a>(
+    rt: &HostRuntime,
+    settings: &'a Settings,
+    asked: Replay<'a>,
+) -> Result<u8, Failure<'a>>
+    ensures { IfOk result (PlayedAsked settings.now asked.entry) }
+{
+    let made = programs(rt, settings.files.as_slice())?;
+    let record = record_of(rt, NAME, &asked)?;
+    play_record(rt, settings, made.programs.as_slice(), &record)
+}
+
+// Attends to the machine that the settings ask for, if it can be had, and gives the exit status.
+fn live_asked(rt: &HostRuntime, settings: &Settings) -> u8
+    ensures { Came result (LivedAsked settings.now result) }
+{
+    match live_files(rt, settings) {
         Ok(status) => status,
         Err(failure) => failure.close(NAME, &mut rt.stderr()),
+    }
+}
+
+// Plays the record that is asked for, if it can be had, and gives the exit status.
+fn play_asked<'a>(rt: &HostRuntime, settings: &'a Settings, asked: Replay<'a>) -> u8
+    ensures { Came result (PlayedAsked settings.now asked.entry result) }
+{
+    match play_files(rt, settings, asked) {
+        Ok(status) => status,
+        Err(failure) => failure.close(NAME, &mut rt.stderr()),
+    }
+}
+
+/// Does what the settings ask for, and gives the exit status.
+pub fn run(rt: &HostRuntime, settings: &Settings) -> u8
+    ensures { IsStatusOf settings.now result }
+{
+    match settings.replay.replay() {
+        Ok(Some(asked)) => play_asked(rt, settings, asked),
+        Ok(None) => live_asked(rt, settings),
+        Err(refusal) => refusal.close(NAME, &mut rt.stderr()),
     }
 }

@@ -7,6 +7,7 @@
 ghost use Rattle.std.specs.Prelude.{◌≡◌, [], IfOk, map};
 ghost use Rattle.program_files.specs.Statuses.{IsPlainStatus};
 ghost use Rattle.xv_record.specs.Told.{program_told, told_program};
+ghost use Rattle.terminal_session.specs.Asked.{Conversed, IsDebugStatus, IsDebugStatusOfWords};
 ghost use Rattle.terminal_session.specs.Begun.{IsBegunBy, IsFollowed, IsFollowedIf, IsOfRecord};
 ghost use Rattle.terminal_session.specs.DebugSettings.{IsPlanOf};
 
@@ -188,7 +189,9 @@ fn converse<'a>(
     rt: &HostRuntime,
     settings: &'a Settings,
     asked: Option<Replay<'a>>,
-) -> Result<(), Failure<'a>> {
+) -> Result<(), Failure<'a>>
+    ensures { IfOk result (λ _. Conversed settings.now asked.entry) }
+{
     let record = record_asked(rt, asked)?;
     let mut conversation = begun(rt, settings, record)?;
     tell_played(
@@ -202,7 +205,8 @@ fn converse<'a>(
 
 /// Does what the settings say, and gives the exit status.
 fn debug(rt: &HostRuntime, settings: &Settings) -> u8
-    ensures { IsPlainStatus result }
+    ensures status { IsPlainStatus result }
+    ensures says { IsDebugStatus settings.now result }
 {
     let asked = match settings.replay.replay() {
         Ok(asked) => asked,
@@ -216,7 +220,8 @@ fn debug(rt: &HostRuntime, settings: &Settings) -> u8
 
 /// Debugs the programs that the words of a command line name, by the words of standard input, and gives the exit status.
 pub fn debug_by_words<W: Env + AllocGlobal>(rt: &HostRuntime, words: &W) -> u8
-    ensures { IsPlainStatus result }
+    ensures status { IsPlainStatus result }
+    ensures says { IsDebugStatusOfWords result }
 {
     match read_settings(words) {
         Ok(settings) => debug(rt, &settings),

@@ -101,8 +101,13 @@ fn ended(byte: u8, digit: u8) -> Option<Key> {
 }
 
 impl Keys {
+    ghost use Rattle.std.specs.Prelude.{◌≡◌};
+    ghost use Rattle.terminal_session.specs.declared.keys.Sequence.TheVariants as sequences;
+
     /// None has come.
-    pub fn new() -> Keys {
+    pub fn new() -> Keys
+        ensures { result.sequence ≡ sequences.None }
+    {
         Keys {
             sequence: Sequence::None,
         }

@@ -1,4 +1,5 @@
 //! What is told of the processes, beside what the machine sends.
+ghost use Rattle.std.specs.Prelude.{◌≡◌};
 ghost use Rattle.xv_live.specs.Keeps.{GoesOn, IsKept};
 
 use crate::NAME;
@@ -37,7 +38,9 @@ fn process_above(machine: &Machine, number: u32) -> Option<Pid> {
 }
 
 /// Tells the processes, a line each, by rising pids: pid, name, state, and what it waits for.
-pub fn tell_all<E: Write>(session: &Session, notes: &mut Notes<E>) {
+pub fn tell_all<E: Write>(session: &Session, notes: &mut Notes<E>)
+    ensures { notes.new ≡ record notes.old { errors = notes.new.errors } }
+{
     let mut above = 0;
     for _ in 0..NPROC {
         let Some(pid) = process_above(session.machine(), above) else {
@@ -49,7 +52,9 @@ pub fn tell_all<E: Write>(session: &Session, notes: &mut Notes<E>) {
 }
 
 /// Tells why each process doesn't go on that hasn't ended, a line each, by rising pids.
-pub fn tell_waits<E: Write>(session: &Session, notes: &mut Notes<E>) {
+pub fn tell_waits<E: Write>(session: &Session, notes: &mut Notes<E>)
+    ensures { notes.new ≡ record notes.old { errors = notes.new.errors } }
+{
     let mut above = 0;
     for _ in 0..NPROC {
         let Some(pid) = process_above(session.machine(), above) else {

@@ -6,7 +6,7 @@ pub mod Conversed
 pub mod Displayed
 pub mod FrameLines
 pub mod HeldEnds
-pub mod Left
+pub mod LineObeyed
 pub mod Looking
 pub mod PipeBytes
 pub mod Played
@@ -25,4 +25,5 @@ mod WorkedChosen
 mod WorkedClock
 mod WorkedDisplays
 mod WorkedMarks
+mod WorkedObeyed
 mod WorkedReasons

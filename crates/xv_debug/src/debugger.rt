@@ -2,6 +2,7 @@
 ghost use Rattle.std.specs.Prelude.{◌≡◌, ◌++◌, OnOk, string_bytes};
 ghost use Rattle.xv_debug.specs.Effects.{next_of};
 ghost use Rattle.xv_debug.specs.Kept.{goes_on, marks_after};
+ghost use Rattle.xv_debug.specs.Obeyed.{goes_by_plan, may_leave, sends_by_hand};
 ghost use Rattle.xv_debug.specs.StopText.{never, no_return};
 
 use crate::callers::told_calls;
@@ -113,7 +114,9 @@ fn goes_on(word: &Word) -> bool
 }
 
 /// Whether it is a word that goes on by the plan.
-fn goes_by_plan(word: &Word) -> bool {
+fn goes_by_plan(word: &Word) -> bool
+    ensures { result ≡ goes_by_plan word.now }
+{
     match word {
         Word::Next
         | Word::Until(_)
@@ -126,11 +129,20 @@ fn goes_by_plan(word: &Word) -> bool {
 }
 
 /// Whether it is a word that sends the events that it names.
-fn sends_by_hand(word: &Word) -> bool {
+fn sends_by_hand(word: &Word) -> bool
+    ensures { result ≡ sends_by_hand word.now }
+{
     match word {
         Word::Tick { .. } | Word::Send { .. } | Word::Key(_) => true,
         _ => false,
     }
+}
+
+/// Whether it is a word that may leave a record.
+fn may_leave(word: &Word) -> bool
+    ensures { result ≡ may_leave word.now }
+{
+    goes_by_plan(word) || sends_by_hand(word)
 }
 
 /// Writes what a word does; of no word a line for each, and for each of those that ask of calls and variables.
@@ -210,12 +222,14 @@ impl Debugger {
     ghost use Rattle.xv_debug.specs.AnswerText.{Answers, BackTells, BackUntilTells, FinishTells, GoalTells, GoesOnTells, GotoTells, IsBackText};
     ghost use Rattle.xv_debug.specs.AnswerText.{IsSentText, PlaysOnTell, RoundsTell, SearchTells, SearchTellsWithin, SeekBackTells, SendsTell, StepTells, StepsOnTell};
     ghost use Rattle.xv_debug.specs.Effects.{Does, DoesOrStays, DoesSome, Finishes, GoesBack, GoesOn, GoesTo, IsAimOf, Obeys, Plays, PlaysOn, Searches, SearchesGoal, SearchesWithin, SeeksBack, SendsFirst, Steps, StepsOn, next_of};
-    ghost use Rattle.xv_debug.specs.Kept.{IsToMarks, goes_to_none, left_after, marks_of};
+    ghost use Rattle.xv_debug.specs.Kept.{IsToMarks, goes_to_none, left_after, marks_after, marks_of};
     ghost use Rattle.xv_debug.specs.LookText.{IsOfFocus, Shows};
-    ghost use Rattle.xv_debug.specs.CallWords.{LeavesChosen, TellsOfCalls};
+    ghost use Rattle.xv_debug.specs.CallWords.{TellsOfCalls, TellsOfDisplays};
     ghost use Rattle.xv_debug.specs.Chosen.{Chooses, left};
     ghost use Rattle.xv_debug.specs.Displays.{displays_after, displays_by};
-    ghost use Rattle.xv_debug.specs.ToldOfC.{AreDisplaysTold, IsDisplayTold, IsLineRead, IsLineTold, IsToldOf, ShowsIfMoved, ShowsRead, TellsOfC};
+    ghost use Rattle.xv_debug.specs.Obeyed.{AnswersMarked, AnswersWord, IsApart, IsOffText, ObeysLine, goes_to_marks};
+    ghost use Rattle.xv_debug.specs.ToldOfC.{AreDisplaysTold, IsDisplayTold, IsLineRead, IsLineTold, IsToldOf, ShowsIfMoved, ShowsRead, TellsAdded, TellsDisplay, TellsOfC};
+    ghost use Rattle.xv_debug.specs.motion.Clock.{HasAhead};
     ghost use Rattle.xv_debug.specs.Focus.{IsSourceLookedAt};
     ghost use Rattle.xv_report.specs.Locations.{IsSourceOf};
     ghost use Rattle.xv_debug.specs.OutputText.{output_text};
@@ -322,15 +336,17 @@ impl Debugger {
         answer: &mut String,
     ) -> Result<Next, AllocError>
         ensures done { IfOk result (λ next. Obeys P.may_end self.old.plan session.old session.new next) }
-        ensures chosen { IfOk result (λ _. LeavesChosen self.old.sources line.now session.old (length session.old.events) (length session.new.events) self.old.chosen self.new.chosen) }
+        ensures told { IfOk result
+            (ObeysLine P.may_end line.now self.old self.new session.old session.new
+            (string_bytes answer.old) (string_bytes answer.new)) }
         ensures failed { IfErr result (λ _. (session.new ≡ session.old) ⊎ DoesSome P.may_end self.old.plan session.old session.new) }
         ensures plan { self.new.plan ≡ self.old.plan }
     {
         if self.tells_of_calls(alloc, session, line, answer)? {
-            return self.answer_marked(alloc, session, Word::Nothing, patience, answer);
+            return Ok(Next::Stays);
         }
         if self.tells_of_c(alloc, session, line, answer)? {
-            return self.answer_marked(alloc, session, Word::Nothing, patience, answer);
+            return Ok(Next::Stays);
         }
         match self.read(session, line) {
             Ok(word) => self.answer_displayed(alloc, session, word, patience, answer),
@@ -350,7 +366,7 @@ impl Debugger {
         line: &str,
         answer: &mut String,
     ) -> Result<bool, AllocError>
-        ensures told { IfOk result (TellsOfCalls self.old.sources line.now session.now self.old.chosen self.new.chosen self.old.displays self.new.displays) }
+        ensures told { IfOk result (TellsOfCalls self.old self.new line.now session.now (string_bytes answer.old) (string_bytes answer.new)) }
         ensures sources { self.new.sources ≡ self.old.sources }
         ensures plan { self.new.plan ≡ self.old.plan }
     {
@@ -377,6 +393,8 @@ impl Debugger {
     ) -> Result<(), AllocError>
         ensures chosen { OnOk result (Chooses self.old.sources word session.now self.old.chosen self.new.chosen) }
         ensures displays { self.new.displays.kept.items ≡ displays_by word self.old.displays }
+        ensures told { OnOk result (TellsOfDisplays self.old word session.now (string_bytes answer.old) (string_bytes answer.new)) }
+        ensures rest { self.new ≡ record self.old { chosen = self.new.chosen; displays = self.new.displays } }
         ensures sources { self.new.sources ≡ self.old.sources }
         ensures plan { self.new.plan ≡ self.old.plan }
     {
@@ -471,6 +489,56 @@ impl Debugger {
         Word::ToMark(self.marks.marks())
     }
 
+    /// Whether a word may leave the record, and the record has an event for the place where the run is.
+    fn is_along(&self, session: &Session, word: &Word) -> bool
+        ensures some { result ≡ true → HasAhead self.now.plan.recorded session.now.events }
+        ensures none { result ≡ false → IsApart self.now.plan.recorded word.now session.now }
+    {
+        if !may_leave(word) {
+            return false;
+        }
+        self.plan.has_ahead(session)
+    }
+
+    /// Writes that the run isn't on its record any more, if it was on it before a word that may leave it.
+    fn tell_off(
+        &self,
+        session: &Session,
+        along: bool,
+        by_plan: bool,
+        answer: &mut String,
+    ) -> Result<(), AllocError>
+        ensures { OnOk result
+            (Writes (string_bytes answer.old) (string_bytes answer.new)
+            (IsOffText self.now.plan.recorded along by_plan session.now)) }
+    {
+        if !along {
+            return Ok(());
+        }
+        if self.plan.is_followed(session) {
+            return Ok(());
+        }
+        show_off(by_plan, self.plan.recorded(), answer)
+    }
+
+    /// Writes what is shown after each word that moves the session, if the run is at another place than after so many events.
+    fn show_if_moved(
+        &self,
+        alloc: Global,
+        session: &Session,
+        at: u64,
+        answer: &mut String,
+    ) -> Result<(), AllocError>
+        ensures { OnOk result
+            (ShowsIfMoved self.now.sources self.now.chosen at session.now self.now.displays.kept.items
+            (string_bytes answer.old) (string_bytes answer.new)) }
+    {
+        if session.at() != at {
+            return self.show_displays(alloc, session, answer);
+        }
+        Ok(())
+    }
+
     /// Does what a word of a line asks for, and writes its answer; if the run isn't on the record any more, that; and if it is
     /// at another place, what is shown after each word that moves it, too.
     fn answer_displayed<P: Patience>(
@@ -482,7 +550,9 @@ impl Debugger {
         answer: &mut String,
     ) -> Result<Next, AllocError>
         requires { IsInRange word }
-        ensures shown { OnOk result (ShowsIfMoved self.new.sources self.new.chosen (length session.old.events) session.new self.new.displays.kept.items (string_bytes answer.new)) }
+        ensures told { IfOk result
+            (AnswersWord P.may_end word self.old self.new session.old session.new
+            (string_bytes answer.old) (string_bytes answer.new)) }
         ensures done { IfOk result (λ next. Obeys P.may_end self.old.plan session.old session.new next) }
         ensures chosen { self.new.chosen ≡ left (length session.old.events) (length session.new.events) self.old.chosen }
         ensures failed { IfErr result (λ _. (session.new ≡ session.old) ⊎ DoesSome P.may_end self.old.plan session.old session.new) }
@@ -490,14 +560,10 @@ impl Debugger {
     {
         let at = session.at();
         let by_plan = goes_by_plan(&word);
-        let along = (by_plan || sends_by_hand(&word)) && self.plan.has_ahead(session);
+        let along = self.is_along(session, &word);
         let next = self.answer_marked(alloc, session, word, patience, answer)?;
-        if along && !self.plan.is_followed(session) {
-            show_off(by_plan, self.plan.recorded(), answer)?;
-        }
-        if session.at() != at {
-            self.show_displays(alloc, session, answer)?;
-        }
+        self.tell_off(session, along, by_plan, answer)?;
+        self.show_if_moved(alloc, session, at, answer)?;
         Ok(next)
     }
 
@@ -512,6 +578,9 @@ impl Debugger {
         answer: &mut String,
     ) -> Result<Next, AllocError>
         requires { IsInRange word }
+        ensures told { IfOk result
+            (AnswersMarked P.may_end word self.old self.new session.old session.new
+            (string_bytes answer.old) (string_bytes answer.new)) }
         ensures done { IfOk result (λ next. Obeys P.may_end self.old.plan session.old session.new next) }
         ensures chosen { self.new.chosen ≡ left (length session.old.events) (length session.new.events) self.old.chosen }
         ensures failed { IfErr result (λ _. (session.new ≡ session.old) ⊎ DoesSome P.may_end self.old.plan session.old session.new) }
@@ -521,31 +590,32 @@ impl Debugger {
         let at = session.at();
         let chosen = self.chosen;
         let next = self.obey_word(alloc, session, &word, patience, answer);
-        let told = self.tell_met(alloc, session, &word, answer);
+        let met = self.told_met(alloc, session, &word);
         self.forget_met(session, &word);
         self.chosen = chosen.left(at, session.at());
         let next = next?;
-        told?;
+        let met = met?;
+        put_text(met.as_str(), answer)?;
         Ok(next)
     }
 
-    /// Writes which marks are met where the session is, after the word that goes on to them.
-    fn tell_met(
-        &self,
-        alloc: Global,
-        session: &Session,
-        word: &Word,
-        answer: &mut String,
-    ) -> Result<(), AllocError> {
-        match word {
-            Word::ToMark(_) => self.marks.show_met(alloc, session, answer),
-            _ => Ok(()),
-        }
+    /// What is told of the marks that are met where the session is, after the word that goes on to them; nothing after any
+    /// other.
+    fn told_met(&self, alloc: Global, session: &Session, word: &Word) -> Result<String, AllocError>
+        ensures { IfOk result (λ met. goes_to_marks word.now ≡ false → string_bytes met ≡ []) }
+    {
+        let mut met = String::new(alloc);
+        let Word::ToMark(_) = word else {
+            return Ok(met);
+        };
+        self.marks.show_met(alloc, session, &mut met)?;
+        Ok(met)
     }
 
     /// Forgets the marks for once that are met where the session is, after the word that goes on to them.
     fn forget_met(&mut self, session: &Session, word: &Word)
         ensures marks { self.new.marks.kept.items ≡ left_after (running_of session.now) word.now self.old.marks.kept.items }
+        ensures rest { self.new ≡ record self.old { marks = self.new.marks } }
         ensures plan { self.new.plan ≡ self.old.plan }
     {
         if let Word::ToMark(_) = word {
@@ -563,8 +633,15 @@ impl Debugger {
         answer: &mut String,
     ) -> Result<Next, AllocError>
         requires { IsInRange word.now }
+        ensures does { IfOk result (λ _. Does P.may_end self.old.plan word.now session.old session.new) }
+        ensures next { IfOk result (λ next. next ≡ next_of word.now) }
+        ensures told { OnOk result
+            (Answers self.old.sources P.may_end self.old.plan self.old.shown word.now session.old session.new
+            (string_bytes answer.old) (string_bytes answer.new)) }
         ensures done { IfOk result (λ next. Obeys P.may_end self.old.plan session.old session.new next) }
         ensures failed { IfErr result (λ _. (session.new ≡ session.old) ⊎ DoesSome P.may_end self.old.plan session.old session.new) }
+        ensures marks { self.new.marks.kept.items ≡ marks_after word.now self.old.marks }
+        ensures rest { self.new ≡ record self.old { shown = self.new.shown; marks = self.new.marks } }
         ensures plan { self.new.plan ≡ self.old.plan }
     {
         self.answer(alloc, session, word, patience, answer)
@@ -589,6 +666,8 @@ impl Debugger {
             (Answers self.old.sources P.may_end self.old.plan self.old.shown word.now session.old session.new
             (string_bytes answer.old) (string_bytes answer.new)) }
         ensures failed { IfErr result (λ _. DoesOrStays P.may_end self.old.plan word.now session.old session.new) }
+        ensures marks { self.new.marks.kept.items ≡ marks_after word.now self.old.marks }
+        ensures rest { self.new ≡ record self.old { shown = self.new.shown; marks = self.new.marks } }
         ensures plan { self.new.plan ≡ self.old.plan }
     {
         self.act(alloc, session, word, patience, answer)?;
@@ -609,6 +688,8 @@ impl Debugger {
             (Answers self.old.sources P.may_end self.old.plan self.old.shown word.now session.old session.new
             (string_bytes answer.old) (string_bytes answer.new)) }
         ensures failed { IfErr result (λ _. DoesOrStays P.may_end self.old.plan word.now session.old session.new) }
+        ensures marks { self.new.marks.kept.items ≡ marks_after word.now self.old.marks }
+        ensures rest { self.new ≡ record self.old { shown = self.new.shown; marks = self.new.marks } }
         ensures plan { self.new.plan ≡ self.old.plan }
     {
         match word {
@@ -1147,6 +1228,8 @@ impl Debugger {
         ensures shows { OnOk result
             (Shows self.old.shown session.now word.now
             (string_bytes answer.old) (string_bytes answer.new)) }
+        ensures marks { self.new.marks.kept.items ≡ marks_after word.now self.old.marks }
+        ensures rest { self.new ≡ record self.old { shown = self.new.shown; marks = self.new.marks } }
         ensures plan { self.new.plan ≡ self.old.plan }
     {
         match word {
@@ -1200,6 +1283,10 @@ impl Debugger {
         answer: &mut String,
     ) -> Result<(), AllocError>
         ensures kept { self.new.displays.kept.items ≡ displays_after display self.old.displays }
+        ensures told { OnOk result
+            (TellsDisplay self.old.sources self.old.chosen session.now display self.old.displays
+            (string_bytes answer.old) (string_bytes answer.new)) }
+        ensures rest { self.new ≡ record self.old { displays = self.new.displays } }
         ensures chosen { self.new.chosen ≡ self.old.chosen }
         ensures sources { self.new.sources ≡ self.old.sources }
         ensures plan { self.new.plan ≡ self.old.plan }
@@ -1207,28 +1294,29 @@ impl Debugger {
         match display {
             Display::Show => self.show_displays(alloc, session, answer),
             Display::Add(line) => {
-                let has_room = self.displays.add(line);
-                self.show_last_display(alloc, session, has_room, answer)
+                let added = self.displays.add(line);
+                self.show_added(alloc, session, &added, answer)
             }
             Display::Forget { number } => self.displays.delete(number, answer),
             Display::List => show_kept(&self.displays, answer),
         }
     }
 
-    /// Writes what the line tells that was given last to be shown again and again, or that there was no room for it.
-    fn show_last_display(
+    /// Writes what a line tells that was added to those that are shown again and again, or that there was no room for it.
+    fn show_added(
         &self,
         alloc: Global,
         session: &Session,
-        has_room: bool,
+        added: &Option<Displayed>,
         answer: &mut String,
-    ) -> Result<(), AllocError> {
-        if !has_room {
-            return answer.push_str("there are 20 displays, and no more: undisplay ends them\n");
-        }
-        match self.displays.as_slice().last() {
+    ) -> Result<(), AllocError>
+        ensures { OnOk result
+            (TellsAdded self.now.sources self.now.chosen session.now added.now
+            (string_bytes answer.old) (string_bytes answer.new)) }
+    {
+        match added {
             Some(displayed) => self.show_displayed(alloc, session, displayed, answer),
-            None => Ok(()),
+            None => answer.push_str("there are 20 displays, and no more: undisplay ends them\n"),
         }
     }
 
@@ -1385,6 +1473,7 @@ impl Debugger {
             (Writes (string_bytes answer.old) (string_bytes answer.new)
             (IsOfFocus session.now named
             (λ p text. text ≡ memory_shown session.now p (unwrap_or address self.old.shown) count))) }
+        ensures rest { self.new ≡ record self.old { shown = self.new.shown } }
         ensures plan { self.new.plan ≡ self.old.plan }
     {
         let Some(pid) = focus(session, named) else {

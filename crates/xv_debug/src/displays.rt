@@ -1,5 +1,7 @@
 //! What is shown again and again: lines that are obeyed after each word that moves the session (Debugging with GDB,
-//! "Automatic Display"). How they are told, no contract says.
+//! "Automatic Display").
+ghost use Rattle.std.specs.Prelude.{◌≡◌, ◌++◌, OnOk, flat_map, string_bytes};
+ghost use Rattle.xv_debug.specs.Displays.{line_text, list_text};
 
 use crate::frame_words::DisplayLine;
 use arrayvec::ArrayVec;
@@ -26,9 +28,8 @@ pub(crate) struct KeptDisplays {
 }
 
 impl KeptDisplays {
-    ghost use Rattle.std.specs.Prelude.{◌≡◌, [], length, nat_lt};
-    ghost use Rattle.xv_debug.specs.Displays.{kept_after, left_without, made_after};
-    ghost use Rattle.xv_debug.specs.declared.displays.TheConstants.{DISPLAYS_MOST};
+    ghost use Rattle.std.specs.Prelude.{◌≡◌, ◌++◌, [], OnOk, string_bytes};
+    ghost use Rattle.xv_debug.specs.Displays.{added, forgotten_text, kept_after, left_without, made_after};
 
     /// None yet.
     pub fn new() -> KeptDisplays
@@ -47,18 +48,19 @@ impl KeptDisplays {
         self.kept.as_slice()
     }
 
-    /// Keeps a line from now on; `false` if there are as many as may be.
-    pub fn add(&mut self, line: DisplayLine) -> bool
+    /// Keeps a line from now on, and gives it with its number; `None` if there are as many as may be.
+    pub fn add(&mut self, line: DisplayLine) -> Option<Displayed>
         ensures kept { self.new.kept.items ≡ kept_after self.old line }
-        ensures room { result ≡ nat_lt (length self.old.kept.items) DISPLAYS_MOST }
+        ensures added { result ≡ added self.old line }
         ensures made { self.new.made ≡ made_after self.old }
     {
         let number = self.made.saturating_add(1);
-        let Ok(()) = self.kept.try_push(Displayed { number, line }) else {
-            return false;
+        let displayed = Displayed { number, line };
+        let Ok(()) = self.kept.try_push(displayed) else {
+            return None;
         };
         self.made = number;
-        true
+        Some(displayed)
     }
 
     /// Forgets the line of this number, or all.
@@ -73,7 +75,8 @@ impl KeptDisplays {
 
     /// Forgets the line of this number, or all; tells if there is none.
     pub fn delete(&mut self, number: Option<u32>, answer: &mut String) -> Result<(), AllocError>
-        ensures { self.new.kept.items ≡ left_without number self.old.kept.items }
+        ensures kept { self.new.kept.items ≡ left_without number self.old.kept.items }
+        ensures told { OnOk result (string_bytes answer.new ≡ string_bytes answer.old ++ forgotten_text number self.old.kept.items) }
     {
         let count = self.kept.len();
         self.forget(number);
@@ -85,15 +88,31 @@ impl KeptDisplays {
     }
 }
 
+/// Writes a line that is obeyed again and again, behind its number.
+fn show_one(displayed: &Displayed, answer: &mut String) -> Result<(), AllocError>
+    ensures { OnOk result (string_bytes answer.new ≡ string_bytes answer.old ++ line_text displayed.now) }
+{
+    let number = displayed.number;
+    let line = displayed.line.as_str();
+    writeln!(answer, "{number}: {line}")
+}
+
+/// Writes these lines, each behind its number.
+fn show_each(displays: &[Displayed], answer: &mut String) -> Result<(), AllocError>
+    ensures { OnOk result (string_bytes answer.new ≡ string_bytes answer.old ++ flat_map line_text displays.now) }
+{
+    for displayed in displays {
+        show_one(displayed, answer)?;
+    }
+    Ok(())
+}
+
 /// Writes which lines are obeyed again and again.
-pub(crate) fn show_kept(displays: &KeptDisplays, answer: &mut String) -> Result<(), AllocError> {
+pub(crate) fn show_kept(displays: &KeptDisplays, answer: &mut String) -> Result<(), AllocError>
+    ensures { OnOk result (string_bytes answer.new ≡ string_bytes answer.old ++ list_text displays.now.kept.items) }
+{
     if displays.as_slice().is_empty() {
         return answer.push_str("there is no display\n");
     }
-    for displayed in displays.as_slice() {
-        let number = displayed.number;
-        let line = displayed.line.as_str();
-        writeln!(answer, "{number}: {line}")?;
-    }
-    Ok(())
+    show_each(displays.as_slice(), answer)
 }

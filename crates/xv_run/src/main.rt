@@ -5,6 +5,10 @@
 //! the exit status and by one line on standard error.
 #![tactic(auto)]
 
+ghost use Rattle.std.specs.Prelude.{IfOk};
+ghost use Rattle.xv_run.specs.Ranges.{AreInRange};
+ghost use Rattle.xv_run.specs.Runs.{IsStatusOf, IsStatusOfWords};
+
 mod command_line;
 mod line;
 mod running;
@@ -20,7 +24,9 @@ use xv_machine::{Config, Counted, RunPlan};
 const NAME: &str = "xv_run";
 
 // Runs the programs that the settings name.
-fn run(rt: &HostRuntime, settings: &Settings) -> u8 {
+fn run(rt: &HostRuntime, settings: &Settings) -> u8
+    ensures { IsStatusOf settings.now result }
+{
     let config = Config {
         frames: settings.frames,
         trace: settings.trace,
@@ -48,13 +54,17 @@ fn run(rt: &HostRuntime, settings: &Settings) -> u8 {
 }
 
 // What the words ask for.
-fn asked(rt: &HostRuntime) -> Result<Settings, WordsError> {
+fn asked(rt: &HostRuntime) -> Result<Settings, WordsError>
+    ensures { IfOk result (λ s. AreInRange s) }
+{
     let words = host_words(rt, &COMMAND_LINE)?;
     Ok(settings(rt.alloc(), words.as_slice())?)
 }
 
 // Runs what the words ask for, and gives the exit status.
-fn run_by_words(rt: &HostRuntime) -> u8 {
+fn run_by_words(rt: &HostRuntime) -> u8
+    ensures { IsStatusOfWords result }
+{
     match asked(rt) {
         Ok(settings) => run(rt, &settings),
         Err(error) => error.close(NAME, &mut rt.stdout(), &mut rt.stderr()),
