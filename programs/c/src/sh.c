@@ -228,10 +228,37 @@ static void open_input(const char *file)
         fail("sh: %s can't be opened\n", file);
 }
 
+/* What a file's first bytes say of why it is no program for this machine (ELF-64 Object File Format, "File header"). */
+static const char *fault_of(const unsigned char *head, int count)
+{
+    static const unsigned char begin[] = { 0x7f, 'E', 'L', 'F' };
+
+    if (count < 64 || memcmp(head, begin, sizeof begin) != 0)
+        return "it isn't an ELF file";
+    if (head[4] != 2)
+        return "it is for a processor of 32 bits";
+    if (head[5] != 1)
+        return "its numbers begin with the high byte";
+    if (head[18] != 243 || head[19] != 0)
+        return head[18] == 62 && head[19] == 0 ? "it is for x86-64, and not for RISC-V" : "it is for another processor than RISC-V";
+    return "its segments can't be loaded, or its words or its memory don't fit";
+}
+
+/* Tells why exec has refused a program. */
+static _Noreturn __attribute__((noinline)) void tell_refusal(const char *name)
+{
+    unsigned char head[64];
+    int file = open(name, TO_READ);
+
+    if (file < 0)
+        fail("sh: %s can't be run: there is no such program\n", name);
+    fail("sh: %s can't be run: %s\n", name, fault_of(head, read(file, head, sizeof head)));
+}
+
 static void run_program(char **texts)
 {
     exec(texts[0], texts);
-    fail("sh: %s can't be run\n", texts[0]);
+    tell_refusal(texts[0]);
 }
 
 /* Whether the shell does this command itself. */
