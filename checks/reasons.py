@@ -513,7 +513,7 @@ def source_of(data, places):
 
 def answers_of(text):
     """What process 1 was answered, call by call, as it stands behind the call's arguments."""
-    lines = [line for line in text.split("\n") if line.startswith("1 (init): ") and not line.endswith("..waits")]
+    lines = [line for line in text.split("\n") if line.startswith("1 (init): ") and not line.endswith("<unfinished ..>")]
     return [line[line.rindex(") = ") + 4:] for line in lines if ") = " in line]
 
 

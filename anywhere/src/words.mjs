@@ -25,7 +25,7 @@ export const MODES = [...KINDS.keys()].filter((kind) => kind.startsWith("--"));
 /** Whether a kind takes an option. */
 export const takes = (kind, option) => OPTIONS.get(option)?.takers.includes(kind) ?? false;
 
-const SAID = rows_of("say");
+const SAID = rows_of("say"), SHORTS = rows_of("short");
 
 /** The text of a name in the table, with these words in it, and its status. */
 export function said(name, ...words) {
@@ -71,8 +71,8 @@ export function own_words() {
 export function parts_of(words) {
   const parts = [];
   let before = null, has_ended = false;
-  for (const word of words) {
-    const text = String(word);
+  for (const given of words) {
+    const word = before || has_ended ? given : SHORTS.get(String(given)) ?? given, text = String(word);
     if (before) before.value = word;
     else if (has_ended || !/^-./s.test(text)) parts.push({ kind: "file", word });
     else parts.push({ kind: text === "--" ? "end" : "option", word });

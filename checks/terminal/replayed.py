@@ -198,7 +198,7 @@ def called(line):
     answer = re.search(r" = (-?0x[0-9a-f]+|-?\d+)(, its status .*)?( \(.*\))?$", text)
     if answer:
         return f"call {pid} {int(answer[1], 0)}"
-    if text.endswith("..waits"):
+    if text.endswith("<unfinished ..>"):
         return f"block {pid}"
     ended = re.match(r"exit\(.*\)|killed|fault", text)
     return f"{'fault' if text.startswith('fault') else 'exit'} {pid}" if ended else text
@@ -226,7 +226,7 @@ def tell_apart(tools, at, shown):
     calls = [line for line in all_notes if re.match("(call|block|exit|fault) ", line)]
     wanted(bool(lines) == bool(calls), f"--explain has {len(lines)} lines, and --notes {len(calls)}")
     if lines:
-        is_again = noted(calls[-1]).startswith("block") and not lines[-1].endswith("..waits")
+        is_again = noted(calls[-1]).startswith("block") and not lines[-1].endswith("<unfinished ..>")
         wanted(is_again or called(lines[-1]) == noted(calls[-1]), f"the last line {lines[-1]} isn't of {calls[-1]}")
     about = {name: [line for line in it[1] if re.match(r"process \d+ \(.*\) (?!.* at pc )|process \d+ has ended", line)]
              for name, it in {"the terminal": terminal, "--why": why}.items()}

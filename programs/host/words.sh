@@ -71,7 +71,7 @@ each_part() {
                 ended=/
                 "$call" end --
                 ;;
-            -?*) if has_value "$word"; then before=$word; else "$call" option "$word"; fi ;;
+            -?*) ! row short "$word" || word=$row; if has_value "$word"; then before=$word; else "$call" option "$word"; fi ;;
             *) "$call" file "$word" ;;
         esac
     done

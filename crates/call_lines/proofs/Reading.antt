@@ -91,61 +91,61 @@ last_letter s p a (suc most) b old new some there letter past first = rw (there,
 
 -- ---- texts
 
-pub no_texts : (s : State) (p a : ℕ) (is_first : Bool) (most : ℕ) (old : List ℕ) → most ≡ 0 → old ≡ old ++ texts_shown s p a is_first most
+pub no_texts : (shown : ℕ) (s : State) (p a : ℕ) (is_first : Bool) (most : ℕ) (old : List ℕ) → most ≡ 0 → old ≡ old ++ texts_shown shown s p a is_first most
 unfolding texts_shown
-no_texts s p a is_first zero old is = sym (append-nil old)
-no_texts s p a is_first (suc most) old is = absurd (omega (arith, is))
+no_texts shown s p a is_first zero old is = sym (append-nil old)
+no_texts shown s p a is_first (suc most) old is = absurd (omega (arith, is))
 
 -- no address is there
-pub no_address : {T E : Type 0} (r : Result T E) (s : State) (p a : ℕ) (is_first : Bool) (most : ℕ) (old new : List ℕ) → 0 < most → address_at s p a ≡ None
-    → OnOk r (new ≡ old ++ (comma_unless is_first ++ codes "?")) → OnOk r (new ≡ old ++ texts_shown s p a is_first most)
+pub no_address : {T E : Type 0} (r : Result T E) (shown : ℕ) (s : State) (p a : ℕ) (is_first : Bool) (most : ℕ) (old new : List ℕ) → 0 < most → address_at s p a ≡ None
+    → OnOk r (new ≡ old ++ (comma_unless is_first ++ codes "?")) → OnOk r (new ≡ old ++ texts_shown shown s p a is_first most)
 unfolding texts_shown
-no_address r s p a is_first zero old new some none wrote = absurd (omega (arith, some))
-no_address r s p a is_first (suc most) old new some none wrote = rw none wrote
+no_address r shown s p a is_first zero old new some none wrote = absurd (omega (arith, some))
+no_address r shown s p a is_first (suc most) old new some none wrote = rw none wrote
 
 -- the address 0 ends them
-pub texts_end : (s : State) (p a : ℕ) (is_first : Bool) (most text : ℕ) (old : List ℕ) → address_at s p a ≡ Some text → text ≡ 0 → old ≡ old ++ texts_shown s p a is_first most
+pub texts_end : (shown : ℕ) (s : State) (p a : ℕ) (is_first : Bool) (most text : ℕ) (old : List ℕ) → address_at s p a ≡ Some text → text ≡ 0 → old ≡ old ++ texts_shown shown s p a is_first most
 unfolding texts_shown
-texts_end s p a is_first zero text old there is = sym (append-nil old)
-texts_end s p a is_first (suc most) text old there is = rw (there, is) (sym (append-nil old))
+texts_end shown s p a is_first zero text old there is = sym (append-nil old)
+texts_end shown s p a is_first (suc most) text old there is = rw (there, is) (sym (append-nil old))
 
-next_texts : (s : State) (p a : ℕ) (is_first : Bool) (most text next : ℕ) → 0 < most → address_at s p a ≡ Some text → ¬ (text ≡ 0) → next ≡ a + 8 → next < 2 ^ 64
-    → comma_unless is_first ++ text_shown s p text ++ texts_shown s p next false (most - 1) ≡ texts_shown s p a is_first most
+next_texts : (shown : ℕ) (s : State) (p a : ℕ) (is_first : Bool) (most text next : ℕ) → 0 < most → address_at s p a ≡ Some text → ¬ (text ≡ 0) → next ≡ a + 8 → next < 2 ^ 64
+    → comma_unless is_first ++ text_shown shown s p text ++ texts_shown shown s p next false (most - 1) ≡ texts_shown shown s p a is_first most
 unfolding texts_shown
-next_texts s p a is_first zero text next some there letter at below = absurd (omega (arith, some))
-next_texts s p a is_first (suc most) text next some there letter at below =
+next_texts shown s p a is_first zero text next some there letter at below = absurd (omega (arith, some))
+next_texts shown s p a is_first (suc most) text next some there letter at below =
     let less : suc most - 1 ≡ most = omega arith in
     let under : a + 8 < 2 ^ 64 = omega (arith, at, below) in
     rw (less, there, ne_eqb text 0 letter, at, lt-ltb (a + 8) (2 ^ 64) under) refl
 
-pub more_texts : {T E : Type 0} (r : Result T E) (s : State) (p a : ℕ) (is_first : Bool) (most text next : ℕ) (old mid new : List ℕ)
-    → 0 < most → address_at s p a ≡ Some text → ¬ (text ≡ 0) → next ≡ a + 8 → next < 2 ^ 64 → mid ≡ old ++ (comma_unless is_first ++ text_shown s p text)
-    → OnOk r (new ≡ mid ++ texts_shown s p next false (most - 1)) → OnOk r (new ≡ old ++ texts_shown s p a is_first most)
-more_texts r s p a is_first most text next old mid new some there letter at below first wrote =
-    let front = comma_unless is_first ++ text_shown s p text in
-    let rest = texts_shown s p next false (most - 1) in
-    let whole : front ++ rest ≡ texts_shown s p a is_first most = next_texts s p a is_first most text next some there letter at below in
+pub more_texts : {T E : Type 0} (r : Result T E) (shown : ℕ) (s : State) (p a : ℕ) (is_first : Bool) (most text next : ℕ) (old mid new : List ℕ)
+    → 0 < most → address_at s p a ≡ Some text → ¬ (text ≡ 0) → next ≡ a + 8 → next < 2 ^ 64 → mid ≡ old ++ (comma_unless is_first ++ text_shown shown s p text)
+    → OnOk r (new ≡ mid ++ texts_shown shown s p next false (most - 1)) → OnOk r (new ≡ old ++ texts_shown shown s p a is_first most)
+more_texts r shown s p a is_first most text next old mid new some there letter at below first wrote =
+    let front = comma_unless is_first ++ text_shown shown s p text in
+    let rest = texts_shown shown s p next false (most - 1) in
+    let whole : front ++ rest ≡ texts_shown shown s p a is_first most = next_texts shown s p a is_first most text next some there letter at below in
     on_ok_weaker r (λ e. e ∙ ap (λ t. old ++ t) whole) (shown_behind r old mid new front rest first wrote)
 
-pub last_text : (s : State) (p a : ℕ) (is_first : Bool) (most text : ℕ) (old new : List ℕ) → 0 < most → address_at s p a ≡ Some text → ¬ (text ≡ 0) → 2 ^ 64 ≤ a + 8
-    → new ≡ old ++ (comma_unless is_first ++ text_shown s p text) → new ≡ old ++ texts_shown s p a is_first most
+pub last_text : (shown : ℕ) (s : State) (p a : ℕ) (is_first : Bool) (most text : ℕ) (old new : List ℕ) → 0 < most → address_at s p a ≡ Some text → ¬ (text ≡ 0) → 2 ^ 64 ≤ a + 8
+    → new ≡ old ++ (comma_unless is_first ++ text_shown shown s p text) → new ≡ old ++ texts_shown shown s p a is_first most
 unfolding texts_shown
-last_text s p a is_first zero text old new some there letter past first = absurd (omega (arith, some))
-last_text s p a is_first (suc most) text old new some there letter past first =
-    rw (there, ne_eqb text 0 letter, le-ltb (a + 8) (2 ^ 64) past) (first ∙ ap (λ t. old ++ t) (sym (append-nil (comma_unless is_first ++ text_shown s p text))))
+last_text shown s p a is_first zero text old new some there letter past first = absurd (omega (arith, some))
+last_text shown s p a is_first (suc most) text old new some there letter past first =
+    rw (there, ne_eqb text 0 letter, le-ltb (a + 8) (2 ^ 64) past) (first ∙ ap (λ t. old ++ t) (sym (append-nil (comma_unless is_first ++ text_shown shown s p text))))
 
 -- ---- arguments
 
 -- a comma was written, unless it is the first, and the argument behind it
-pub here_written : {T E : Type 0} (r : Result T E) (s : State) (p : ℕ) (call : KernelCall) (asked : Asked) (answered : Option ℤ) (place : ℕ) (argument : Argument) (kind : ArgumentKind)
+pub here_written : {T E : Type 0} (r : Result T E) (shown : ℕ) (s : State) (p : ℕ) (call : KernelCall) (asked : Asked) (answered : Option ℤ) (place : ℕ) (argument : Argument) (kind : ArgumentKind)
     (value : ℕ) (bytes : Option ℕ) (old mid new : List ℕ) → kind ≡ kind_of argument → value ≡ value_at asked place → bytes ≡ buffer_length call asked answered
-    → mid ≡ old ++ comma_unless (place == 0) → OnOk r (new ≡ mid ++ argument_shown s p kind value bytes answered)
-    → OnOk r (new ≡ old ++ argument_here s p call asked answered place (Some argument))
-here_written r s p call asked answered place argument kind value bytes old mid new is_kind is_value is_bytes first wrote =
-    shown_behind r old mid new (comma_unless (place == 0)) (argument_shown s p (kind_of argument) (value_at asked place) (buffer_length call asked answered) answered) first
-    (subst (λ (k : ArgumentKind). OnOk r (new ≡ mid ++ argument_shown s p k (value_at asked place) (buffer_length call asked answered) answered)) is_kind
-    (subst (λ (v : ℕ). OnOk r (new ≡ mid ++ argument_shown s p kind v (buffer_length call asked answered) answered)) is_value
-    (subst (λ (b : Option ℕ). OnOk r (new ≡ mid ++ argument_shown s p kind value b answered)) is_bytes wrote)))
+    → mid ≡ old ++ comma_unless (place == 0) → OnOk r (new ≡ mid ++ argument_shown shown s p kind value bytes answered)
+    → OnOk r (new ≡ old ++ argument_here shown s p call asked answered place (Some argument))
+here_written r shown s p call asked answered place argument kind value bytes old mid new is_kind is_value is_bytes first wrote =
+    shown_behind r old mid new (comma_unless (place == 0)) (argument_shown shown s p (kind_of argument) (value_at asked place) (buffer_length call asked answered) answered) first
+    (subst (λ (k : ArgumentKind). OnOk r (new ≡ mid ++ argument_shown shown s p k (value_at asked place) (buffer_length call asked answered) answered)) is_kind
+    (subst (λ (v : ℕ). OnOk r (new ≡ mid ++ argument_shown shown s p kind v (buffer_length call asked answered) answered)) is_value
+    (subst (λ (b : Option ℕ). OnOk r (new ≡ mid ++ argument_shown shown s p kind value b answered)) is_bytes wrote)))
 
 -- ---- an answer
 

@@ -26,18 +26,25 @@ edges : escaped 31 ++ escaped 32 ++ escaped 126 ++ escaped 127 ≡ codes "\\037 
 unfolding padded_integral char_count digits
 edges = refl
 
-signs : c_string (10 ∷ 9 ∷ 13 ∷ 34 ∷ 92 ∷ 0 ∷ []) ≡ codes "\"\\n\\t\\r\\\"\\\\\\000\""
+signs : c_string 32 (10 ∷ 9 ∷ 13 ∷ 34 ∷ 92 ∷ 0 ∷ []) ≡ codes "\"\\n\\t\\r\\\"\\\\\\000\""
 unfolding padded_integral char_count digits
 signs = refl
 
-no_bytes : c_string [] ≡ codes "\"\""
+no_bytes : c_string 32 [] ≡ codes "\"\""
 no_bytes = refl
 
-all_shown : ending (replicate 32 97) ≡ codes "\""
+all_shown : ending 32 (replicate 32 97) ≡ codes "\""
 all_shown = refl
 
-one_more : ending (replicate 33 97) ≡ codes "\"..."
+one_more : ending 32 (replicate 33 97) ≡ codes "\"..."
 one_more = refl
+
+-- as many as are asked for, also none
+two_shown : c_string 2 (97 ∷ 98 ∷ 99 ∷ []) ≡ codes "\"ab\"..."
+two_shown = refl
+
+none_shown : c_string 0 (97 ∷ []) ≡ codes "\"\"..."
+none_shown = refl
 
 -- ---- what the kernel reads
 
@@ -64,34 +71,34 @@ opened image page there perm byte = rw (there, perm) grind (arith, byte)
 
 -- ---- buffers
 
-whole : whole_or_place 4096 2 (104 ∷ 105 ∷ []) ≡ codes "\"hi\""
+whole : whole_or_place 32 4096 2 (104 ∷ 105 ∷ []) ≡ codes "\"hi\""
 whole = refl
 
-not_whole : whole_or_place 4096 2 (104 ∷ []) ≡ codes "0x1000"
+not_whole : whole_or_place 32 4096 2 (104 ∷ []) ≡ codes "0x1000"
 unfolding digits
 not_whole = refl
 
 -- ---- lines
 
 module _ (s : State) where
-  forked : call_shown s 3 (record { number = pos 1; a0 = 7; a1 = 8; a2 = 9 }) None ≡ codes "fork()"
+  forked : call_shown 32 s 3 (record { number = pos 1; a0 = 7; a1 = 8; a2 = 9 }) None ≡ codes "fork()"
   unfolding call_at
   forked = refl
 
-  slept : call_shown s 3 (record { number = pos 13; a0 = 10; a1 = 8; a2 = 9 }) None ≡ codes "sleep(10)"
+  slept : call_shown 32 s 3 (record { number = pos 13; a0 = 10; a1 = 8; a2 = 9 }) None ≡ codes "sleep(10)"
   unfolding digits call_at
   slept = refl
 
   -- the low 32 bits count, and nothing is known of what will be read
-  will_read : call_shown s 3 (record { number = pos 5; a0 = 0; a1 = 4096; a2 = 64 }) None ≡ codes "read(0, 0x1000, 64)"
+  will_read : call_shown 32 s 3 (record { number = pos 5; a0 = 0; a1 = 4096; a2 = 64 }) None ≡ codes "read(0, 0x1000, 64)"
   unfolding digits call_at
   will_read = refl
 
-  waits : call_shown s 3 (record { number = pos 3; a0 = 12188; a1 = 8; a2 = 9 }) None ≡ codes "wait(&0x2f9c)"
+  waits : call_shown 32 s 3 (record { number = pos 3; a0 = 12188; a1 = 8; a2 = 9 }) None ≡ codes "wait(&0x2f9c)"
   unfolding digits call_at
   waits = refl
 
-  unknown : call_shown s 3 (record { number = pos 99; a0 = 1; a1 = 2; a2 = 16 }) None ≡ codes "call 99(0x1, 0x2, 0x10)"
+  unknown : call_shown 32 s 3 (record { number = pos 99; a0 = 1; a1 = 2; a2 = 16 }) None ≡ codes "call 99(0x1, 0x2, 0x10)"
   unfolding digits call_at
   unknown = refl
 

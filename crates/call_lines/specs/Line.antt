@@ -1,4 +1,5 @@
--- A kernel call as a line of text: its name, what is passed to it, and what it answers.
+-- A kernel call as a line of text: its name, what is passed to it, and what it answers. Of each text and buffer so many bytes are shown at most
+-- (`shown`); one more is looked at, so that it is seen whether there are more.
 use Rattle.std.specs.Prelude.{ℕ, ℤ, pos, negsuc, zero, suc, ◌+◌, ◌%◌, ◌^◌, ◌==◌, Bool, not, true, false, min, nat_lt, if◌then◌else◌}
 use Rattle.std.specs.Prelude.{List, [], ◌++◌, length, flat_map, slice_get, codes, Option, None, Some}
 use Rattle.std.specs.Fmt.{signed_decimal}
@@ -21,11 +22,6 @@ use Rattle.call_reasons.specs.declared.reason.Reason.{Reason}
 use Rattle.call_lines.specs.Memory.{address_at, bytes_from, int_at, read_at, text_from}
 use Rattle.call_lines.specs.Strings.{c_string}
 use Rattle.call_lines.specs.declared.line.TheConstants.{TEXTS_MOST}
-use Rattle.call_lines.specs.declared.strings.TheConstants.{SHOWN_MOST}
-
--- one byte more than is shown of a string, so that it is seen whether there are more
-abbrev pub LOOKED_AT : ℕ
-LOOKED_AT = SHOWN_MOST + 1
 
 -- what stands before an argument, and before a text among texts, unless it is the first
 abbrev pub comma_unless : (is_first : Bool) → List ℕ
@@ -34,23 +30,23 @@ comma_unless is_first = if is_first then [] else codes ", "
 -- ---- arguments
 
 -- a text in memory, by its first byte; its address if the kernel may not read that
-abbrev pub text_by : State → (p address : ℕ) → (first : Option ℕ) → List ℕ
-text_by s p address None = hexadecimal address
-text_by s p address (Some byte) = c_string (text_from s p address LOOKED_AT)
+abbrev pub text_by : (shown : ℕ) → State → (p address : ℕ) → (first : Option ℕ) → List ℕ
+text_by shown s p address None = hexadecimal address
+text_by shown s p address (Some byte) = c_string shown (text_from s p address (shown + 1))
 
-abbrev pub text_shown : State → (p address : ℕ) → List ℕ
-text_shown s p address = text_by s p address (read_at s p address)
+abbrev pub text_shown : (shown : ℕ) → State → (p address : ℕ) → List ℕ
+text_shown shown s p address = text_by shown s p address (read_at s p address)
 
 -- the text at an address that stands there, if it isn't 0, and those behind it
-abbrev pub text_and : State → (p : ℕ) → (is_first : Bool) → Option ℕ → List ℕ → List ℕ
-text_and s p is_first None rest = comma_unless is_first ++ codes "?"
-text_and s p is_first (Some text) rest = if text == 0 then [] else comma_unless is_first ++ text_shown s p text ++ rest
+abbrev pub text_and : (shown : ℕ) → State → (p : ℕ) → (is_first : Bool) → Option ℕ → List ℕ → List ℕ
+text_and shown s p is_first None rest = comma_unless is_first ++ codes "?"
+text_and shown s p is_first (Some text) rest = if text == 0 then [] else comma_unless is_first ++ text_shown shown s p text ++ rest
 
 -- texts whose addresses stand one behind another, up to the address 0, so many at most; a sign where no address is there
-unfoldable pub texts_shown : State → (p address : ℕ) → (is_first : Bool) → (most : ℕ) → List ℕ
-texts_shown s p address is_first zero = []
-texts_shown s p address is_first (suc most) =
-    text_and s p is_first (address_at s p address) (if nat_lt (address + 8) (2 ^ 64) then texts_shown s p (address + 8) false most else [])
+unfoldable pub texts_shown : (shown : ℕ) → State → (p address : ℕ) → (is_first : Bool) → (most : ℕ) → List ℕ
+texts_shown shown s p address is_first zero = []
+texts_shown shown s p address is_first (suc most) =
+    text_and shown s p is_first (address_at s p address) (if nat_lt (address + 8) (2 ^ 64) then texts_shown shown s p (address + 8) false most else [])
 
 -- a number that isn't below zero
 abbrev pub natural : ℤ → Option ℕ
@@ -68,13 +64,13 @@ buffer_length Read asked answered = natural_in answered
 buffer_length _ asked answered = None
 
 -- the bytes that are looked at, if the kernel may read all of them; else their address
-abbrev pub whole_or_place : (address most : ℕ) → (bytes : List ℕ) → List ℕ
-whole_or_place address most bytes = if length bytes == most then c_string bytes else hexadecimal address
+abbrev pub whole_or_place : (shown address most : ℕ) → (bytes : List ℕ) → List ℕ
+whole_or_place shown address most bytes = if length bytes == most then c_string shown bytes else hexadecimal address
 
 -- a buffer that has so many bytes; its address if nobody knows them yet
-abbrev pub buffer_shown : State → (p address : ℕ) → Option ℕ → List ℕ
-buffer_shown s p address None = hexadecimal address
-buffer_shown s p address (Some count) = whole_or_place address (min count LOOKED_AT) (bytes_from s p address (min count LOOKED_AT))
+abbrev pub buffer_shown : (shown : ℕ) → State → (p address : ℕ) → Option ℕ → List ℕ
+buffer_shown shown s p address None = hexadecimal address
+buffer_shown shown s p address (Some count) = whole_or_place shown address (min count (shown + 1)) (bytes_from s p address (min count (shown + 1)))
 
 -- a C int in memory; a sign if it isn't there
 abbrev pub int_shown : Option ℤ → List ℕ
@@ -103,52 +99,52 @@ abbrev pub status_shown : (address : ℕ) → List ℕ
 status_shown address = if address == 0 then codes "0" else codes "&" ++ hexadecimal address
 
 -- the texts of an array
-abbrev pub list_shown : State → (p address : ℕ) → List ℕ
-list_shown s p address = codes "{" ++ texts_shown s p address true TEXTS_MOST ++ codes "}"
+abbrev pub list_shown : (shown : ℕ) → State → (p address : ℕ) → List ℕ
+list_shown shown s p address = codes "{" ++ texts_shown shown s p address true TEXTS_MOST ++ codes "}"
 
 -- an argument, by what it is
-abbrev pub argument_shown : State → (p : ℕ) → ArgumentKind → (value : ℕ) → (bytes : Option ℕ) → (answered : Option ℤ) → List ℕ
-argument_shown s p kinds.Int value bytes answered = signed_decimal (c_int value)
-argument_shown s p kinds.Descriptor value bytes answered = signed_decimal (c_int value)
-argument_shown s p kinds.Buffer value bytes answered = buffer_shown s p value bytes
-argument_shown s p kinds.Text value bytes answered = text_shown s p value
-argument_shown s p kinds.Texts value bytes answered = list_shown s p value
-argument_shown s p kinds.TwoDescriptors value bytes answered = pair_shown s p value answered
-argument_shown s p kinds.Status value bytes answered = status_shown value
+abbrev pub argument_shown : (shown : ℕ) → State → (p : ℕ) → ArgumentKind → (value : ℕ) → (bytes : Option ℕ) → (answered : Option ℤ) → List ℕ
+argument_shown shown s p kinds.Int value bytes answered = signed_decimal (c_int value)
+argument_shown shown s p kinds.Descriptor value bytes answered = signed_decimal (c_int value)
+argument_shown shown s p kinds.Buffer value bytes answered = buffer_shown shown s p value bytes
+argument_shown shown s p kinds.Text value bytes answered = text_shown shown s p value
+argument_shown shown s p kinds.Texts value bytes answered = list_shown shown s p value
+argument_shown shown s p kinds.TwoDescriptors value bytes answered = pair_shown s p value answered
+argument_shown shown s p kinds.Status value bytes answered = status_shown value
 
 -- the register of an argument
 abbrev pub value_at : Asked → (place : ℕ) → ℕ
 value_at asked place = if place == 0 then asked.a0 else if place == 1 then asked.a1 else asked.a2
 
-abbrev pub argument_here : State → (p : ℕ) → KernelCall → Asked → (answered : Option ℤ) → (place : ℕ) → Option Argument → List ℕ
-argument_here s p call asked answered place None = []
-argument_here s p call asked answered place (Some argument) =
-    comma_unless (place == 0) ++ argument_shown s p (kind_of argument) (value_at asked place) (buffer_length call asked answered) answered
+abbrev pub argument_here : (shown : ℕ) → State → (p : ℕ) → KernelCall → Asked → (answered : Option ℤ) → (place : ℕ) → Option Argument → List ℕ
+argument_here shown s p call asked answered place None = []
+argument_here shown s p call asked answered place (Some argument) =
+    comma_unless (place == 0) ++ argument_shown shown s p (kind_of argument) (value_at asked place) (buffer_length call asked answered) answered
 
 -- the argument at a place
-abbrev pub argument_at : State → (p : ℕ) → KernelCall → Asked → (answered : Option ℤ) → (place : ℕ) → List ℕ
-argument_at s p call asked answered place = argument_here s p call asked answered place (slice_get (entry_of call).arguments place)
+abbrev pub argument_at : (shown : ℕ) → State → (p : ℕ) → KernelCall → Asked → (answered : Option ℤ) → (place : ℕ) → List ℕ
+argument_at shown s p call asked answered place = argument_here shown s p call asked answered place (slice_get (entry_of call).arguments place)
 
 -- all arguments of a call
-abbrev pub arguments_shown : State → (p : ℕ) → KernelCall → Asked → (answered : Option ℤ) → List ℕ
-arguments_shown s p call asked answered = flat_map (argument_at s p call asked answered) (range_with_len 0 (length (entry_of call).arguments))
+abbrev pub arguments_shown : (shown : ℕ) → State → (p : ℕ) → KernelCall → Asked → (answered : Option ℤ) → List ℕ
+arguments_shown shown s p call asked answered = flat_map (argument_at shown s p call asked answered) (range_with_len 0 (length (entry_of call).arguments))
 
 -- ---- a call
 
-abbrev pub known_call : State → (p : ℕ) → Asked → (answered : Option ℤ) → KernelCall → List ℕ
-known_call s p asked answered call = (entry_of call).name ++ codes "(" ++ arguments_shown s p call asked answered ++ codes ")"
+abbrev pub known_call : (shown : ℕ) → State → (p : ℕ) → Asked → (answered : Option ℤ) → KernelCall → List ℕ
+known_call shown s p asked answered call = (entry_of call).name ++ codes "(" ++ arguments_shown shown s p call asked answered ++ codes ")"
 
 -- of a number that no call has the registers are shown
 abbrev pub unknown_call : Asked → List ℕ
 unknown_call asked = codes "call " ++ signed_decimal asked.number ++ codes "(" ++ hexadecimal asked.a0 ++ codes ", " ++ hexadecimal asked.a1 ++ codes ", " ++ hexadecimal asked.a2 ++ codes ")"
 
-abbrev pub call_by : State → (p : ℕ) → Asked → (answered : Option ℤ) → Option KernelCall → List ℕ
-call_by s p asked answered None = unknown_call asked
-call_by s p asked answered (Some call) = known_call s p asked answered call
+abbrev pub call_by : (shown : ℕ) → State → (p : ℕ) → Asked → (answered : Option ℤ) → Option KernelCall → List ℕ
+call_by shown s p asked answered None = unknown_call asked
+call_by shown s p asked answered (Some call) = known_call shown s p asked answered call
 
 -- what process p asks for, with the memory of state s: before the call, or with its answer after it
-abbrev pub call_shown : State → (p : ℕ) → Asked → (answered : Option ℤ) → List ℕ
-call_shown s p asked answered = call_by s p asked answered (call_at asked.number)
+abbrev pub call_shown : (shown : ℕ) → State → (p : ℕ) → Asked → (answered : Option ℤ) → List ℕ
+call_shown shown s p asked answered = call_by shown s p asked answered (call_at asked.number)
 
 -- ---- an answer
 

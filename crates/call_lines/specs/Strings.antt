@@ -1,7 +1,6 @@
 -- Bytes as a string of C (C11, 6.4.4.4 "Character constants" and 6.4.5 "String literals"), shortened.
 use Rattle.std.specs.Prelude.{ℕ, ◌-◌, ◌^◌, ◌==◌, ◌&&◌, nat_le, nat_lt, if◌then◌else◌, false, List, [], ◌∷◌, ◌++◌, take, length, flat_map, codes}
 use Rattle.std.specs.Fmt.{digits, format_spec, padded_integral}
-use Rattle.call_lines.specs.declared.strings.TheConstants.{SHOWN_MOST}
 
 -- a byte in three octal digits
 abbrev pub octal_places : ℕ → List ℕ
@@ -18,10 +17,10 @@ escaped byte =
     else if nat_le 32 byte && nat_le byte 126 then byte ∷ []
     else codes "\\" ++ octal_places byte
 
--- what stands behind the bytes that are shown: a quote, and dots if there are more
-abbrev pub ending : List ℕ → List ℕ
-ending bytes = if nat_lt SHOWN_MOST (length bytes) then codes "\"..." else codes "\""
+-- what stands behind the bytes that are shown, so many at most: a quote, and dots if there are more
+abbrev pub ending : (most : ℕ) → List ℕ → List ℕ
+ending most bytes = if nat_lt most (length bytes) then codes "\"..." else codes "\""
 
--- the first bytes, as many as are shown, between quotes
-abbrev pub c_string : List ℕ → List ℕ
-c_string bytes = 34 ∷ (flat_map escaped (take SHOWN_MOST bytes) ++ ending bytes)
+-- the first bytes, so many at most, between quotes
+abbrev pub c_string : (most : ℕ) → List ℕ → List ℕ
+c_string most bytes = 34 ∷ (flat_map escaped (take most bytes) ++ ending most bytes)

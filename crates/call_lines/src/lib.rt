@@ -11,4 +11,4 @@ mod strings;
 
 pub use call_reasons::{Asked, asked_of};
 pub use line::{TEXTS_MOST, show_answer, show_call};
-pub use strings::{CString, SHOWN_MOST};
+pub use strings::CString;

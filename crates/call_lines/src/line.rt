@@ -1,5 +1,5 @@
 //! A kernel call as a line of text.
-ghost use Rattle.std.specs.Prelude.{◌≡◌, ◌++◌, OnOk, Some, codes};
+ghost use Rattle.std.specs.Prelude.{◌≡◌, ◌+◌, ◌++◌, OnOk, Some, codes};
 ghost use Rattle.debug_views.specs.Written.{Appends};
 ghost use Rattle.kernel_calls.specs.Arguments.{kind_of};
 ghost use Rattle.kernel_calls.specs.Table.{entry_of, call_at};
@@ -9,7 +9,7 @@ ghost use Rattle.call_lines.specs.Memory.{text_from};
 ghost use Rattle.call_lines.specs.Strings.{c_string};
 
 use crate::memory::{address_at, bytes_from, int_at, read_at, text_from};
-use crate::strings::{CString, SHOWN_MOST};
+use crate::strings::CString;
 use call_reasons::{Asked, Reason, c_int, reason_of};
 use debug_words::texts::Hexadecimal;
 use kernel_calls::{Argument, ArgumentKind, KernelCall};
@@ -20,15 +20,14 @@ use xv_machine::Machine;
 /// The most texts of an array that are shown: exec takes no more.
 pub const TEXTS_MOST: u32 = 31;
 
-/// One byte more than is shown of a string.
-const LOOKED_AT: u32 = SHOWN_MOST as u32 + 1;
-
 /// The memory of a process, where the line is written from.
 #[derive(Clone, Copy)]
 struct Lines<'a> {
     alloc: Global,
     machine: &'a Machine,
     pid: Pid,
+    /// How many bytes of a text or a buffer are shown at most.
+    shown: u16,
 }
 
 // What stands before an argument, and before a text among texts, unless it is the first.
@@ -96,11 +95,14 @@ fn show_ints(one: Option<i32>, other: Option<i32>, answer: &mut String) -> Resul
     show_int(other, answer)
 }
 
-// Writes bytes as a string of C.
-fn show_string(bytes: &[u8], answer: &mut String) -> Result<(), AllocError>
-    ensures { OnOk result (Appends answer.old answer.new (c_string bytes.now)) }
+// Writes bytes as a string of C, so many at most.
+fn show_string(bytes: &[u8], shown: u16, answer: &mut String) -> Result<(), AllocError>
+    ensures { OnOk result (Appends answer.old answer.new (c_string shown bytes.now)) }
 {
-    let text = CString(bytes);
+    let text = CString {
+        bytes,
+        most: usize::from(shown),
+    };
     write!(answer, "{text}")
 }
 
@@ -142,20 +144,28 @@ fn value_at(asked: &Asked, place: usize) -> u64
 }
 
 impl<'a> Lines<'a> {
+    // One byte more than is shown.
+    fn looked_at(&self) -> u32
+        ensures { result ≡ self.now.shown + 1 }
+    {
+        u32::from(self.shown) + 1
+    }
+
     // Writes a text whose first byte is there.
     fn show_known_text(&self, address: u64, answer: &mut String) -> Result<(), AllocError>
         ensures { OnOk result
             (Appends answer.old answer.new
-            (c_string (text_from self.now.machine.now.world.state self.now.pid address meant.LOOKED_AT))) }
+            (c_string self.now.shown (text_from self.now.machine.now.world.state self.now.pid address (self.now.shown + 1)))) }
     {
-        let bytes = text_from(self.alloc, self.machine, self.pid, address, LOOKED_AT)?;
-        show_string(bytes.as_slice(), answer)
+        let most = self.looked_at();
+        let bytes = text_from(self.alloc, self.machine, self.pid, address, most)?;
+        show_string(bytes.as_slice(), self.shown, answer)
     }
 
     // Writes a text in memory; its address if the kernel may not read its first byte.
     fn show_text(&self, address: u64, answer: &mut String) -> Result<(), AllocError>
         ensures { OnOk result
-            (Appends answer.old answer.new (meant.text_shown self.now.machine.now.world.state self.now.pid address)) }
+            (Appends answer.old answer.new (meant.text_shown self.now.shown self.now.machine.now.world.state self.now.pid address)) }
     {
         match read_at(self.machine, self.pid, address) {
             None => show_address(address, answer),
@@ -172,15 +182,15 @@ impl<'a> Lines<'a> {
     ) -> Result<(), AllocError>
         ensures { OnOk result
             (Appends answer.old answer.new
-            (meant.buffer_shown self.now.machine.now.world.state self.now.pid address count)) }
+            (meant.buffer_shown self.now.shown self.now.machine.now.world.state self.now.pid address count)) }
     {
         let Some(count) = count else {
             return show_address(address, answer);
         };
-        let most = count.min(u64::from(LOOKED_AT)) as u32;
+        let most = count.min(u64::from(self.looked_at())) as u32;
         let bytes = bytes_from(self.alloc, self.machine, self.pid, address, most)?;
         if bytes.len() == most as usize {
-            show_string(bytes.as_slice(), answer)
+            show_string(bytes.as_slice(), self.shown, answer)
         } else {
             show_address(address, answer)
         }
@@ -190,7 +200,7 @@ impl<'a> Lines<'a> {
     fn show_among(&self, text: u64, is_first: bool, answer: &mut String) -> Result<(), AllocError>
         ensures { OnOk result
             (Appends answer.old answer.new
-            (meant.comma_unless is_first ++ meant.text_shown self.now.machine.now.world.state self.now.pid text)) }
+            (meant.comma_unless is_first ++ meant.text_shown self.now.shown self.now.machine.now.world.state self.now.pid text)) }
     {
         answer.push_str(comma_unless(is_first))?;
         self.show_text(text, answer)
@@ -206,7 +216,7 @@ impl<'a> Lines<'a> {
     ) -> Result<(), AllocError>
         ensures { OnOk result
             (Appends answer.old answer.new
-            (meant.texts_shown self.now.machine.now.world.state self.now.pid address is_first most)) }
+            (meant.texts_shown self.now.shown self.now.machine.now.world.state self.now.pid address is_first most)) }
     {
         if most == 0 {
             return Ok(());
@@ -227,7 +237,7 @@ impl<'a> Lines<'a> {
     // Writes the texts of an array.
     fn show_list(&self, address: u64, answer: &mut String) -> Result<(), AllocError>
         ensures { OnOk result
-            (Appends answer.old answer.new (meant.list_shown self.now.machine.now.world.state self.now.pid address)) }
+            (Appends answer.old answer.new (meant.list_shown self.now.shown self.now.machine.now.world.state self.now.pid address)) }
     {
         answer.push_str("{")?;
         self.show_texts(address, true, TEXTS_MOST, answer)?;
@@ -275,7 +285,7 @@ impl<'a> Lines<'a> {
     ) -> Result<(), AllocError>
         ensures { OnOk result
             (Appends answer.old answer.new
-            (meant.argument_shown self.now.machine.now.world.state self.now.pid kind value bytes answered)) }
+            (meant.argument_shown self.now.shown self.now.machine.now.world.state self.now.pid kind value bytes answered)) }
     {
         match kind {
             ArgumentKind::Int | ArgumentKind::Descriptor => {
@@ -302,7 +312,7 @@ impl<'a> Lines<'a> {
     ) -> Result<(), AllocError>
         ensures { OnOk result
             (Appends answer.old answer.new
-            (meant.argument_here self.now.machine.now.world.state self.now.pid
+            (meant.argument_here self.now.shown self.now.machine.now.world.state self.now.pid
             call asked.now answered place (Some argument))) }
     {
         answer.push_str(comma_unless(place == 0))?;
@@ -326,7 +336,7 @@ impl<'a> Lines<'a> {
     ) -> Result<(), AllocError>
         ensures { OnOk result
             (Appends answer.old answer.new
-            (meant.argument_at self.now.machine.now.world.state self.now.pid call asked.now answered place)) }
+            (meant.argument_at self.now.shown self.now.machine.now.world.state self.now.pid call asked.now answered place)) }
     {
         match call.arguments().get(place) {
             Some(argument) => self.show_here(call, asked, answered, place, *argument, answer),
@@ -344,7 +354,7 @@ impl<'a> Lines<'a> {
     ) -> Result<(), AllocError>
         ensures { OnOk result
             (Appends answer.old answer.new
-            (meant.arguments_shown self.now.machine.now.world.state self.now.pid call asked.now answered)) }
+            (meant.arguments_shown self.now.shown self.now.machine.now.world.state self.now.pid call asked.now answered)) }
     {
         for place in 0..call.arguments().len() {
             self.show_at(call, asked, answered, place, answer)?;
@@ -362,7 +372,7 @@ impl<'a> Lines<'a> {
     ) -> Result<(), AllocError>
         ensures { OnOk result
             (Appends answer.old answer.new
-            (meant.known_call self.now.machine.now.world.state self.now.pid asked.now answered call)) }
+            (meant.known_call self.now.shown self.now.machine.now.world.state self.now.pid asked.now answered call)) }
     {
         answer.push_str(call.name())?;
         answer.push_str("(")?;
@@ -383,7 +393,7 @@ fn show_unknown(asked: &Asked, answer: &mut String) -> Result<(), AllocError>
 }
 
 /// Writes what a process asks for, with the memory that a machine has: before the call, or with its answer once it is
-/// done.
+/// done. Of each text and buffer so many bytes are shown at most.
 ///
 /// # Errors
 ///
@@ -394,15 +404,17 @@ pub fn show_call(
     pid: Pid,
     asked: &Asked,
     answered: Option<i64>,
+    shown: u16,
     answer: &mut String,
 ) -> Result<(), AllocError>
     ensures { OnOk result
-        (Appends answer.old answer.new (meant.call_shown machine.now.world.state pid asked.now answered)) }
+        (Appends answer.old answer.new (meant.call_shown shown machine.now.world.state pid asked.now answered)) }
 {
     let lines = Lines {
         alloc,
         machine,
         pid,
+        shown,
     };
     match call_of(asked) {
         Some(call) => lines.show_known(call, asked, answered, answer),

@@ -5,12 +5,12 @@ ghost use Rattle.call_lines.specs.Strings as meant;
 
 use std::fmt;
 
-/// The most bytes of a string that are shown.
-pub const SHOWN_MOST: usize = 32;
-
-/// Bytes between quotes, as C writes a string: at most [`SHOWN_MOST`] of them, and dots behind if there are more.
+/// Bytes between quotes, as C writes a string: so many of them at most, and dots behind if there are more.
 #[derive(Clone, Copy)]
-pub struct CString<'a>(pub &'a [u8]);
+pub struct CString<'a> {
+    pub bytes: &'a [u8],
+    pub most: usize,
+}
 
 // One byte of them.
 fn show_byte<W: fmt::Write>(byte: u8, f: &mut fmt::Formatter<W>) -> fmt::Result
@@ -38,33 +38,29 @@ fn show_bytes<W: fmt::Write>(bytes: &[u8], f: &mut fmt::Formatter<W>) -> fmt::Re
 }
 
 // Those that are shown.
-fn shown(bytes: &[u8]) -> &[u8]
-    ensures { result.now ≡ take SHOWN_MOST bytes.now }
+fn shown(bytes: &[u8], most: usize) -> &[u8]
+    ensures { result.now ≡ take most bytes.now }
 {
-    if bytes.len() > SHOWN_MOST {
-        &bytes[..SHOWN_MOST]
+    if bytes.len() > most {
+        &bytes[..most]
     } else {
         bytes
     }
 }
 
 // What stands behind them.
-fn ending(bytes: &[u8]) -> &'static str
-    ensures { result.now ≡ meant.ending bytes.now }
+fn ending(bytes: &[u8], most: usize) -> &'static str
+    ensures { result.now ≡ meant.ending most bytes.now }
 {
-    if bytes.len() > SHOWN_MOST {
-        "\"..."
-    } else {
-        "\""
-    }
+    if bytes.len() > most { "\"..." } else { "\"" }
 }
 
 impl<'a> fmt::Display for CString<'a> {
-    ghost output = { λ s. Some (meant.c_string s.0.now) };
+    ghost output = { λ s. Some (meant.c_string s.most s.bytes.now) };
 
     fn fmt<W: fmt::Write>(&self, f: &mut fmt::Formatter<W>) -> fmt::Result {
         f.write_str("\"")?;
-        show_bytes(shown(self.0), f)?;
-        f.write_str(ending(self.0))
+        show_bytes(shown(self.bytes, self.most), f)?;
+        f.write_str(ending(self.bytes, self.most))
     }
 }

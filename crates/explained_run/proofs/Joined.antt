@@ -42,7 +42,7 @@ either false text = refl
 silent-by : (choice : Choice) (at : ℕ) (w : World) (names : List Named) (current : Option ℕ) (o : Outcome) (s : State) → ((b : Before) → shows choice b o ≡ false)
     → told_by choice at w names current o s ≡ []
 silent-by choice at w names None o s quiet = refl
-silent-by choice at w names (Some p) o s quiet = rw (quiet (before choice.numbers at w names p)) (either (shows_process choice p (name_in w names p)) [])
+silent-by choice at w names (Some p) o s quiet = rw (quiet (before choice.numbers choice.shown at w names p)) (either (shows_process choice p (name_in w names p)) [])
 
 -- ---- events by which nothing is done
 

@@ -13,7 +13,7 @@ use Rattle.explained_run.specs.declared.choice.Choice.{Choice}
 
 -- lines of a program
 abbrev lines_of : (pid : Option ℕ) → (program : String Global) → Choice
-lines_of pid program = record { lines = true; pid = pid; program = Some program; calls = None; failed = false; numbers = false }
+lines_of pid program = record { lines = true; pid = pid; program = Some program; calls = None; failed = false; numbers = false; shown = 32 }
 
 -- of wc that which a process does while it runs wc, and not what it does while it runs another program, or one that isn't known
 wc_is_told : (program : String Global) → string_bytes program ≡ codes "wc" → shows_process (lines_of None program) 3 (Some (codes "wc")) ≡ true
@@ -43,7 +43,7 @@ nothing_of_another_program : (program : String Global) (place : ℕ) (w : World)
     → string_bytes program ≡ codes "wc" → name_in w names 3 ≡ Some (codes "sh") → told_by (lines_of None program) place w names (Some 3) o s ≡ []
 nothing_of_another_program program place w names o s is runs =
     let choice = lines_of None program in
-    ap (λ (b : Bool). if b then told_of choice (before choice.numbers place w names 3) s 3 o else [])
+    ap (λ (b : Bool). if b then told_of choice (before choice.numbers choice.shown place w names 3) s 3 o else [])
     (ap (λ (name : Option (List ℕ)). shows_process choice 3 name) runs ∙ sh_is_not_told program is)
 
 -- any programs are good if none is asked for

@@ -41,6 +41,7 @@ pub record IsChoiceOf (s : Settings) (choice : Choice) : Type 0 where
   pub calls : AreCallsAsked s.calls choice.calls
   pub failed : choice.failed ≡ s.failed
   pub numbers : choice.numbers ≡ s.numbers
+  pub shown : choice.shown ≡ s.shown
 
 -- this is one of the names, and no call has it
 abbrev pub IsNoCallIn : (names : List (List ℕ)) → (name : List ℕ) → Type 0

@@ -12,7 +12,7 @@ use Rattle.explained_run.specs.Seen.{Before}
 
 -- no line
 abbrev pub no_line : Choice
-no_line = record { lines = false; pid = None; program = None; calls = None; failed = false; numbers = false }
+no_line = record { lines = false; pid = None; program = None; calls = None; failed = false; numbers = false; shown = 0 }
 
 -- this process, or any if none is asked for
 abbrev pub is_process : Option ℕ → (p : ℕ) → Bool

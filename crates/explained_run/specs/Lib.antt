@@ -6,7 +6,9 @@ pub mod Handed
 pub mod Handing
 pub mod Lines
 pub mod LiveFact
+pub mod Output
 pub mod Ranges
 pub mod Seen
 pub mod Sent
 pub mod Told
+pub mod Who

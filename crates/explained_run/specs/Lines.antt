@@ -14,7 +14,7 @@ use Rattle.explained_run.specs.declared.choice.Choice.{Choice}
 
 -- what stands before a call that has waited
 abbrev pub mark : (resumed : Bool) → List ℕ
-mark resumed = if resumed then codes ".." else []
+mark resumed = if resumed then codes "<.. resumed> " else []
 
 -- what a call has answered, by the memory after it
 abbrev pub answered_text : State → (p : ℕ) → Option Asked → (value : ℤ) → List ℕ
@@ -23,13 +23,13 @@ answered_text s p (Some asked) value = answer_shown s p asked value
 
 -- a call that is done, by the memory after it; call 7 is exec, of which the memory before it tells
 abbrev pub done_text : Before → State → (p : ℕ) → (number value : ℤ) → List ℕ
-done_text b s p number value = if int_eq number (pos 7) then b.call else asked_text s p b.asked (Some value)
+done_text b s p number value = if int_eq number (pos 7) then b.call else asked_text b.shown s p b.asked (Some value)
 
 abbrev pub called_line : Before → State → (p : ℕ) → (number value : ℤ) → List ℕ
 called_line b s p number value = b.who ++ mark b.resumed ++ done_text b s p number value ++ answered_text s p b.asked value ++ codes "\n"
 
 abbrev pub waiting_line : Before → List ℕ
-waiting_line b = b.who ++ b.call ++ codes " ..waits\n"
+waiting_line b = b.who ++ b.call ++ codes " <unfinished ..>\n"
 
 -- a marked process is killed; any other has called exit
 abbrev pub end_text : Before → List ℕ
@@ -61,7 +61,7 @@ told_of choice b s p o = if shows choice b o then line b s p o else []
 
 abbrev pub told_by : Choice → (place : ℕ) → World → List Named → (current : Option ℕ) → Outcome → State → List ℕ
 told_by choice place w names None o s = []
-told_by choice place w names (Some p) o s = if shows_process choice p (name_in w names p) then told_of choice (before choice.numbers place w names p) s p o else []
+told_by choice place w names (Some p) o s = if shows_process choice p (name_in w names p) then told_of choice (before choice.numbers choice.shown place w names p) s p o else []
 
 -- what is told of an event that leads from a world, to which so many events led and in which processes run these programs, to a state
 abbrev pub told : Choice → (place : ℕ) → World → List Named → Outcome → State → List ℕ

@@ -26,6 +26,8 @@ pub record Before : Type 0 where
   pub resumed : Bool
   -- its kill mark is set, so that it ends by this step
   pub marked : Bool
+  -- how many bytes of a text or a buffer are shown at most
+  pub shown : ℕ
 
 -- ---- of a machine
 
@@ -45,10 +47,10 @@ number_text true place = decimal place ++ codes " "
 abbrev pub who_text : (numbers : Bool) → (place : ℕ) → World → List Named → (p : ℕ) → List ℕ
 who_text numbers place w names p = number_text numbers place ++ (decimal p ++ named (name_in w names p) ++ codes ": ")
 
--- a call as text, if there is one
-abbrev pub asked_text : State → (p : ℕ) → Option Asked → (answered : Option ℤ) → List ℕ
-asked_text s p None answered = []
-asked_text s p (Some asked) answered = call_shown s p asked answered
+-- a call as text, if there is one; of each text and buffer so many bytes are shown at most
+abbrev pub asked_text : (shown : ℕ) → State → (p : ℕ) → Option Asked → (answered : Option ℤ) → List ℕ
+asked_text shown s p None answered = []
+asked_text shown s p (Some asked) answered = call_shown shown s p asked answered
 
 abbrev pub is_some_call : Option Call → Bool
 is_some_call None = false
@@ -63,16 +65,17 @@ is_marked (Some (state.Live parent marked call asleep)) = marked
 is_marked _ = false
 
 -- process p of a world to which so many events led, in which processes run these programs
-abbrev pub before : (numbers : Bool) → (place : ℕ) → World → List Named → (p : ℕ) → Before
-before numbers place w names p = record {
+abbrev pub before : (numbers : Bool) → (shown place : ℕ) → World → List Named → (p : ℕ) → Before
+before numbers shown place w names p = record {
   who = who_text numbers place w names p;
   asked = asked_of w p;
-  call = asked_text w.state p (asked_of w p) None;
+  call = asked_text shown w.state p (asked_of w p) None;
   resumed = is_in_call (process_at w p);
   marked = is_marked (process_at w p);
+  shown = shown;
 }
 
 -- ---- of what was kept
 
 abbrev pub seen_of : Seen → Before
-seen_of s = record { who = string_bytes s.who; asked = s.asked; call = string_bytes s.call; resumed = s.resumed; marked = s.marked }
+seen_of s = record { who = string_bytes s.who; asked = s.asked; call = string_bytes s.call; resumed = s.resumed; marked = s.marked; shown = s.shown }

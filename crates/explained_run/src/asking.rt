@@ -136,6 +136,7 @@ pub(crate) fn choice_of(alloc: Global, settings: &Settings) -> Result<Choice, Re
         calls,
         failed: settings.failed,
         numbers: settings.numbers,
+        shown: settings.shown,
     })
 }
 

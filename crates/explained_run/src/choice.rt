@@ -26,6 +26,8 @@ pub struct Choice {
     pub failed: bool,
     /// Each begins with the number of events before its own.
     pub numbers: bool,
+    /// So many bytes of each text and buffer are shown at most.
+    pub shown: u16,
 }
 
 /// Stands for what a run was asked for. So the type of who plays it says which lines these are.

@@ -1,6 +1,7 @@
 //! The words of the command line.
-ghost use Rattle.std.specs.Prelude.{◌≡◌, ◌≤◌, IfOk};
+ghost use Rattle.std.specs.Prelude.{◌≡◌, ◌≤◌, IfNone, IfOk, IfSome};
 ghost use Rattle.explained_run.specs.Ranges.{AreInRange};
+ghost use Rattle.explained_run.specs.Who as meant;
 ghost use Rattle.xk_base.specs.declared.limits.TheConstants.{PID_MAX};
 
 use crate::NAME;
@@ -32,6 +33,21 @@ const CALL: &str = "call";
 /// The word that asks for calls that failed.
 const FAILED: &str = "failed";
 
+/// The word that names a process by its pid, or by the program that it runs.
+const PROCESS: &str = "process";
+
+/// The word that says how much of a text is shown.
+const SHOWN: NumberOption = NumberOption {
+    name: "shown",
+    help: "Show so many bytes of each text and buffer at most: 0 to 65535",
+    default: "32",
+    least: 0,
+    most: 65_535,
+};
+
+/// The word that names the file of the lines.
+const OUTPUT: &str = "output";
+
 /// The word that asks for the numbers of events.
 const NUMBERS: &str = "numbers";
 
@@ -53,9 +69,11 @@ what it answered:
 
   3 (wc): read(0, \"echo hi\\n\", 64) = 8
 
-A call that waits has a line that ends with `..waits`; its name has two dots before it once it is
-done. Bytes are written as strings of C, 32 at most. Of what a process reads or is told the line has
-what was stored. `killed` and `fault` tell that a process is gone without a call; xv_why tells more.
+A call that waits has a line that ends with `<unfinished ..>`; once it is done, `<.. resumed>` stands
+before it. Bytes are written as strings of C, 32 at most, or as many as --shown says. Of what a
+process reads or is told the line has what was stored. `killed` and `fault` tell that a process is
+gone without a call; xv_why tells more. With --output the lines go into a file, and all else stays
+where it is.
 
 With --count a table tells at the end how many calls each process has done, how many of them
 answered less than 0, and how many instructions it has done. It stands in place of the lines, and of
@@ -79,6 +97,11 @@ const COMMAND_LINE: CommandLine = CommandLine {
             help: "Tell only what processes do that run this program",
         },
         CommandWord::Text {
+            name: PROCESS,
+            value: "WHO",
+            help: "As --pid, if it is a number, or else as --program",
+        },
+        CommandWord::Text {
             name: CALL,
             value: "NAMES",
             help: "Tell these kernel calls alone, as read,write",
@@ -86,6 +109,12 @@ const COMMAND_LINE: CommandLine = CommandLine {
         CommandWord::Flag {
             name: FAILED,
             help: "Tell only calls that answered less than 0, and faults and kills",
+        },
+        CommandWord::Number(&SHOWN),
+        CommandWord::Text {
+            name: OUTPUT,
+            value: "PATH",
+            help: "Write the lines into this file, and not to standard error",
         },
         CommandWord::Flag {
             name: NUMBERS,
@@ -104,11 +133,60 @@ const COMMAND_LINE: CommandLine = CommandLine {
 // The process that is named, if any.
 fn chosen_pid(number: u32) -> Option<Pid>
     requires { number ≤ PID_MAX }
+    ensures { result ≡ meant.pid_of number }
 {
     if number == 0 {
         return None;
     }
     Some(Pid::new(number))
+}
+
+// The bytes that are shown of each text.
+fn shown_bytes(number: u32) -> u16
+    requires { number ≤ 65535 }
+    ensures { result ≡ number }
+{
+    number as u16
+}
+
+/// Which processes are asked for.
+#[derive(Drop)]
+struct Who {
+    pid: Option<Pid>,
+    program: Option<String>,
+}
+
+// The number that a text writes, if it is one that a pid may be, or 0.
+fn number_in(text: &str) -> Option<u32>
+    ensures number { IfSome result (λ number. meant.IsPid text.now × (number ≡ meant.number_of text.now)) }
+    ensures none { IfNone result (¬ meant.IsPid text.now) }
+{
+    let Ok(number) = text.parse::<u32>() else {
+        return None;
+    };
+    if number > PID_MAX {
+        return None;
+    }
+    Some(number)
+}
+
+// Which processes are asked for, if one is named by its pid, or by the program that it runs, beside what else is asked for.
+fn who_is_asked(process: Option<String>, who: Who) -> Who
+    ensures { meant.IsWho process who result }
+{
+    let Some(process) = process else {
+        return who;
+    };
+    match number_in(process.as_str()) {
+        Some(number) => Who {
+            pid: chosen_pid(number),
+            program: who.program,
+        },
+        None => Who {
+            pid: who.pid,
+            program: Some(process),
+        },
+    }
 }
 
 /// What the words of the command line ask for.
@@ -126,11 +204,16 @@ pub(crate) fn settings<R: Env + AllocGlobal>(rt: &R) -> Result<Settings, WordsEr
     let quantum = given.number(&QUANTUM)?;
     let trace = given.number(&TRACE)?;
     let budget = given.number(&BUDGET)?;
-    let pid = given.number(&PID)?;
-    let program = given.text(PROGRAM)?;
+    let named = Who {
+        pid: chosen_pid(given.number(&PID)?),
+        program: given.text(PROGRAM)?,
+    };
+    let Who { pid, program } = who_is_asked(given.text(PROCESS)?, named);
     let calls = given.text(CALL)?;
     let failed = given.flag(FAILED);
     let numbers = given.flag(NUMBERS);
+    let shown = shown_bytes(given.number(&SHOWN)?);
+    let output = given.text(OUTPUT)?;
     let count = given.flag(COUNT);
     let replay = replay_words(rt, &given, &TOLD_BY_RECORD)?;
     let files = given.files()?;
@@ -140,11 +223,13 @@ pub(crate) fn settings<R: Env + AllocGlobal>(rt: &R) -> Result<Settings, WordsEr
         quantum,
         trace,
         budget,
-        pid: chosen_pid(pid),
+        pid,
         program,
         calls,
         failed,
         numbers,
+        shown,
+        output,
         count,
         replay,
         files,

@@ -25,6 +25,10 @@ pub struct Settings {
     pub failed: bool,
     /// Whether each line begins with the number of events before its own.
     pub numbers: bool,
+    /// How many bytes of each text and buffer are shown at most.
+    pub shown: u16,
+    /// The path of the file that the lines are written into; they go to standard error if there is none.
+    pub output: Option<String>,
     /// Whether a table of what each process has done is asked for, in place of the lines.
     pub count: bool,
     /// What is said of a record that is to be told, in place of a run in rounds.

@@ -16,7 +16,7 @@ use crate::asking::check_program;
 use crate::choice::{Asks, Choice};
 use crate::explained::Explained;
 use crate::line::Settings;
-use crate::lines::{Lines, Written};
+use crate::lines::{Lines, written_to};
 use crate::running::Ended;
 use crate::table::write_counts;
 use crate::watching::{Stop, Watched};
@@ -153,6 +153,7 @@ fn replay<'a>(
     check_program(rt.alloc(), &choice, made.programs.as_slice())?;
     let record = record_of(rt, NAME, &asked)?;
     let chosen = recorded_programs(rt.alloc(), made.programs.as_slice(), &record)?;
+    let lines = written_to(rt, &settings.output, rt.stderr())?;
     let mut sink = Counted::new(rt.stdout());
     let ended = replay_with(
         rt.alloc(),
@@ -162,7 +163,7 @@ fn replay<'a>(
         &record,
         choice,
         &mut sink,
-        Written(rt.stderr()),
+        lines,
         rt.stderr(),
     );
     Ok(ended.status)

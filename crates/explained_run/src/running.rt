@@ -15,7 +15,7 @@ use crate::choice::{Asks, Choice};
 use crate::command_line::settings;
 use crate::explained::Explained;
 use crate::line::Settings;
-use crate::lines::{Lines, Written};
+use crate::lines::{Lines, written_to};
 use crate::replaying::replay_chosen;
 use crate::table::write_counts;
 use crate::watching::{Stop, Watched};
@@ -161,6 +161,7 @@ fn run<'a>(rt: &HostRuntime, settings: &'a Settings, choice: Choice) -> Result<u
         rounds: settings.rounds,
         quantum: settings.quantum,
     };
+    let lines = written_to(rt, &settings.output, rt.stderr())?;
     let mut keys = Counted::new(rt.stdin());
     let mut sink = Counted::new(rt.stdout());
     let ended = run_with(
@@ -172,7 +173,7 @@ fn run<'a>(rt: &HostRuntime, settings: &'a Settings, choice: Choice) -> Result<u
         choice,
         &mut keys,
         &mut sink,
-        Written(rt.stderr()),
+        lines,
         rt.stderr(),
     );
     Ok(ended.status)

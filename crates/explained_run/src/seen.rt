@@ -4,6 +4,7 @@ ghost use Rattle.debug_views.specs.Written.{Appends};
 ghost use Rattle.kcall_core.specs.Observers.{process_at};
 ghost use Rattle.explained_run.specs.Seen.{asked_text, before, is_in_call, is_marked, name_in, number_text, seen_of, who_text};
 
+use crate::choice::Choice;
 use call_lines::{Asked, asked_of, show_call};
 use debug_words::texts::Named;
 use std::alloc::{AllocError, Global};
@@ -24,6 +25,8 @@ pub(crate) struct Seen {
     pub resumed: bool,
     /// Whether its kill mark is set, so that it ends by this step.
     pub marked: bool,
+    /// How many bytes of each text and buffer are shown at most.
+    pub shown: u16,
 }
 
 /// The name of the program that a process runs.
@@ -69,12 +72,13 @@ pub(crate) fn show_asked(
     pid: Pid,
     asked: &Option<Asked>,
     answered: Option<i64>,
+    shown: u16,
     text: &mut String,
 ) -> Result<(), AllocError>
-    ensures { OnOk result (Appends text.old text.new (asked_text machine.now.world.state pid asked.now answered)) }
+    ensures { OnOk result (Appends text.old text.new (asked_text shown machine.now.world.state pid asked.now answered)) }
 {
     match asked {
-        Some(asked) => show_call(alloc, machine, pid, asked, answered, text),
+        Some(asked) => show_call(alloc, machine, pid, asked, answered, shown, text),
         None => Ok(()),
     }
 }
@@ -100,21 +104,29 @@ pub(crate) fn is_marked(state: &Option<ProcessState>) -> bool
 }
 
 impl Seen {
-    /// What is seen of a process now, after so many events.
+    /// What is seen of a process now, after so many events, as far as it is asked for.
     pub(crate) fn of(
         alloc: Global,
-        numbers: bool,
+        choice: &Choice,
         place: u64,
         running: &Running,
         pid: Pid,
     ) -> Result<Seen, AllocError>
-        ensures { IfOk result (λ s. seen_of s ≡ before numbers place running.now.machine.world running.now.names pid) }
+        ensures { IfOk result (λ s. seen_of s ≡ before choice.now.numbers choice.now.shown place running.now.machine.world running.now.names pid) }
     {
         let mut who = String::new(alloc);
-        show_who(numbers, place, running, pid, &mut who)?;
+        show_who(choice.numbers, place, running, pid, &mut who)?;
         let asked = asked_of(&running.machine, pid);
         let mut call = String::new(alloc);
-        show_asked(alloc, &running.machine, pid, &asked, None, &mut call)?;
+        show_asked(
+            alloc,
+            &running.machine,
+            pid,
+            &asked,
+            None,
+            choice.shown,
+            &mut call,
+        )?;
         let state = running.machine.process(pid);
         Ok(Seen {
             who,
@@ -122,6 +134,7 @@ impl Seen {
             call,
             resumed: is_in_call(&state),
             marked: is_marked(&state),
+            shown: choice.shown,
         })
     }
 }

@@ -50,7 +50,7 @@ pub(crate) fn tell_step(
             is_told: true,
         };
     }
-    let seen = Seen::of(alloc, choice.numbers, place, running, pid);
+    let seen = Seen::of(alloc, choice, place, running, pid);
     let outcome = running.event(Event::Run);
     let Ok(seen) = seen else {
         return Step {

@@ -18,7 +18,7 @@ use xv_machine::{Machine, Outcome};
 fn mark(resumed: bool) -> &'static str
     ensures { result.now ≡ meant.mark resumed }
 {
-    if resumed { ".." } else { "" }
+    if resumed { "<.. resumed> " } else { "" }
 }
 
 // How a process has ended.
@@ -64,7 +64,15 @@ fn show_done(
     if number == EXEC {
         text.push_str(seen.call.as_str())
     } else {
-        show_asked(alloc, machine, pid, &seen.asked, Some(value), text)
+        show_asked(
+            alloc,
+            machine,
+            pid,
+            &seen.asked,
+            Some(value),
+            seen.shown,
+            text,
+        )
     }
 }
 
@@ -93,7 +101,7 @@ fn show_waiting(seen: &Seen, text: &mut String) -> Result<(), AllocError>
 {
     text.push_str(seen.who.as_str())?;
     text.push_str(seen.call.as_str())?;
-    text.push_str(" ..waits\n")
+    text.push_str(" <unfinished ..>\n")
 }
 
 // Writes that a process is gone.

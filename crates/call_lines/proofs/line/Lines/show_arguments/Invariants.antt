@@ -5,4 +5,4 @@ use Rattle.call_lines.proofs.line.Lines.show_arguments.Given as goal
 
 abbrev pub invariant-loop-place : goal.invariant-loop-place
 invariant-loop-place l =
-    string_bytes l.answer ≡ string_bytes l.fn.answer ++ flat_map (argument_at l.self.machine.now.world.state l.self.pid l.call l.asked l.answered) (range_with_len 0 l.place)
+    string_bytes l.answer ≡ string_bytes l.fn.answer ++ flat_map (argument_at l.self.shown l.self.machine.now.world.state l.self.pid l.call l.asked l.answered) (range_with_len 0 l.place)
