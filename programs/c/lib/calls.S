@@ -1,13 +1,13 @@
 # The calls of the kernel: the number goes into a7, the arguments stand in a0 to a2 already, and the answer
 # comes in a0. A call changes no other register.
-
+    .cfi_sections .debug_frame
 .macro kernel_function name, number
     .section .text.\name, "ax"
-    .globl \name
-\name:
+    .globl \name; .type \name, @function
+\name: .cfi_startproc
     li a7, \number
     ecall
-    ret
+    ret; .cfi_endproc; .size \name, . - \name
 .endm
 
     kernel_function fork, 1
@@ -29,11 +29,11 @@
 
 # kernel_call(number, first, second, third)
     .section .text.kernel_call, "ax"
-    .globl kernel_call
-kernel_call:
+    .globl kernel_call; .type kernel_call, @function
+kernel_call: .cfi_startproc
     mv a7, a0
     mv a0, a1
     mv a1, a2
     mv a2, a3
     ecall
-    ret
+    ret; .cfi_endproc; .size kernel_call, . - kernel_call

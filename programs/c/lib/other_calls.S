@@ -1,12 +1,12 @@
 # Calls under the names that they have elsewhere, and those of xv6's calls that this kernel doesn't have: it answers -1.
-
+    .cfi_sections .debug_frame
 .macro kernel_function name, number
     .section .text.\name, "ax"
-    .globl \name
-\name:
+    .globl \name; .type \name, @function
+\name: .cfi_startproc
     li a7, \number
     ecall
-    ret
+    ret; .cfi_endproc; .size \name, . - \name
 .endm
 
     kernel_function _exit, 2
