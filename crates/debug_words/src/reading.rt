@@ -21,6 +21,9 @@ use xk_base::{Frame, Pid};
 /// The greatest number of a call that is looked for: 2^31 - 1.
 const CALLS_LAST: u64 = 2_147_483_647;
 
+/// The first line of a file: if it, or one behind it, has a place, lines are known.
+const FIRST_LINE: &str = "1";
+
 /// How many bytes of memory are shown where no number is given.
 const BYTES_USUAL: u32 = 64;
 
@@ -545,14 +548,42 @@ fn one_mark(mark: Mark) -> AskedMarks {
     marks
 }
 
+/// Whether a text is the number of a line, where a line may stand: it has decimal digits alone.
+fn is_line_number(text: &str) -> bool {
+    !text.is_empty() && text.bytes().all(|byte| byte.is_ascii_digit())
+}
+
+/// The mark at an address, or at a name's: each instruction stands at a multiple of 4.
+fn address_mark<'a, N: Names>(text: &'a str, names: &N) -> Result<AskedMarks, WordErrorKind<'a>> {
+    match named_spot(text, names) {
+        Some(spot) if spot.address % 4 == 0 => Ok(one_mark(mark_at(&spot))),
+        Some(_) => Err(WordErrorKind::NotThis {
+            text,
+            wanted: "an address that is a multiple of 4",
+        }),
+        None => Err(WordErrorKind::NotANumber(text)),
+    }
+}
+
+/// What a text asks for that names no place: the mark at an address, but for a line that isn't there, where lines are known.
+fn other_mark<'a, N: Names>(text: &'a str, names: &N) -> Result<AskedMarks, WordErrorKind<'a>> {
+    if is_line_number(text) && !names.spots(FIRST_LINE).is_empty() {
+        return Err(WordErrorKind::NotThis {
+            text,
+            wanted: "a line that has instructions, or an address as *24 or 0x18",
+        });
+    }
+    address_mark(text, names)
+}
+
 /// The marks at all places of a text: of a name or a line, or of an address.
 fn place_marks<'a, N: Names>(text: &'a str, names: &N) -> Result<AskedMarks, WordErrorKind<'a>> {
+    if let Some(address) = text.strip_prefix('*') {
+        return address_mark(address, names);
+    }
     let spots = names.spots(text);
     if spots.is_empty() {
-        return match named_spot(text, names) {
-            Some(spot) => Ok(one_mark(mark_at(&spot))),
-            None => Err(WordErrorKind::NotANumber(text)),
-        };
+        return other_mark(text, names);
     }
     let mut marks = AskedMarks::new();
     for spot in spots.as_slice() {
@@ -572,7 +603,7 @@ fn marked<'a, N: Names>(
     let Some(text) = tokens.get(1) else {
         return Ok(Word::Marks);
     };
-    match place_marks(without_star(text), names) {
+    match place_marks(text, names) {
         Ok(marks) => ended(tokens, 2, Word::Mark { marks, once }),
         Err(kind) => Err(kind),
     }

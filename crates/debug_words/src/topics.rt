@@ -240,7 +240,8 @@ let c stop before the instruction at PLACE; without PLACE, list the marks that
 c stops at.
 Also: b.
 PLACE is a function, a label, a line as wc.c:12, PROGRAM:NAME, or an address;
-help print tells more. It is a place of its program, whichever process runs
+help print tells more. 24 is a line of the file in which the process stands, *24
+and 0x18 are an address. It is a place of its program, whichever process runs
 that. There are 16 marks at most.",
             Topic::BreakOnce => "\
 tbreak PLACE

@@ -2,6 +2,7 @@
 ghost use Rattle.std.specs.Prelude.{◌≡◌};
 
 use crate::focus::place_of;
+use arrayvec::ArrayString;
 use debug_words::texts::Plain;
 use debug_words::{Names, Spot, Spots};
 use elf_symbols::function_start;
@@ -9,11 +10,18 @@ use rv64i_core::Regs;
 use std::alloc::AllocError;
 use uasm_text::register_name;
 use xk_base::{Pid, Program, Reg};
+use xv_report::text::Line;
 use xv_report::{LineNamed, ProgramSource, Sources, source_of};
 use xv_session::Session;
 
 /// In so many places of a program, at most, instructions of a line are looked for.
 const STRETCHES_MOST: u32 = 4096;
+
+/// The longest name of a line that is looked for by its number alone, in bytes.
+const LINE_BYTES: usize = 512;
+
+/// The function in whose file a line is looked for, if the process stands in a file that has none of its number.
+const MAIN: &[u8] = b"main";
 
 /// What is known where a line is read: the session, the sources of its programs, and the process that words look at.
 #[derive(Clone, Copy)]
@@ -48,6 +56,27 @@ fn place_named(programs: &[Program], name: &str) -> Option<usize> {
     programs
         .iter()
         .position(|program| program.name.as_slice() == name.as_bytes())
+}
+
+/// The name of the line of a number in a file whose name is told in two parts: `init.c:24`. `None` if it is too long.
+fn line_text(file: &str, rest: &str, number: &str) -> Option<ArrayString<LINE_BYTES>> {
+    let mut text = ArrayString::new();
+    text.try_push_str(file).ok()?;
+    text.try_push_str(rest).ok()?;
+    text.try_push_str(":").ok()?;
+    text.try_push_str(number).ok()?;
+    Some(text)
+}
+
+/// The name of the line of a number in the file of another line.
+fn text_beside(line: &Line<'_>, number: &str) -> Option<ArrayString<LINE_BYTES>> {
+    match *line {
+        Line::Told(text) => {
+            let (file, _) = text.rsplit_once(':')?;
+            line_text(file, "", number)
+        }
+        Line::Assembled { program, .. } => line_text(str::from_utf8(program).ok()?, ".s", number),
+    }
 }
 
 impl<'a> Known<'a> {
@@ -153,6 +182,49 @@ impl<'a> Known<'a> {
         }
     }
 
+    /// The places of the line of a number in the file that has an address of the program at a place; of the next line of the
+    /// file that has instructions, if it has none itself.
+    fn line_beside(&self, number: &str, program: usize, address: u64) -> Option<Spots> {
+        let source = self.source(program);
+        let text = text_beside(&source.location(address).line?, number)?;
+        let line = LineNamed::of(text.as_str())?;
+        if self.has_line(&line, program) {
+            return Some(self.line_spots(&line, program));
+        }
+        let next = source.line_after(&line)?;
+        Some(self.line_spots(&next, program))
+    }
+
+    /// The places of the line of a number in the file of a program's `main`.
+    fn line_in_main(&self, number: &str, program: usize) -> Option<Spots> {
+        let main = self.source(program).address_named(MAIN)?;
+        self.line_beside(number, program, main)
+    }
+
+    /// Whether an address of the program at a place stands in assembler, as where a program in C begins, and its calls.
+    fn is_in_assembler(&self, program: usize, address: u64) -> bool {
+        match self.source(program).location(address).line {
+            Some(Line::Told(text)) => text.contains(".S:"),
+            _ => false,
+        }
+    }
+
+    /// The places of the line of a number: in the file in which the process stands that words look at, or else in the file
+    /// of its program's `main`. That comes first if the process stands in a program in C's assembler.
+    fn line_here(&self, number: &str) -> Option<Spots> {
+        let program = self.program_of(&None)?;
+        let regs = self.session.machine().registers(self.focus?)?;
+        if self.is_in_assembler(program, regs.pc()) {
+            if let Some(spots) = self.line_in_main(number, program) {
+                return Some(spots);
+            }
+        }
+        match self.line_beside(number, program, regs.pc()) {
+            Some(spots) => Some(spots),
+            None => self.line_in_main(number, program),
+        }
+    }
+
     /// The address of a name of the program at a place.
     fn named_in(&self, name: &str, program: Option<usize>) -> Option<Spot> {
         let program = program?;
@@ -209,6 +281,11 @@ impl<'a> Names for Known<'a> {
     }
 
     fn spots(&self, name: &str) -> Spots {
+        if let Some(b'0'..=b'9') = name.as_bytes().first() {
+            if let Some(spots) = self.line_here(name) {
+                return spots;
+            }
+        }
         if let Some(spots) = self.line_named(name) {
             return spots;
         }
