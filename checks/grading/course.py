@@ -493,10 +493,9 @@ def try_autograder(room):
     expect(made.getinfo("run_autograder").external_attr >> 16 == 0o100755, "run_autograder is no program in the zip")
     os.chmod(home / "run_autograder", 0o755)
     (home / "results").mkdir()
-    right = tomllib.loads((EXERCISES / "2-pages.toml").read_text(encoding="utf-8"))["variant"][sum(b"anna") % 5]
-    answers = f"pages: 55\n{right['small']}: 1\n"
-    for email, text, score in [("s01@example.org", answers, 2), ("S01@Example.org", "", 0),
-                               ("who@example.org", answers, 2), (None, None, 0)]:
+    answers = "pages: 55\nsmall: 1\n"
+    for email, text, score in [("s01@example.org", answers, 1), ("S01@Example.org", "", 0),
+                               ("who@example.org", answers, 1), (None, None, 0)]:
         shutil.rmtree(home / "submission", ignore_errors=True)
         (home / "submission").mkdir()
         if text is not None:

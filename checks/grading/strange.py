@@ -305,6 +305,22 @@ def sheets(room):
         expect("/form.toml:" not in said and "xv_grade" not in said, f"{why}: another name than the user's: {said}")
 
 
+def try_numbered(room):
+    """Too many lines that have a number as their question are told by the check as by the grader, also of a wrong answer."""
+    put(room / "seven.toml", '''title = "T"\nfiles = ["a.txt"]\n[[run]]\nname = "r"\nwith = ["init.s"]\n'''
+        '''[[run.rule]]\nname = "n"\nline = "7: 1"\nnumbered = 2\n''')
+    put(room / "init.s", "  li a0, 0\n  li a7, 2\n  ecall\n")
+    why = "3 lines have a number as their question, and 2 at most may be there"
+    for text, told in (("7: 1\n8: 1\nx: 1\n", "is there"), ("7: 1\n8: 1\n9: 1\n", why), ("7: 2\n8: 1\n9: 1\n", why)):
+        put(room / "mine/a.txt", text)
+        says(["check", room / "seven.toml", room / "mine"], 0, told)
+    for text, told in (("7: 1\n8: 1\n9: 1\n", why), ("7: 2\n8: 1\n", "`7:` has another answer"), ("7: 1\n8: 1\n", "right")):
+        put(room / "mine/a.txt", text)
+        words = ["node", TOP / "anywhere/grade.mjs", "--work", room / "work", room / "seven.toml", room / "mine"]
+        done = subprocess.run(words, capture_output=True, env={**os.environ, "XV_PICTURE": ""})
+        expect(told in done.stdout.decode(), f"numbered: {told} isn't said of {text!r}: {done.stdout}")
+
+
 # ---- folders
 
 def made_by(folder):
@@ -456,7 +472,7 @@ def main():
         return 0
     asked = Asked()
     with tempfile.TemporaryDirectory() as made:
-        for it in (try_moodle, try_others, try_gradescope, try_words, try_class, try_notes, courses, books, sheets):
+        for it in (try_moodle, try_others, try_gradescope, try_words, try_class, try_notes, try_numbered, courses, books, sheets):
             attempt(it, pathlib.Path(made).resolve() / it.__name__)
     asked.end()
     told = f"{len(failed)} of {len(tried)} things are not" if failed else f"all {len(tried)} things are"
