@@ -92,6 +92,12 @@ const SWAPS = {
   divu: "there is no division",
   rem: "there is no remainder: the machine has RV64I alone",
   remu: "there is no remainder",
+  ".type": "leave it out: the machine needs no such word",
+  ".size": "leave it out: the machine needs no such word",
+  ".option": "leave it out: the machine needs no such word",
+  ".attribute": "leave it out: the machine needs no such word",
+  ".file": "leave it out: the machine needs no such word",
+  ".ident": "leave it out: the machine needs no such word",
   ".globl": "leave it out: `_start:` is found by its name",
   ".global": "leave it out: `_start:` is found by its name",
   ".section": "write `.text` or `.data`",
@@ -221,7 +227,7 @@ const OTHER_NAMES = {
   ".quad": ".dword", ".8byte": ".dword", ".long": ".word", ".4byte": ".word",
 };
 /** Words of other assemblers that are left out here. */
-const LEFT_OUT = new Set([".globl", ".global"]);
+const LEFT_OUT = new Set([".globl", ".global", ".type", ".size", ".option", ".attribute", ".file", ".ident"]);
 /** The sections of others, by how their names begin. */
 const SECTIONS = [[/^\.text\b/, ".text"], [/^\.(data|rodata|bss|sdata)\b/, ".data"]];
 

@@ -41,12 +41,22 @@ function parts_of(line) {
 
 // ---- a name for a number
 
-const NAMED = /^\s*(?:\.(?:equ|set|eqv|equiv)\s+([A-Za-z_]\w*)\s*,|([A-Za-z_]\w*)\s*=)\s*(\S+)\s*$/;
+const NAMED = /^\s*(?:\.(?:equ|set|eqv|equiv)\s+([A-Za-z_]\w*)\s*,|([A-Za-z_]\w*)\s*=)\s*(\S.*?)\s*$/;
+const FROM_LABEL = /^\.\s*-\s*([A-Za-z_]\w*)$/; // how many bytes of data stand between a label and here
 
 /** What a line gives a name to: {name, value}, or null. */
 function named_in(line) {
-  const found = NAMED.exec(with_forms(parts_of(line).code));
-  return found && NUMBER.test(found[3]) ? { name: found[1] ?? found[2], value: found[3] } : null;
+  const [, by_word, by_sign, value = ""] = NAMED.exec(with_forms(parts_of(line).code)) ?? [];
+  return NUMBER.test(value) || FROM_LABEL.test(value) ? { name: by_word ?? by_sign, value } : null;
+}
+
+/** What a line gives a name to, with its value as a number; null if that can't be told. */
+function named_at(lines, place, assemble) {
+  const named = named_in(lines[place]), [, label] = FROM_LABEL.exec(named?.value) ?? [];
+  if (!label) return named;
+  const { at, names } = data_up_to(lines, place, assemble) ?? {};
+  const from = names?.find((it) => it.name === label)?.address;
+  return from !== undefined && from <= at ? { name: named.name, value: String(at - from) } : null;
 }
 
 /** A line with a number in the place of its name, in quotes and comments nowhere. */
@@ -58,8 +68,8 @@ function with_number(line, { name, value }) {
 }
 
 /** In the place of `.equ NAME, NUMBER`: the number wherever the name stands, up to where it gets another one. */
-export function number_for_name({ lines, place, of }) {
-  const named = named_in(lines[place]);
+export function number_for_name({ lines, place, of }, assemble) {
+  const named = named_at(lines, place, assemble);
   if (!named || register(named.name) >= 0) return null;
   if (lines.some((it) => new RegExp(`^\\s*${named.name}:`).test(it))) return null;
   const places = [...lines.keys()].filter((k) => k === place || named_in(of[k])?.name === named.name);
@@ -81,16 +91,19 @@ const ALIGNED = /^\s*\.(align|p2align|balign)\s+(\d+)\s*$/, SECTION = /^\s*\.(te
 /** A line without all but its label, or its section. */
 const label_of = (line) => (SECTION.test(parts_of(line).code) ? line : parts_of(line).label);
 
-/** Where data stands that begins with a line: its address, or null. `assemble` tells the labels of a text. */
-function address_at(lines, place, assemble) {
+/**
+ * Where data stands that would begin at a line, and the labels of the data before it: {at, names}; null if no data
+ * stands there. `assemble` tells the labels of a text.
+ */
+function data_up_to(lines, place, assemble) {
   let is_data = false;
   const name = "place_of_this_line", kept = lines.map((line, k) => {
     const section = SECTION.exec(parts_of(line).code)?.[1];
     if (section && k < place) is_data = section === "data";
     return k < place && is_data ? line : k === place ? `${parts_of(line).label}\n${name}:` : label_of(line);
   });
-  const found = is_data && assemble(kept.join("\n")).names?.find((it) => it.name === name);
-  return found ? Number(found.address % BigInt(MOST)) : null;
+  const names = is_data ? assemble(kept.join("\n")).names : null, found = names?.find((it) => it.name === name);
+  return found ? { at: found.address, names } : null;
 }
 
 /** In the place of `.align N`: so many bytes of 0 that what follows stands at such a multiple. */
@@ -99,9 +112,9 @@ export function room_for_alignment({ lines, place }, assemble) {
   if (!word) return null;
   const multiple = word === "balign" ? Number(number) : 2 ** Number(number);
   if (multiple < 1 || multiple > MOST || !Number.isInteger(Math.log2(multiple))) return null;
-  const at = address_at(lines, place, assemble), is_text = at === null && multiple <= 4;
-  if (at === null && !is_text) return null;
-  const lacks = is_text ? 0 : (multiple - (at % multiple)) % multiple;
+  const data = data_up_to(lines, place, assemble), is_text = data === null && multiple <= 4;
+  if (data === null && !is_text) return null;
+  const lacks = is_text ? 0 : (multiple - (Number(data.at) % multiple)) % multiple;
   const left = [label, comment].filter((it) => it).join(" ");
   if (!lacks) return { written: left, others: [], button: "leave it out: it is so here" };
   const space = `.space ${lacks}`, written = `${label}${label ? " " : /^\s*/.exec(code)[0]}${space}`;

@@ -56,20 +56,22 @@ export function compile(compiler, path, words, file_of) {
     const bytes = new TextEncoder().encode(text), find = (name) => (name === path ? bytes : file_of(name));
     return messages_of(path, object_of(compiler, path, words, find));
   };
-  const quotes = open_quotes(path, source, messages_of(path, first));
-  const told = quotes.messages.length ? told_of(quotes.text) : messages_of(path, first);
-  // What else is told of a line with such a text may come of how it was ended.
-  const is_of_quote = (it) => it.file === path && quotes.messages.some(({ line }) => line === it.line);
-  const messages = [...quotes.messages, ...told.filter((it) => !is_of_quote(it))];
-  let { text } = quotes, mistake = told.find((it) => it.is_error), left_out = "";
-  for (let count = 1; mistake?.file === path && mistake.line > 0 && count < MOST_MISTAKES; count++) {
-    const without = without_mistake(text, mistake);
+  const messages = [], quotes = new Set();
+  // What else is told of a line with a text that isn't ended may come of how it was ended.
+  const is_of_quote = (it) => it.file === path && quotes.has(it.line);
+  let text = source, told = messages_of(path, first), left_out = null;
+  for (let count = 0; count < MOST_MISTAKES; count++) {
+    const open = open_quotes(path, text, told);
+    open.messages.forEach(({ line }) => quotes.add(line));
+    messages.push(...open.messages);
+    if (open.messages.length) { text = open.text; told = told_of(text); }
+    messages.push(...told.filter((it) => !is_of_quote(it) && (left_out === null || is_new(it, messages, left_out))));
+    const mistake = told.find((it) => it.is_error), is_own = mistake?.file === path && mistake.line > 0;
+    const without = is_own ? without_mistake(text, mistake) : { gone: null };
     if (without.gone === null) break;
     text = without.text;
-    left_out += `${without.gone}\n`;
-    const more = told_of(text);
-    mistake = more.find((it) => it.is_error);
-    messages.push(...more.filter((it) => !is_of_quote(it) && is_new(it, messages, left_out)));
+    left_out = `${left_out ?? ""}${without.gone}\n`;
+    told = told_of(text);
   }
   const at_their_places = messages.map((it) => (it.file === path ? placed(it, source) : it));
   return { object: first.object, messages: in_order(at_their_places) };

@@ -46,6 +46,14 @@ function open_text(source) {
   return null;
 }
 
+/** Where a text in quotes is meant to end, by its line: before the brackets that are open there, and the `;`. */
+function end_of_text(code_before, own) {
+  const count = (letter) => code_before.split(letter).length - 1;
+  let open = Math.max(0, count("(") - count(")")), end = own.length;
+  for (; end > 0 && /[\s)\]},;]/.test(own[end - 1]); end--) if (own[end - 1] === ")" && open-- === 0) break;
+  return end;
+}
+
 /**
  * The first text in quotes that its line doesn't end: {message, closed}, what is told of it, and the source in which it
  * ends before the brackets and the `;` at the end of its line; null if there is none. The compiler reads such a text on
@@ -55,7 +63,7 @@ export function open_quote(file, source) {
   const found = open_text(source);
   if (!found) return null;
   const { quote, from, to } = found, before = source.slice(0, from).split("\n"), own = source.slice(from + 1, to);
-  const end = from + 1 + own.replace(/[\s)\]},;]*$/, "").length;
+  const end = from + 1 + end_of_text(c_code(before.at(-1)), own);
   const text = `missing terminating ${quote} character`;
   return {
     message: { file, line: before.length, is_error: true, text, at: before.at(-1).length },

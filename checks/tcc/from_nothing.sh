@@ -1,8 +1,8 @@
 #!/bin/sh
 # from_nothing.sh: what a student without gcc does, with Node alone and in a folder of its own: exercises 5, 15 and 16 of the course, and
 # pingpong. Each source is written with three mistakes, which `xv --cc` tells with their lines; they are mended one after another, each
-# time the rest is told; then it is run, stepped through by lines forth and back in the debugger, with its variables, and handed in:
-# `xv --check` finds nothing that is missing, and the grader gives all points. It needs what programs/c/tcc/build.sh makes, in the folder
+# time the rest is told; then it is run, and handed in: `xv --check` finds nothing that is missing, and the grader gives all points.
+# Pingpong and the shell are stepped through by lines forth and back in the debugger, with their calls and variables. It needs what programs/c/tcc/build.sh makes, in the folder
 # XV_TCC or in programs/c/tcc/out, and the answers of checks/grading. Run it in a bare Debian, where nothing else is. The status is 1 if
 # something is otherwise.
 set -u
@@ -44,9 +44,17 @@ write_and_mend() {
     xv --cc -Wall "$name.c" || fail "$name.c isn't compiled"
 }
 
-# The debugger's answers to standard input, of $1 in the shell, whose lines are in rc.
-debugged() {
-    xv --debug "$top/programs/bin/init" "$top/programs/bin/sh" "$@" 2>&1
+# The debugger's answers to the words $1, of the other files, have each of the texts in standard input, in their order.
+shows_in_order() {
+    words=$1
+    shift
+    told=$(printf '%b' "$words" | xv --debug "$top/programs/bin/init" "$@" 2>&1) left=$told
+    while IFS= read -r wanted; do
+        case $left in
+            *"$wanted"*) left=${left#*"$wanted"} ;;
+            *) fail "the debugger doesn't show $wanted: $told" ;;
+        esac
+    done
 }
 
 # Handed in as $2 by exercise $1: nothing is missing, and it has all points.
@@ -92,10 +100,16 @@ write_and_mend pp pp.right
 xv --run pp.c </dev/null >told 2>&1
 tr '\n' ' ' <told | grep -q '[0-9]: ping [0-9]: pong' || fail "pingpong shows otherwise: $(cat told)"
 echo pp >rc
-told=$(printf 'break pp.c:16\nc\nuntil pp.c:17\nuntil pp.c:18\nback until pp.c:17\nbt\ninfo locals\nquit\n' | debugged pp rc)
-for wanted in 'pp.c:16' 'pp.c:17' 'pp.c:18' 'there = {3, 4}' 'back = {5, 6}' "byte = 120 'x'" 'main'; do
-    case $told in *"$wanted"*) ;; *) fail "the debugger doesn't show $wanted: $told" ;; esac
-done
+shows_in_order 'break pp.c:16\nc\nuntil pp.c:17\nuntil pp.c:18\nback until pp.c:17\nbt\ninfo locals\nquit\n' "$top/programs/bin/sh" pp rc <<'END'
+mark 1 is met
+pp.c:17
+pp.c:18
+pp.c:17
+<main+
+there = {3, 4}
+back = {5, 6}
+byte = 120 'x'
+END
 
 answers=$top/checks/grading/answers
 echo 'exercise 5'
@@ -117,6 +131,19 @@ printf 'wc < words\ncat < words | grep a | wc\nexit\n' >rc
 printf 'alpha\nbeta\ngamma\n' >words
 xv "$top/programs/bin/init" sh "$top/programs/bin/cat" "$top/programs/bin/grep" "$top/programs/bin/wc" rc words </dev/null >told 2>&1
 [ "$(tr '\n' ' ' <told)" = '3 3 17 [0] 3 3 17 [0 0 0] ' ] || fail "the shell shows otherwise: $(cat told)"
+shows_in_order 'break sh.c:82\nc\nbt\nprint line\nuntil sh.c:83\nprint ends\nback until sh.c:82\nup\ninfo locals\nquit\n' \
+    sh "$top/programs/bin/cat" "$top/programs/bin/grep" "$top/programs/bin/wc" rc words <<'END'
+mark 1 is met
+<run+
+<main+
+cat < words
+sh.c:83
+ends = {4, 5}
+sh.c:82
+sh.c:119
+line = "cat < words
+next = 37, count = 42
+END
 hand_in 15-shell sh
 echo 'exercise 16'
 cp "$top/programs/course/heap/heap.h" .

@@ -171,6 +171,23 @@ wanted=$(printf '%s\n' 'open.c:4: error: missing terminating " character' "open.
 told=$(cd "$work" && node "$OLDPWD/xv.mjs" --cc open.c 2>&1 | grep error:)
 [ "$told" = "$wanted" ] || fail "texts that aren't ended are told otherwise: $told"
 
+# Such a text behind another mistake, with a call in it.
+cat >"$work/behind.c" <<'END'
+#include <stdio.h>
+int main(void)
+{
+    first(yy);
+    printf("%d\n, printf("two\n"));
+    printf("%d\n, getpid(3));
+    printf("three\n")
+    return 0;
+}
+END
+wanted=$(printf '%s\n' "behind.c:4: error: 'yy' undeclared" 'behind.c:5: error: missing terminating " character' \
+    'behind.c:6: error: missing terminating " character' "behind.c:7: error: ';' expected at the end (got \"return\" in line 8)")
+told=$(cd "$work" && node "$OLDPWD/xv.mjs" --cc behind.c 2>&1 | grep error:)
+[ "$told" = "$wanted" ] || fail "texts that aren't ended behind another mistake are told otherwise: $told"
+
 printf 'int main(void)\n{\n    return y;\n}\n' >"$work/mistake.c"
 refuses "mistake.c:3: error: 'y' undeclared" "$work/mistake.c"
 refuses '               ^' "$work/mistake.c"

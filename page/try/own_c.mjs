@@ -190,7 +190,7 @@ async function links(page) {
   await comes(page, "document.getElementById('screen').textContent.includes('pong')");
   await pause(page);
   const place = await at(page), told = await screen(page), link = await page.eval("page.sharing.link()");
-  await page.go("about:blank").catch(() => {});
+  await page.eval("location.href = 'about:blank'; 0").catch(() => {});
   const other = await open(link);
   holds(await comes(other, `page.app.view?.at === ${place}`, 20000) && (await screen(other)).includes("pong"), `a link has the source and the run: ${await at(other)} of ${place}`);
   holds(await other.eval("page.app.files.some((it) => it.name === 'pp.c' && it.text.includes('pong'))"), "with its text");

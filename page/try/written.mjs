@@ -56,6 +56,10 @@ ends_with(`  li a0, N\n${EXIT}.equ N, 9\n`, 9, "a name that is used before it is
 ends_with(`.set N, 1\n  li a0, N\n.set N, 5\n  addi a0, a0, N\n${EXIT}`, 6, "a name that gets another number");
 ends_with(`.equ N, 4\n.equ M, N\n  li a0, M\n${EXIT}`, 4, "a name by another one");
 ends_with(`.equ C, 'x'\n  li a0, C\n${EXIT}`, 120, "a name for a letter");
+const message = ends_with(`_start:\n  la a1, msg\n  li a2, LEN\n  addi a0, a2, half\n${EXIT}.data\npad: .byte 1, 2, 3\nmsg: .asciz "hello\\n" # a text\nhalf = . - msg\n.equ LEN, . -pad\n`, 17, "how long a text is");
+is(message.text.includes("# half is 7\n# LEN is 10"), true, "which stays as a comment");
+for (const line of ["N = . - nothing", "N = . - msg", ".equ N, msg - 5", "N = ", "N == 5"]) is(written(`  ecall\n${line}\n.data\nmsg: .byte 5\n`).buttons.join(), "", `nothing is written for ${line}`);
+ends_with(`.file "x.c"\n.option norvc\n.attribute arch, "rv64i"\n.globl _start\n.type _start, @function\n_start: li a0, 8\n${EXIT}.size _start, .-_start\n.ident "gcc"\n`, 8, "words of a compiler");
 
 // ---- alignments
 
