@@ -1,11 +1,13 @@
 """Judges folders, one or a class: a row for each, whatever it holds."""
 import concurrent.futures
 import csv
+import dataclasses
 import os
 import re
 import sys
 
 import bodies
+import book
 import laws
 import limits
 import places
@@ -74,10 +76,19 @@ def is_as_shipped(folder):
     return words == [it[1] for it in bodies.tokens(answer.lab.cut.body)]
 
 
-def graded(folder, missing_of, way):
+def judged_in(only, folder, missing_of, way):
+    """The lab's name of a folder and the verdict, in a class whose lab is `only`, or in one that may have any."""
+    if not os.path.isdir(folder):
+        return "", Verdict(REFUSED, ("it is no folder",))
+    if only and name_of(folder) not in ("", only):
+        return name_of(folder), Verdict(REFUSED, (f"it is of the lab {name_of(folder)}, and the class is of {only}",))
+    return judged(folder, missing_of, way)
+
+
+def graded(only, folder, missing_of, way):
     """A folder's lab, verdict and reason. What goes wrong with one folder is told in its row, and the others go on."""
     try:
-        name, verdict = judged(folder, missing_of, way) if os.path.isdir(folder) else ("", Verdict(REFUSED, ("it is no folder",)))
+        name, verdict = judged_in(only, folder, missing_of, way)
         reason = verdict.reason()
         if verdict.word == PROVED and not has_laws(folder) and is_as_shipped(folder):
             reason = "it is the body of this repository, word for word"
@@ -112,19 +123,31 @@ def row_of(folder, told, rule):
     return [shown(os.path.basename(os.path.abspath(folder))), *points, word, ": ".join(filter(None, [name, reason]))]
 
 
-def grade(folders, jobs, rule, missing_of, way):
-    """Writes a line of CSV for each folder, in their order, as soon as it is judged."""
-    table = csv.writer(sys.stdout, lineterminator="\n")
+@dataclasses.dataclass(frozen=True)
+class Class:
+    """How a class is graded: so many folders at once, by which rule of points, of which lab alone, and into which book of marks."""
+    jobs: int = 1
+    rule: dict | None = None
+    lab: str = ""
+    book: str = ""
+
+
+def grade(folders, how, missing_of, way):
+    """Writes a line of CSV for each folder, in their order, as soon as it is judged; and all marks into the book, if there is one."""
+    table, rule = csv.writer(sys.stdout, lineterminator="\n"), how.rule
     table.writerow(["submission", "points", "of", "status", "reason"] if rule else ["folder", "lab", "verdict", "reason"])
-    words = []
-    with concurrent.futures.ThreadPoolExecutor(jobs) as pool:
+    words, rows = [], []
+    with concurrent.futures.ThreadPoolExecutor(how.jobs) as pool:
         try:
-            for folder, told in zip(folders, pool.map(lambda it: graded(it, missing_of, way), folders)):
-                table.writerow(row_of(folder, told, rule))
+            for folder, told in zip(folders, pool.map(lambda it: graded(how.lab, it, missing_of, way), folders)):
+                rows.append(row_of(folder, told, rule))
+                table.writerow(rows[-1])
                 sys.stdout.flush()
                 words.append(told[1])
         except KeyboardInterrupt:
             limits.STOPPED.set()
             pool.shutdown(cancel_futures=True)
             raise
+    if how.book:
+        book.write(how.book, how.lab, max(rule.values()), rows)
     return 2 if NOT_GRADED in words else 0 if all(it == PROVED for it in words) else 1

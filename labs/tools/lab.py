@@ -6,6 +6,7 @@ import subprocess
 import sys
 
 import bodies
+import book
 import grading
 import laws
 import packs
@@ -36,13 +37,16 @@ Before the folders of `check` and `grade`, and before the FILE of `pack`:
 Before those of `grade`:
        --jobs N                so many folders at once (1)
        --points RULE           points for each verdict, as proved=3,open=1: CSV as programs/course/grade.sh has it
+       --lab NAME              all folders are of this lab: an answer of another one is refused
+       --book FILE             with these two: the marks go into FILE too, the JSON of `node anywhere/marks.mjs json`, beside those
+                               of exercises; it is made if it isn't there
 
 It needs the Rattle kit (`rt` on the PATH) and Python 3. `lab check` and `lab grade` end with the status 0 if each body is
 proved, 1 if one isn't, 2 if the words or the host won't do, or a folder isn't graded."""
 
 # The options of each command that has some.
 WAYS = ["--from", "--seconds", "--memory"]
-OPTIONS = {"check": WAYS, "grade": [*WAYS, "--jobs", "--points"], "pack": WAYS}
+OPTIONS = {"check": WAYS, "grade": [*WAYS, "--jobs", "--points", "--lab", "--book"], "pack": WAYS}
 
 # How long a crate takes the first time, in seconds, on a host of 4 processors that does nothing else.
 SECONDS = {"xk_base": 50, "phys_ram": 30, "frame_list": 30, "file_table": 60, "pipe_core": 45, "console_core": 50,
@@ -189,6 +193,19 @@ def way_of(found, tell):
     return Way(limits, libraries, tell)
 
 
+def class_of(found):
+    """How a class is to be graded, as the options have it."""
+    rule = grading.rule_of(found["--points"]) if "--points" in found else None
+    name, file = found.get("--lab", ""), found.get("--book", "")
+    if name and name not in all_labs():
+        raise LabError(f"there is no lab {name}; `lab` lists them")
+    if file and not (rule and name and max(rule.values())):
+        raise LabError("--book takes --lab NAME, and --points RULE with points for some verdict: a book has points, of a lab")
+    if file:
+        book.read(file)
+    return grading.Class(number(found.get("--jobs", "1"), 64), rule, name, file)
+
+
 def do(words, found):
     """Does what the words ask for; its status."""
     match words:
@@ -200,8 +217,7 @@ def do(words, found):
             return check(*folder or ["."], way_of(found, say))
         case ["grade", first, *_] if not first.startswith("-"):
             need_kit()
-            rule = grading.rule_of(found["--points"]) if "--points" in found else None
-            return grading.grade(words[1:], number(found.get("--jobs", "1"), 64), rule, missing, way_of(found, lambda text: None))
+            return grading.grade(words[1:], class_of(found), missing, way_of(found, lambda text: None))
         case ["run", folder, _, *_]:
             run(folder, words[2:])
         case ["pack", file, *names] if not file.startswith("-"):

@@ -15,6 +15,7 @@ import laws
 import places
 import player
 import rows
+import try_book
 import verdicts
 from source import BEGIN, END, Lab, LabError
 from way import Way
@@ -274,7 +275,7 @@ def a_class():
 
     with tempfile.TemporaryDirectory() as room, contextlib.redirect_stdout(io.StringIO()) as told:
         wanted = list(bad_folders(pathlib.Path(room)))
-        grading.grade([str(it[0]) for it in wanted], 2, grading.rule_of("proved=3,open=1"), not_ready, Way())
+        grading.grade([str(it[0]) for it in wanted], grading.Class(2, grading.rule_of("proved=3,open=1")), not_ready, Way())
     table = list(csv.reader(told.getvalue().splitlines()))[1:]
     for (folder, word, why), row in itertools.zip_longest(wanted, table, fillvalue=("", "", "", "no row", "")):
         points = ["", ""] if word == grading.NOT_GRADED else ["0", "3"]
@@ -286,7 +287,7 @@ def main():
     """Hands in all of it."""
     cases = [(f"body {body!r}", lambda home, b=body: (home / "answer.rs").write_text(with_body(b), encoding="utf-8"), word) for body, word in BODIES]
     amiss = 0
-    told = [*((name, word, reason_for(make)) for name, make, word in [*cases, *files()]), *meanings(), *proofs(), *plays(), *told_in_names(), *a_class()]
+    told = [*((name, word, reason_for(make)) for name, make, word in [*cases, *files()]), *meanings(), *proofs(), *plays(), *told_in_names(), *a_class(), *try_book.tries()]
     for name, word, said in told:
         if bool(said) != bool(word) or word not in said:
             amiss += 1
