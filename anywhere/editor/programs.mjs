@@ -8,6 +8,7 @@ import { file_of_bytes, file_of_source, name_first } from "../machine/program_fi
 import { function_at, line_at, name_at } from "../machine/source_places.mjs";
 import { TABLES, has_tables } from "../machine/variables.mjs";
 import { refuse } from "./arguments.mjs";
+import { changed_since } from "./changed_sources.mjs";
 import { recorded } from "./records.mjs";
 
 const TOP = fileURLToPath(new URL("../../", import.meta.url));
@@ -26,7 +27,7 @@ const real = (path) => (existsSync(path) ? realpathSync(path) : resolve(path));
 function made_of(path) {
   const program = path.slice(0, -SOURCE_IN_C.length);
   if (existsSync(program)) return program;
-  return refuse(`${path} is a source in C: xvcc -g makes a program of it, which goes beside it`);
+  return refuse(`${path} is a source in C: xv --cc, or xvcc -g, makes a program of it, which goes beside it`);
 }
 
 /** The files that a word names: of a folder those in it that are no tables, sources in C or hidden. */
@@ -48,7 +49,8 @@ export class Programs {
     if (!paths.length) refuse("no program is named");
     if (paths.length > MOST_FILES) refuse(`there are ${paths.length} files, and ${MOST_FILES} fit`);
     this.files = paths.map((path) => this.file(machine, path));
-    this.told = name_first(this.files);
+    const changed = this.files.map((it) => changed_since(it.path, this.sources_of(it.path)));
+    this.told = [name_first(this.files), ...changed].filter(Boolean).join("\n");
     const refused = files_refused(this.files);
     if (refused) refuse(refused);
   }
@@ -93,6 +95,14 @@ export class Programs {
       this.found.set(key, found && real(found));
     }
     return this.found.get(key);
+  }
+
+  /** The sources of the program at a path: the one in C beside it, and those that the table beside it names. */
+  sources_of(path) {
+    const beside = path + SOURCE_IN_C, table = read_if_there(path + TABLE), own = OWN_SOURCES.map(real);
+    const named = [...table.matchAll(/^file (.*)$/gm)].map(([, name]) => this.source_path(name, path));
+    const all = [...(existsSync(beside) ? [real(beside)] : []), ...named.filter(Boolean)];
+    return [...new Set(all)].filter((it) => !own.includes(dirname(it)));
   }
 
   /** What is known of the program at a place of the list. */

@@ -1,5 +1,5 @@
 // Conversations of an editor with the debug adapter, told in lines: checks/dap/run.sh compares them with told.txt.
-import { mkdtempSync, readFileSync, rmSync, writeFileSync } from "node:fs";
+import { copyFileSync, mkdtempSync, readFileSync, rmSync, utimesSync, writeFileSync } from "node:fs";
 import { tmpdir } from "node:os";
 import { join } from "node:path";
 import { pathToFileURL } from "node:url";
@@ -282,7 +282,23 @@ async function of_c() {
   await left(client);
 }
 
-const CONVERSATIONS = { refusals, pipeline, fault, stops, typed, looked, recorded, early, playing, of_c };
+/** A source that was changed after its program was made. */
+async function changed() {
+  const program = join(room, "points"), [early, late] = [1000000000, 1000000060]; // seconds
+  for (const end of ["", ".c", ".lines"]) {
+    copyFileSync(POINTS.path.replace(".c", end), program + end);
+    utimesSync(program + end, early, early);
+  }
+  for (const time of [early, late]) {
+    utimesSync(`${program}.c`, time, time);
+    const client = await begun({ program: `${program}.c`, keys: "" });
+    await stopped(client, "entry", await client.event("stopped"));
+    say(client.output.trim());
+    await left(client);
+  }
+}
+
+const CONVERSATIONS = { refusals, pipeline, fault, stops, typed, looked, recorded, early, playing, of_c, changed };
 for (const [name, plays] of Object.entries(CONVERSATIONS)) {
   say(`== ${name}`);
   await plays();
