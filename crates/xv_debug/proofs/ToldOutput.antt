@@ -13,8 +13,8 @@ pub byte-there : (xs : List ℕ) (place : ℕ) → place < length xs → slice_g
 byte-there xs place within none = none-some (get_or xs place 0) (sym none ∙ slice_get-get_or xs place 0 within)
 
 -- what is left, behind what was written, is all of it: so it is behind one more byte
-pub one-byte-more : (xs : List ℕ) (place b : ℕ) (begins : Bool) (whole mid new : List ℕ) → slice_get xs place ≡ Some b → mid ++ behind_bars begins (drop place xs) ≡ whole → new ≡ mid ++ with_bar begins b
-    → new ++ behind_bars (b == 10) (drop (place + 1) xs) ≡ whole
+pub one-byte-more : (xs : List ℕ) (place b : ℕ) (begins : Bool) (whole mid new : List ℕ) → slice_get xs place ≡ Some b
+    → mid ++ behind_bars begins (drop place xs) ≡ whole → new ≡ mid ++ with_bar begins b → new ++ behind_bars (b == 10) (drop (place + 1) xs) ≡ whole
 one-byte-more xs place b begins whole mid new there so_far next =
     let left : drop place xs ≡ b ∷ drop (place + 1) xs =
     drop_more xs place b (slice_get_within xs place b there) ∙ ap (λ (x : ℕ). x ∷ drop (place + 1) xs) (get_or_from_slice_get xs place b b there) in
@@ -22,7 +22,8 @@ one-byte-more xs place b begins whole mid new there so_far next =
     ap (λ t. t ++ behind) next ∙ append_assoc mid (with_bar begins b) behind ∙ sym (ap (λ (rs : List ℕ). mid ++ behind_bars begins rs) left) ∙ so_far
 
 -- behind the last byte nothing is left but the end of its line
-nothing-left : (xs : List ℕ) (place : ℕ) (begins : Bool) (whole mid : List ℕ) → length xs ≤ place → mid ++ behind_bars begins (drop place xs) ≡ whole → mid ++ (if begins then [] else codes "\n") ≡ whole
+nothing-left : (xs : List ℕ) (place : ℕ) (begins : Bool) (whole mid : List ℕ) → length xs ≤ place
+    → mid ++ behind_bars begins (drop place xs) ≡ whole → mid ++ (if begins then [] else codes "\n") ≡ whole
 nothing-left xs place begins whole mid past so_far = sym (ap (λ (rs : List ℕ). mid ++ behind_bars begins rs) (drop_of_length-le xs past)) ∙ so_far
 
 -- which was written
@@ -31,8 +32,8 @@ line-ended xs place begins whole mid past on so_far =
     sym (append-nil mid) ∙ ap (λ (b : Bool). mid ++ (if b then [] else codes "\n")) (sym on) ∙ nothing-left xs place begins whole mid past so_far
 
 -- or is written now
-pub line-ends : {T E : Type 0} (r : Result T E) (xs : List ℕ) (place : ℕ) (begins : Bool) (whole mid new : List ℕ) → length xs ≤ place → begins ≡ false → mid ++ behind_bars begins (drop place xs) ≡ whole
-    → OnOk r (new ≡ mid ++ codes "\n") → OnOk r (new ≡ whole)
+pub line-ends : {T E : Type 0} (r : Result T E) (xs : List ℕ) (place : ℕ) (begins : Bool) (whole mid new : List ℕ) → length xs ≤ place → begins ≡ false
+    → mid ++ behind_bars begins (drop place xs) ≡ whole → OnOk r (new ≡ mid ++ codes "\n") → OnOk r (new ≡ whole)
 line-ends r xs place begins whole mid new past off so_far wrote =
     on_ok_weaker r (λ e. e ∙ ap (λ (b : Bool). mid ++ (if b then [] else codes "\n")) (sym off) ∙ nothing-left xs place begins whole mid past so_far) wrote
 

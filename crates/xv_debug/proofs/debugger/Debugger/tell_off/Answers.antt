@@ -11,4 +11,5 @@ returns-then-is_followed c = ([], is_on (c.is_followed.ensures.some c.if-is_foll
 
 pub returns : goal.returns
 returns c =
-    on_ok_weaker c.show_off.result (λ written. (_, is_off (search rules) (c.is_followed.ensures.none c.if-is_followed.false), written ∙ ap (λ n. _ ++ off_text c.args.by_plan n) c.recorded.ensures)) c.show_off.ensures
+    on_ok_weaker c.show_off.result
+    (λ written. (_, is_off (search rules) (c.is_followed.ensures.none c.if-is_followed.false), written ∙ ap (λ n. _ ++ off_text c.args.by_plan n) c.recorded.ensures)) c.show_off.ensures
