@@ -39,11 +39,13 @@ asks-nothing : (known : Option Sources) (c : Chosen) (s : Recorded) (line old ne
 asks-nothing known c s line old new true tells no = let bad : ⊥ = cc in absurd bad
 asks-nothing known c s line old new false (writes_nothing t seen none other still) no = (writes_nothing t seen none other refl, still)
 
--- the debugger and the answer after the two tests of a line
-module _ (may_end : Bool) (line : List ℕ) (d m : Debugger) (s : Recorded) (before first second : List ℕ) (calls c : Bool) where
-  pub obeys-calls : TellsOfCalls d m line s before first calls → calls ≡ true → ObeysLine may_end line d m s s before first ends.Stays
-  obeys-calls tells is = of_calls (subst (λ (told : Bool). TellsOfCalls d m line s before first told) is tells) refl
+-- a line that asks a word of calls
+pub obeys-calls : (may_end : Bool) (line : List ℕ) (d m : Debugger) (s : Recorded) (before after : List ℕ) (calls : Bool) → TellsOfCalls d m line s before after calls → calls ≡ true
+    → ObeysLine may_end line d m s s before after ends.Stays
+obeys-calls may_end line d m s before after calls tells is = of_calls (subst (λ (told : Bool). TellsOfCalls d m line s before after told) is tells) refl
 
+-- the debugger and the answer after the two tests of another line
+module _ (may_end : Bool) (line : List ℕ) (d m : Debugger) (s : Recorded) (before first second : List ℕ) (calls c : Bool) where
   module _ (no_call : TellsOfCalls d m line s before first calls) (is : calls ≡ false) where
     asked : IsAsked line None
     asked = (asks-none d m line s before first calls no_call is).0

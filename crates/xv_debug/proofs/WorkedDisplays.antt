@@ -1,8 +1,7 @@
 -- Worked cases of lines that are obeyed again and again.
 use Rattle.std.proofs.Common.{◌≡◌, [], ◌∷◌, ◌++◌, codes, None, Some, refl}
-use Rattle.std.specs.Fmt.{digits}
 use Rattle.arrayvec.specs.ArrayString.{ArrayString as Text}
-use Rattle.xv_debug.specs.Displays.{forgotten_text, left_without, list_text}
+use Rattle.xv_debug.specs.Displays.{forgotten_text, left_without, line_text, list_text}
 use Rattle.xv_debug.specs.declared.displays.Displayed.{Displayed}
 
 module _ (first second : Text) where
@@ -30,6 +29,5 @@ module _ (first second : Text) where
   of_none_that_is_listed : list_text [] ≡ codes "there is no display\n"
   of_none_that_is_listed = refl
 
-  of_one_that_is_listed : list_text (one ∷ []) ≡ codes "1: " ++ (first.bytes ++ codes "\n")
-  unfolding digits
-  of_one_that_is_listed = refl
+  of_two_that_are_listed : list_text (one ∷ two ∷ []) ≡ line_text one ++ (line_text two ++ [])
+  of_two_that_are_listed = refl

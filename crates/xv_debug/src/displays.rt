@@ -27,6 +27,13 @@ pub(crate) struct KeptDisplays {
     made: u32,
 }
 
+/// A line behind its number.
+fn numbered(number: u32, line: DisplayLine) -> Displayed
+    ensures { result ≡ record { number = number; line = line } }
+{
+    Displayed { number, line }
+}
+
 impl KeptDisplays {
     ghost use Rattle.std.specs.Prelude.{◌≡◌, ◌++◌, [], OnOk, string_bytes};
     ghost use Rattle.xv_debug.specs.Displays.{added, forgotten_text, kept_after, left_without, made_after};
@@ -55,7 +62,7 @@ impl KeptDisplays {
         ensures made { self.new.made ≡ made_after self.old }
     {
         let number = self.made.saturating_add(1);
-        let displayed = Displayed { number, line };
+        let displayed = numbered(number, line);
         let Ok(()) = self.kept.try_push(displayed) else {
             return None;
         };

@@ -7,8 +7,8 @@ returns-then-branch-clause-done g c = does-nothing g.P.Patience.may_end c.args.s
 
 pub returns-then-branch-clause-told : goal.returns-then-branch-clause-told
 returns-then-branch-clause-told g c =
-    obeys-calls g.P.Patience.may_end c.args.line.now c.args.self.now c.tells_of_calls.new.self c.args.session.now (string_bytes c.args.answer.now) (string_bytes c.tells_of_calls.new.answer) _ _
-    c.in_ok-tells_of_calls.field-0 _ c.in_ok-tells_of_calls.ensures.told c.if-branch.true
+    obeys-calls g.P.Patience.may_end c.args.line.now c.args.self.now c.tells_of_calls.new.self c.args.session.now (string_bytes c.args.answer.now) (string_bytes c.tells_of_calls.new.answer)
+    c.in_ok-tells_of_calls.field-0 c.in_ok-tells_of_calls.ensures.told c.if-branch.true
 
 pub returns-then-branch-2-clause-done : goal.returns-then-branch-2-clause-done
 returns-then-branch-2-clause-done g c = does-nothing g.P.Patience.may_end c.args.self.now.plan c.args.session.now
