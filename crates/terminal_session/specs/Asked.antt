@@ -1,5 +1,5 @@
 -- What the exit status of a session says of what its command line asks for.
-use Rattle.std.specs.Prelude.{◌≡◌, ◌≢◌, ◌⊎◌, ℕ, true, false, List, Option, None, Some, map}
+use Rattle.std.specs.Prelude.{◌≡◌, ◌≢◌, ◌⊎◌, ℕ, true, false, List, Option, map}
 use Rattle.kernel_spec.specs.views.State.{named_file}
 use Rattle.program_files.specs.Programs.{AreProgramsIn}
 use Rattle.program_files.specs.Statuses.{IsPlainStatus}
@@ -27,20 +27,15 @@ use Rattle.terminal_session.specs.declared.line.Settings.{Settings}
 
 -- ---- at a terminal
 
--- the machine was attended to, and lines were obeyed at its prompt; or the events of a record were played
-abbrev pub WentBy : (plan : Planned) → Option Record → (old new : Recorded) → (screen screen_after : Option (List ℕ)) → Type 0
-WentBy plan None old new screen screen_after = Lives true plan old new screen screen_after
-WentBy plan (Some kept) old new screen screen_after = Plays (events_of_lines kept.events.items) old new screen screen_after
-
--- The exit status is that of the end, or of what failed; or 5, that the session's record couldn't be written
-pub record EndsSo (plan : Planned) (record_played : Option Record) (old new : Recorded) (status : ℕ) : Type 0 where
+-- The exit status is that of the end, or of what failed; or 5, that the session's record couldn't be written. If it came to an end, this is how it came there, with what the screen had before and has then
+pub record EndsSo (way : (screen screen_after : Option (List ℕ)) → Type 0) (new : Recorded) (status : ℕ) : Type 0 where
   pub screen : Option (List ℕ)
   pub screen_after : Option (List ℕ)
   pub told : ℕ
-  pub tells : Tells (WentBy plan record_played old new screen screen_after) told new
+  pub tells : Tells (way screen screen_after) told new
   pub same : (status ≡ told) ⊎ (status ≡ 5)
 
--- A session of the FILEs' programs was booted on such a machine, and ended so
+-- A session of the FILEs' programs was booted on such a machine, it was attended to, and lines were obeyed at its prompt; and it ended so
 pub record LivedAsked (s : Settings) (status : ℕ) : Type 0 where
   pub files : List Program
   pub are_files : AreProgramsIn s.files.items files
@@ -48,7 +43,7 @@ pub record LivedAsked (s : Settings) (status : ℕ) : Type 0 where
   pub new : Recorded
   pub booted : IsNew s.frames s.trace (map named_file files) old
   pub plan : Planned
-  pub ends : EndsSo plan None old new status
+  pub ends : EndsSo (λ screen screen_after. Lives true plan old new screen screen_after) new status
 
 -- The programs of a record, which are there among these, were booted as the record says, and its events were played
 pub record PlayedOf (trace : ℕ) (files : List Program) (kept : Record) (status : ℕ) : Type 0 where
@@ -58,8 +53,7 @@ pub record PlayedOf (trace : ℕ) (files : List Program) (kept : Record) (status
   pub old : Recorded
   pub new : Recorded
   pub booted : IsNew kept.frames trace (map named_file programs) old
-  pub plan : Planned
-  pub ends : EndsSo plan (Some kept) old new status
+  pub ends : EndsSo (λ screen screen_after. Plays (events_of_lines kept.events.items) old new screen screen_after) new status
 
 -- of the record that is asked for, up to the event that is asked for
 pub record PlayedAsked (s : Settings) (asked : Replay) (status : ℕ) : Type 0 where

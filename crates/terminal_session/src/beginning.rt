@@ -1,21 +1,20 @@
 //! A session, from the files to its end.
-ghost use Rattle.std.specs.Prelude.{◌≡◌, ◌⊎◌, true, IfOk, map, option_map};
+ghost use Rattle.std.specs.Prelude.{◌≡◌, ◌⊎◌, true, IfOk, map};
 ghost use Rattle.kernel_spec.specs.views.State.{named_file};
 ghost use Rattle.xv_session.specs.Answers.{IsNew};
 ghost use Rattle.terminal_session.specs.Asked.{Came, EndsSo, IsStatusOf, LivedAsked, PlayedAsked, PlayedOf};
 ghost use Rattle.terminal_session.specs.Stretches.{Lives};
 ghost use Rattle.terminal_session.specs.Tells.{Tells};
+ghost use Rattle.xv_live.specs.Plays.{Plays, events_of_lines};
 
 use crate::NAME;
 use crate::conversing::{live, replay};
 use crate::first_screen::FirstScreen;
-use crate::history::History;
 use crate::host::Desk;
 use crate::line::Settings;
-use crate::notes::{Notes, OpenLine};
+use crate::notes::Notes;
 use crate::record_file::{HostFile, open_record};
 use crate::recording::head_of;
-use crate::telling::PLAYED_AGAIN;
 use program_files::exit_statuses::DEVICE_FAILED;
 use program_files::{Failure, line_table, programs};
 use recorded_runs::{Replay, record_of, recorded_programs};
@@ -108,34 +107,38 @@ fn status_with(status: u8, recorder: &Recorder<HostFile>) -> u8
     }
 }
 
-// A session that has booted, up to its end, which is told. Its record is kept meanwhile; that of a session that plays a
-// record is written at its end.
-fn go_through<'a>(
+// A session that has booted is attended to up to its end, which is told. Its record is kept meanwhile.
+fn live_through<'a>(
     rt: &HostRuntime,
     session: &mut Session,
     debugger: &mut Debugger,
     settings: &'a Settings,
-    record: Option<&Record>,
 ) -> Result<u8, Failure<'a>>
-    ensures { IfOk result (EndsSo debugger.old.plan (option_map (λ r. r.now) record.entry) session.old session.new) }
+    ensures { IfOk result (EndsSo (λ screen after. Lives true debugger.old.plan session.old session.new screen after) session.new) }
 {
     let file = record_file(rt, settings)?;
-    let notes = Notes {
-        errors: rt.stderr(),
-        line: OpenLine::new(),
-        apart: settings.apart,
-        alloc: rt.alloc(),
-        plays_left: PLAYED_AGAIN,
-        history: History::new(rt.alloc()),
-    };
     let mut screen = Screen {
         sink: Counted::new(rt.stdout()),
-        teller: notes,
+        teller: Notes::new(rt.stderr(), rt.alloc(), settings.apart),
     };
-    let Some(record) = record else {
-        let mut recorder = begin_recording(session, file, settings.frames, &mut screen.teller)?;
-        let status = attend_to(rt, session, debugger, settings, &mut recorder, &mut screen);
-        return Ok(status_with(status, &recorder));
+    let mut recorder = begin_recording(session, file, settings.frames, &mut screen.teller)?;
+    let status = attend_to(rt, session, debugger, settings, &mut recorder, &mut screen);
+    Ok(status_with(status, &recorder))
+}
+
+// A session that has booted plays a record, and its end is told. Its own record is written then.
+fn play_through<'a>(
+    rt: &HostRuntime,
+    session: &mut Session,
+    settings: &'a Settings,
+    record: &Record,
+) -> Result<u8, Failure<'a>>
+    ensures { IfOk result (EndsSo (λ screen after. Plays (events_of_lines record.now.events.items) session.old session.new screen after) session.new) }
+{
+    let file = record_file(rt, settings)?;
+    let mut screen = Screen {
+        sink: Counted::new(rt.stdout()),
+        teller: Notes::new(rt.stderr(), rt.alloc(), settings.apart),
     };
     let status = replay(session, record, &mut screen);
     let recorder = begin_recording(session, file, record.frames, &mut screen.teller)?;
@@ -146,13 +149,13 @@ fn go_through<'a>(
 fn live_files<'a>(rt: &HostRuntime, settings: &'a Settings) -> Result<u8, Failure<'a>>
     ensures { IfOk result (LivedAsked settings.now) }
 {
-    let files = settings.files.as_slice();
-    let made = programs(rt, files)?;
+    let given = settings.files.as_slice();
+    let made = programs(rt, given)?;
     let table = line_table(rt, &settings.lines)?;
-    let sources = Sources::of_files(rt, files, made.lines, table.as_str())?;
+    let sources = Sources::of_files(rt, given, made.lines, table.as_str())?;
     let mut debugger = Debugger::with_sources(sources);
     let mut session = boot(rt.alloc(), settings.frames, settings.trace, made.programs)?;
-    go_through(rt, &mut session, &mut debugger, settings, None)
+    live_through(rt, &mut session, &mut debugger, settings)
 }
 
 // Boots the machine that was recorded, with those of these programs that the record names, and plays its record.
@@ -166,13 +169,7 @@ fn play_record<'a>(
 {
     let programs = recorded_programs(rt.alloc(), programs, record)?;
     let mut session = boot(rt.alloc(), record.frames, settings.trace, programs)?;
-    go_through(
-        rt,
-        &mut session,
-        &mut Debugger::new(),
-        settings,
-        Some(record),
-    )
+    play_through(rt, &mut session, settings, record)
 }
 
 // Plays the record that is asked for, with programs of the FILEs.
@@ -183,9 +180,11 @@ fn play_files<'a>(
 ) -> Result<u8, Failure<'a>>
     ensures { IfOk result (PlayedAsked settings.now asked.entry) }
 {
-    let made = programs(rt, settings.files.as_slice())?;
+    let given = settings.files.as_slice();
+    let made = programs(rt, given)?;
     let record = record_of(rt, NAME, &asked)?;
-    play_record(rt, settings, made.programs.as_slice(), &record)
+    let files = made.programs.as_slice();
+    play_record(rt, settings, files, &record)
 }
 
 // Attends to the machine that the settings ask for, if it can be had, and gives the exit status.

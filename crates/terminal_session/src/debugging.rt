@@ -208,10 +208,17 @@ fn debug(rt: &HostRuntime, settings: &Settings) -> u8
     ensures status { IsPlainStatus result }
     ensures says { IsDebugStatus settings.now result }
 {
-    let asked = match settings.replay.replay() {
-        Ok(asked) => asked,
-        Err(refusal) => return refusal.close(NAME, &mut rt.stderr()),
-    };
+    match settings.replay.replay() {
+        Ok(asked) => debug_asked(rt, settings, asked),
+        Err(refusal) => refusal.close(NAME, &mut rt.stderr()),
+    }
+}
+
+// A session of the record that is asked for, if one is, and its exit status.
+fn debug_asked<'a>(rt: &HostRuntime, settings: &'a Settings, asked: Option<Replay<'a>>) -> u8
+    ensures status { IsPlainStatus result }
+    ensures says { result ≡ 0 → Conversed settings.now asked.entry }
+{
     match converse(rt, settings, asked) {
         Ok(()) => DONE,
         Err(failure) => failure.close(NAME, &mut rt.stderr()),

@@ -1,6 +1,7 @@
 //! Notes beside the screen, which don't tear what it shows. What is written no contract says, since what can't be written is
 //! left out; but that nothing else than what takes the notes is changed.
 use crate::history::History;
+use crate::telling::PLAYED_AGAIN;
 use arrayvec::ArrayVec;
 use std::alloc::Global;
 use std::fmt::Display;
@@ -81,6 +82,23 @@ pub struct Notes<E> {
 impl<E: Write> Notes<E> {
     ghost use Rattle.std.specs.Prelude.{◌≡◌, [], false};
     ghost use Rattle.terminal_session.specs.Lines.{line_of};
+
+    /// Notes of which none is told yet, of a screen on which nothing stands, for what takes them.
+    pub fn new(errors: E, alloc: Global, apart: bool) -> Self
+        ensures errors { result.errors ≡ errors }
+        ensures apart { result.apart ≡ apart }
+        ensures line { line_of result.line ≡ ([], false) }
+        ensures history { result.history.lines.items ≡ [] }
+    {
+        Notes {
+            errors,
+            line: OpenLine::new(),
+            apart,
+            alloc,
+            plays_left: PLAYED_AGAIN,
+            history: History::new(alloc),
+        }
+    }
 
     /// Makes room for notes: if the screen shows a part of a line, it is cleared, or a new line is begun.
     pub fn begin_notes(&mut self)

@@ -1,6 +1,7 @@
 -- What a line does, from what its parts promise.
-use Rattle.std.proofs.Common.{◌≡◌, ◌∙◌, ℕ, Bool, true, false, List, [], ◌++◌, Option, None, Result, Ok, IfOk, OnOk, ap, length, refl, subst, sym}
+use Rattle.std.proofs.Common.{◌≡◌, ◌∙◌, ◌⊎◌, ℕ, Bool, true, false, List, [], ◌++◌, Option, None, Result, Ok, Err, IfOk, IfErr, OnOk, String, string_bytes, ap, inr, length, refl, subst, sym}
 use Rattle.std.proofs.lemmas.Result.{IfOk-weaker}
+use Rattle.std.specs.declared.alloc.Global.{Global}
 use Rattle.debug_views.specs.Written.{Writes}
 use Rattle.debug_words.specs.Ranges.{IsInRange}
 use Rattle.debug_words.specs.declared.vocabulary.Word.{Word}
@@ -10,10 +11,10 @@ use Rattle.xv_session.specs.Recorded.{Recorded, running_of}
 use Rattle.xv_debug.specs.AnswerText.{Answers}
 use Rattle.xv_debug.specs.CallWords.{TellsOfCalls, other}
 use Rattle.xv_debug.specs.Chosen.{left}
-use Rattle.xv_debug.specs.Effects.{Does, Obeys, next_of}
+use Rattle.xv_debug.specs.Effects.{Does, DoesSome, Obeys, next_of}
 use Rattle.xv_debug.specs.FrameWords.{IsAsked}
 use Rattle.xv_debug.specs.Kept.{left_after, marks_after}
-use Rattle.xv_debug.specs.Obeyed.{AnswersMarked, AnswersWord, IsApart, IsDoneFor, IsOffText, ObeysLine, goes_by_plan, goes_to_marks, of_c, of_calls, of_none, of_word}
+use Rattle.xv_debug.specs.Obeyed.{AnswersMarked, AnswersWord, IsApart, IsDoneFor, IsOffText, ObeysLine, goes_by_plan, goes_to_marks, of_c, of_calls, of_none, of_word, text_in}
 use Rattle.xv_debug.specs.ToldOfC.{ShowsIfMoved, TellsOfC, writes_nothing}
 use Rattle.xv_debug.specs.motion.Clock.{HasAhead}
 use Rattle.xv_debug.specs.motion.Plan.{Planned}
@@ -125,9 +126,35 @@ module _ (may_end : Bool) (read : Word) (d e : Debugger) (s t : Recorded) (befor
         (subst (λ (n : ℕ). ShowsIfMoved e.sources e.chosen n t e.displays.kept.items mid after) there shows);
   }
 
--- what is in an answer that came
-pub at-ok : {A E : Type 0} (P : A → Type 0) (r : Result A E) (a : A) → r ≡ Ok a → IfOk r P → P a
-at-ok P r a is said = subst (λ (x : Result _ _). IfOk x P) is said
+-- ---- an answer that came
 
-pub on-came : {A E P : Type 0} (r : Result A E) (a : A) → r ≡ Ok a → OnOk r P → P
-on-came {P = P} r a is said = subst (λ (x : Result _ _). OnOk x P) is said
+pub unmet-text : {E : Type 0} {P : Type 0} (r : Result (String Global) E) → IfOk r (λ text. P → string_bytes text ≡ []) → P → text_in r ≡ []
+unmet-text (Ok text) said p = said p
+unmet-text (Err e) said p = refl
+
+-- whatever is told behind it, it did what its word did
+pub did-some : {E : Type 0} (may_end : Bool) (plan : Planned) (old new : Recorded) (q : Result Next E) → IfOk q (Obeys may_end plan old new)
+    → IfErr q (λ _. (new ≡ old) ⊎ DoesSome may_end plan old new) → (new ≡ old) ⊎ DoesSome may_end plan old new
+did-some may_end plan old new (Ok next) does failed = inr (record { word = does.word; in_range = does.in_range; does = does.does })
+did-some may_end plan old new (Err e) does failed = failed
+
+pub if-came : {E : Type 0} (P : Next → Type 0) (r q : Result Next E) → IfOk r (λ n. q ≡ Ok n) → IfOk q P → IfOk r P
+if-came P (Ok n) q is said = subst (λ (x : Result Next _). IfOk x P) is said
+if-came P (Err e) q is said = tt
+
+-- all that is known of an answer to a word, and of what is told behind it
+module _ {E : Type 0} (may_end : Bool) (read word : Word) (d m f : Debugger) (s t : Recorded) (before told after : List ℕ) (q r : Result Next E) where
+  pub marked-if-came : (met : List ℕ) (chosen : Chosen) → IsDoneFor d read word → IsInRange word → IfOk q (λ _. Does may_end d.plan word s t) → IfOk q (λ n. n ≡ next_of word)
+      → OnOk q (Answers d.sources may_end d.plan d.shown word s t before told) → (goes_to_marks word ≡ false → met ≡ []) → OnOk r (after ≡ told ++ met)
+      → m.marks.kept.items ≡ marks_after word d.marks → m ≡ record d { shown = m.shown; marks = m.marks } → f.marks.kept.items ≡ left_after (running_of t) word m.marks.kept.items
+      → f ≡ record m { marks = f.marks } → chosen ≡ left (length s.events) (length t.events) d.chosen → IfOk r (λ n. q ≡ Ok n)
+      → IfOk r (AnswersMarked may_end read d (record f { chosen = chosen }) s t before after)
+  marked-if-came met chosen done_for in_range does next answers unmet all marked first forgotten second is came = by r all came
+    where
+      by : (o : Result Next E) → OnOk o (after ≡ told ++ met) → IfOk o (λ n. q ≡ Ok n) → IfOk o (AnswersMarked may_end read d (record f { chosen = chosen }) s t before after)
+      by (Ok n) put same =
+          word-marked may_end read word d m f s t before told after n met chosen done_for in_range
+          (subst (λ (x : Result Next E). IfOk x (λ _. Does may_end d.plan word s t)) same does) (subst (λ (x : Result Next E). IfOk x (λ k. k ≡ next_of word)) same next)
+          (subst (λ (x : Result Next E). OnOk x (Answers d.sources may_end d.plan d.shown word s t before told)) same answers)
+          unmet put marked first forgotten second is
+      by (Err e) put same = tt

@@ -1,5 +1,6 @@
 -- What a line does to the debugger and to the session, and what its answer tells.
-use Rattle.std.specs.Prelude.{◌≡◌, ◌⊎◌, ◌++◌, ◌||◌, ℕ, Bool, true, false, List, [], length, Option, None}
+use Rattle.std.specs.Prelude.{◌≡◌, ◌⊎◌, ◌++◌, ◌||◌, ℕ, Bool, true, false, List, [], length, Option, None, Result, Ok, Err, String, string_bytes}
+use Rattle.std.specs.declared.alloc.Global.{Global}
 use Rattle.debug_words.specs.Ranges.{IsInRange}
 use Rattle.debug_words.specs.declared.vocabulary.Word.{Word}
 use Rattle.debug_words.specs.declared.vocabulary.Word.TheVariants.{Next, Until, Finish, Continue, ToMark, Goto, Tick, Send, Key}
@@ -64,6 +65,11 @@ pub record IsToldOff (recorded : List Event) (word : Word) (s t : Recorded) (tex
 abbrev pub goes_to_marks : Word → Bool
 goes_to_marks (ToMark marks) = true
 goes_to_marks _ = false
+
+-- what is told of them, if it came
+abbrev pub text_in : {E : Type 0} → Result (String Global) E → List ℕ
+text_in (Ok text) = string_bytes text
+text_in (Err error) = []
 
 -- The word that is done in place of the one that was read: `c` goes on to the marks that are kept, if there are some, or if nobody else lets the machine go on
 pub record IsDoneFor (d : Debugger) (read word : Word) : Type 0 where

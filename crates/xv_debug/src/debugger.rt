@@ -1,8 +1,8 @@
 //! The debugger: a line goes in, its answer comes out.
-ghost use Rattle.std.specs.Prelude.{◌≡◌, ◌++◌, OnOk, string_bytes};
+ghost use Rattle.std.specs.Prelude.{◌≡◌, ◌++◌, IfOk, Ok, OnOk, string_bytes};
 ghost use Rattle.xv_debug.specs.Effects.{next_of};
 ghost use Rattle.xv_debug.specs.Kept.{goes_on, marks_after};
-ghost use Rattle.xv_debug.specs.Obeyed.{goes_by_plan, may_leave, sends_by_hand};
+ghost use Rattle.xv_debug.specs.Obeyed.{goes_by_plan, may_leave, sends_by_hand, text_in};
 ghost use Rattle.xv_debug.specs.StopText.{never, no_return};
 
 use crate::callers::told_calls;
@@ -159,6 +159,27 @@ fn put_text(text: &str, answer: &mut String) -> Result<(), AllocError>
     ensures { OnOk result (string_bytes answer.new ≡ string_bytes answer.old ++ text.now) }
 {
     answer.push_str(text)
+}
+
+/// Writes what is told of marks behind an answer, if both came.
+fn put_met(
+    next: Result<Next, AllocError>,
+    met: Result<String, AllocError>,
+    answer: &mut String,
+) -> Result<Next, AllocError>
+    ensures came { IfOk result (λ n. next ≡ Ok n) }
+    ensures told { OnOk result (string_bytes answer.new ≡ string_bytes answer.old ++ text_in met) }
+{
+    match next {
+        Ok(next) => match met {
+            Ok(met) => {
+                put_text(met.as_str(), answer)?;
+                Ok(next)
+            }
+            Err(error) => Err(error),
+        },
+        Err(error) => Err(error),
+    }
 }
 
 /// Writes that it isn't known where a function ends.
@@ -593,10 +614,7 @@ impl Debugger {
         let met = self.told_met(alloc, session, &word);
         self.forget_met(session, &word);
         self.chosen = chosen.left(at, session.at());
-        let next = next?;
-        let met = met?;
-        put_text(met.as_str(), answer)?;
-        Ok(next)
+        put_met(next, met, answer)
     }
 
     /// What is told of the marks that are met where the session is, after the word that goes on to them; nothing after any
