@@ -153,10 +153,10 @@ impl LooksBack for Target {
         alloc: Global,
         goal: &Back,
         begin: u64,
-        patience: &mut P,
+        _patience: &mut P,
     ) -> Result<Option<Hit>, SessionError> {
-        let _ = patience;
-        self.last_from(alloc, goal, begin)
+        let hit = self.last_from(alloc, goal, begin)?;
+        Ok(hit)
     }
 
     ghost stays_first = { λ a. (refl, refl) };

@@ -1,5 +1,5 @@
 //! Going back to the last Run that was what is waited for.
-ghost use Rattle.std.proofs.Common.{◌∙◌};
+ghost use Rattle.std.proofs.Common.{◌∙◌, subst};
 ghost use Rattle.std.specs.Prelude.{◌≡◌, ◌+◌, ◌-◌, ◌^◌, ◌≤◌, ◌<◌, IfOk, IfErr, drop, length, refl, replicate, take};
 ghost use Rattle.xv_machine.specs.Events.{event_of};
 ghost use Rattle.xv_session.specs.Answers.{IsUnplayedBy};
@@ -125,7 +125,7 @@ impl<'a> LooksBack for Looker<'a> {
 
     ghost places = { λ l. length l.session.now.events - 1 };
 
-    ghost looked = { λ aim begin old new found. LooksFrom aim begin old.session.now found };
+    ghost looked = { λ aim begin old new found. LooksFrom aim begin old.session.now found × (new ≡ old) };
 
     ghost stays = { λ old new. new ≡ old };
 
@@ -150,7 +150,7 @@ impl<'a> LooksBack for Looker<'a> {
 
     ghost stays_on = { λ a b c first second. second ∙ first };
 
-    ghost looked_again = { λ aim before begin a b c found vain looks. looks };
+    ghost looked_again = { λ aim before begin a b c found vain looks. (subst (λ it. LooksFrom aim begin it.session.now found) vain.1 looks.0, looks.1 ∙ vain.1) };
 }
 
 /// The last place before here to which a Run led that is the aim.
