@@ -1,25 +1,29 @@
 -- Which processes the words of a command line ask for.
-use Rattle.std.specs.Prelude.{◌≡◌, ◌≤◌, ◌==◌, ℕ, if◌then◌else◌, List, Option, None, Some, String, string_bytes}
+use Rattle.std.specs.Prelude.{◌≡◌, ◌≤◌, ◌<◌, ◌^◌, ◌==◌, ℕ, if◌then◌else◌, List, Option, None, Some, String, string_bytes}
 use Rattle.std.specs.Str.Parse.{IsNumeral, digits_value, without_leading_plus}
 use Rattle.std.specs.declared.alloc.Global.{Global}
 use Rattle.xk_base.specs.declared.limits.TheConstants.{PID_MAX}
-use Rattle.explained_run.specs.declared.command_line.Who.{Who}
 
--- the number that a text writes in decimal digits, behind a plus if need be
-abbrev pub number_of : (text : List ℕ) → ℕ
-number_of text = digits_value 10 (without_leading_plus text)
+-- a number is written in decimal digits, behind a plus if need be, and is less than 2 ^ 32
+abbrev pub IsNumber : (text : List ℕ) → (number : ℕ) → Type 0
+IsNumber text number = IsNumeral 10 (without_leading_plus text) × (number ≡ digits_value 10 (without_leading_plus text)) × (number < 2 ^ 32)
 
 -- a text writes 0, or a number that a pid may be
-abbrev pub IsPid : (text : List ℕ) → Type 0
-IsPid text = IsNumeral 10 (without_leading_plus text) × (number_of text ≤ PID_MAX)
+abbrev pub IsPid : (text : List ℕ) → (number : ℕ) → Type 0
+IsPid text number = IsNumber text number × (number ≤ PID_MAX)
 
 -- the process of this pid; any, if it is 0
 abbrev pub pid_of : (number : ℕ) → Option ℕ
 pid_of number = if number == 0 then None else Some number
 
--- If a text says who is asked for: a pid names a process, any other text a program. Without one it is who the other words ask for
-abbrev pub IsWho : (process : Option (String Global)) → (other who : Who) → Type 0
-IsWho None other who = who ≡ other
-IsWho (Some text) other who =
-    (IsPid (string_bytes text) → (who.pid ≡ pid_of (number_of (string_bytes text))) × (who.program ≡ other.program))
-    × (¬ IsPid (string_bytes text) → (who.pid ≡ other.pid) × (who.program ≡ Some text))
+-- If a text says who is asked for, a pid names a process: so the process is this one, beside which any other is asked for by the other words
+abbrev pub pid_by : (process : Option (String Global)) → (number : Option ℕ) → (other : Option ℕ) → Option ℕ
+pid_by (Some text) (Some number) other = pid_of number
+pid_by (Some text) None other = other
+pid_by None number other = other
+
+-- and a text that is no pid names a program
+abbrev pub program_by : (process : Option (String Global)) → (number : Option ℕ) → (other : Option (String Global)) → Option (String Global)
+program_by (Some text) None other = Some text
+program_by (Some text) (Some number) other = other
+program_by None number other = other

@@ -1,5 +1,5 @@
 //! The words of the command line.
-ghost use Rattle.std.specs.Prelude.{◌≡◌, ◌≤◌, IfNone, IfOk, IfSome};
+ghost use Rattle.std.specs.Prelude.{◌≡◌, ◌≤◌, ℕ, IfNone, IfOk, IfSome};
 ghost use Rattle.explained_run.specs.Ranges.{AreInRange};
 ghost use Rattle.explained_run.specs.Who as meant;
 ghost use Rattle.xk_base.specs.declared.limits.TheConstants.{PID_MAX};
@@ -7,7 +7,8 @@ ghost use Rattle.xk_base.specs.declared.limits.TheConstants.{PID_MAX};
 use crate::NAME;
 use crate::line::Settings;
 use program_files::{
-    CommandLine, CommandWord, FRAMES, NumberOption, QUANTUM, ROUNDS, TRACE, WordsError, given_words,
+    CommandLine, CommandWord, FRAMES, Given, NumberOption, QUANTUM, ROUNDS, SettingsError, TRACE,
+    WordsError, given_words,
 };
 use recorded_runs::{AT_WORD, REPLAY_WORD, TOLD_BY_RECORD, replay_words};
 use run_work::BUDGET;
@@ -156,37 +157,60 @@ struct Who {
     program: Option<String>,
 }
 
-// The number that a text writes, if it is one that a pid may be, or 0.
+// The number that a text writes, if it is 0, or one that a pid may be.
 fn number_in(text: &str) -> Option<u32>
-    ensures number { IfSome result (λ number. meant.IsPid text.now × (number ≡ meant.number_of text.now)) }
-    ensures none { IfNone result (¬ meant.IsPid text.now) }
+    ensures number { IfSome result (meant.IsPid text.now) }
+    ensures none { IfNone result ((number : ℕ) → ¬ (meant.IsPid text.now number)) }
+    ensures bounded { IfSome result (λ number. number ≤ PID_MAX) }
 {
-    let Ok(number) = text.parse::<u32>() else {
-        return None;
-    };
-    if number > PID_MAX {
-        return None;
+    match text.parse::<u32>() {
+        Ok(number) if number <= PID_MAX => Some(number),
+        Ok(_) => None,
+        Err(_) => None,
     }
-    Some(number)
 }
 
-// Which processes are asked for, if one is named by its pid, or by the program that it runs, beside what else is asked for.
-fn who_is_asked(process: Option<String>, who: Who) -> Who
-    ensures { meant.IsWho process who result }
+// The same of a text, if there is one.
+fn number_if(text: &Option<String>) -> Option<u32>
+    ensures bounded { IfSome result (λ number. number ≤ PID_MAX) }
 {
-    let Some(process) = process else {
-        return who;
+    match text {
+        Some(text) => number_in(text.as_str()),
+        None => None,
+    }
+}
+
+// Which processes are asked for, if a text names one by this number, or by the program that it runs, beside what the other
+// words ask for.
+fn who_by(process: Option<String>, number: Option<u32>, other: Who) -> Who
+    requires { IfSome number (λ n. n ≤ PID_MAX) }
+    ensures pid { result.pid ≡ meant.pid_by process number other.pid }
+    ensures program { result.program ≡ meant.program_by process number other.program }
+{
+    let Some(text) = process else {
+        return other;
     };
-    match number_in(process.as_str()) {
+    match number {
         Some(number) => Who {
             pid: chosen_pid(number),
-            program: who.program,
+            program: other.program,
         },
         None => Who {
-            pid: who.pid,
-            program: Some(process),
+            pid: other.pid,
+            program: Some(text),
         },
     }
+}
+
+// Which processes the words ask for.
+fn who_in(given: &Given) -> Result<Who, SettingsError> {
+    let named = Who {
+        pid: chosen_pid(given.number(&PID)?),
+        program: given.text(PROGRAM)?,
+    };
+    let process = given.text(PROCESS)?;
+    let number = number_if(&process);
+    Ok(who_by(process, number, named))
 }
 
 /// What the words of the command line ask for.
@@ -204,11 +228,7 @@ pub(crate) fn settings<R: Env + AllocGlobal>(rt: &R) -> Result<Settings, WordsEr
     let quantum = given.number(&QUANTUM)?;
     let trace = given.number(&TRACE)?;
     let budget = given.number(&BUDGET)?;
-    let named = Who {
-        pid: chosen_pid(given.number(&PID)?),
-        program: given.text(PROGRAM)?,
-    };
-    let Who { pid, program } = who_is_asked(given.text(PROCESS)?, named);
+    let Who { pid, program } = who_in(&given)?;
     let calls = given.text(CALL)?;
     let failed = given.flag(FAILED);
     let numbers = given.flag(NUMBERS);
