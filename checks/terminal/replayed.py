@@ -24,7 +24,7 @@ picture   --picture draws the notes
 refused   --at N + 1 of a record with N events is refused, and N is told
 
 The programs are those of FOLDER, or of bin/. With --node each tool is run by Node too, and has to write the same. The status is
-0 if all are so. Without --runs there are 4 sessions, which takes seconds.
+0 if all are so. Without --runs there are 4 sessions, two of them in rounds, which takes seconds.
 """
 import argparse
 import hashlib
@@ -335,7 +335,7 @@ def compare(tools, chance, path, in_rounds):
                            check=False)
     wanted(drawn.returncode == 0 and drawn.stdout.rstrip().endswith(b"</svg>"), f"no picture: {drawn.stderr}")
     refused = tools.run("xv_why", [*at[:3], str(count + 1)])
-    wanted(refused[2] == 2 and f"the record has {count} events" in refused[1][0], f"beyond the end: {refused}")
+    wanted(refused[2] == 2 and refused[1][-1].endswith(f"the record has {count} events"), f"beyond the end: {refused}")
     return count, has_fault
 
 
