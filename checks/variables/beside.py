@@ -11,6 +11,7 @@ import collections
 import json
 import pathlib
 import re
+import struct
 import subprocess
 import sys
 
@@ -50,8 +51,41 @@ def values_in(text):
 
 
 def plain(value):
-    """A value as GDB tells it, in the form of ours: without the name of a function behind its address."""
-    return re.sub(r"^(0x[0-9a-f]+) <[^\"]*>$", r"\1", value)
+    """A value of GDB's in the form of ours: without the name of a function behind its address; a text that isn't there is told so; and
+    of what is optimized out, part by part, the whole is."""
+    value = re.sub(r"^(0x[0-9a-f]+) <error: .*>$", r"\1 <not there>", value)
+    value = re.sub(r"^(0x[0-9a-f]+) <[^\"]*>$", lambda it: it[0] if it[0].endswith("<not there>") else it[1], value)
+    parts = re.findall(r"<[a-z ]+>|[^{}=, ]+(?= *[,}])", value) if value.startswith("{") else []
+    return "<optimized out>" if parts and set(parts) == {"<optimized out>"} else value
+
+
+def is_same(gdb, here):
+    """Whether the two tell the same: a number of floating point is told here by its bits."""
+    if not here.startswith("bits 0x"):
+        return gdb == here
+    try:
+        forms = [struct.pack(form, float(gdb))[::-1].hex() for form in ("<d", "<f")]
+    except (ValueError, OverflowError):
+        return False
+    return int(here[5:], 16) in [int(it, 16) for it in forms]
+
+
+def paired(gdb, here):
+    """Each value of a name that GDB tells, with one that is told here: those that are the same first, then what isn't known."""
+    left, pairs, later = list(here), [], []
+    for value in gdb:
+        same = next((it for it in left if is_same(value, it)), None)
+        if same is None:
+            later.append(value)
+        else:
+            left.remove(same)
+            pairs.append((value, same))
+    for value in sorted(later, key=lambda it: it == "<optimized out>"):
+        best = next((it for it in left if it.startswith("<not known")), left[0] if left else "<not told>")
+        if best in left:
+            left.remove(best)
+        pairs.append((value, best))
+    return pairs + [("<not told>", it) for it in left]
 
 
 def kind_of(value):
@@ -78,14 +112,11 @@ def compare_call(counts, stop, number, call, told, rows):
         counts.kinds["call at the first instruction of a function that is inlined: not compared"] += 1
         return
     counts.tell("line", call["line"], found[3] if found else "", where)
-    for inlined, name, value in call["rows"]:
-        same = [it for it in rows if it[0] == name]
-        best = next((it for it in same if it[1] == plain(value)), same[0] if same else None)
-        if best:
-            rows.remove(best)
-        counts.tell("value", plain(value), best[1] if best else "<not told>", (*where, inlined, name))
-    for name, value in rows:
-        counts.tell("value", "<not told>", value, (*where, "", name))
+    names = dict.fromkeys([row[1] for row in call["rows"]] + [name for name, _ in rows])
+    for name in names:
+        gdb = [plain(row[2]) for row in call["rows"] if row[1] == name]
+        for value, told in paired(gdb, [it for of, it in rows if of == name]):
+            counts.tell("value", value, value if is_same(value, told) else told, (*where, name))
 
 
 def main(stops_path, program, most):
