@@ -276,13 +276,15 @@ def try_lines(room):
 
 
 def try_tables(room):
-    for way in ("people", "moodle", "canvas"):
+    for way in ("people", "students", "moodle", "canvas"):
         text = run([*MARKS, "csv", way, room / "marks.json"])
         compare(f"{way}.csv", text)
         rows = list(csv.reader(io.StringIO(text, newline="")))
         expect(len({len(row) for row in rows}) == 1, f"{way}: rows of other lengths")
         expect(not any(cell.startswith(FORMULA) for row in rows for cell in row), f"{way}: a cell is a formula")
-        expect(len(rows) == {"people": 14, "moodle": 13, "canvas": 14}[way], f"{way}: {len(rows)} rows")
+        expect(len(rows) == {"people": 14, "students": 93, "moodle": 13, "canvas": 14}[way], f"{way}: {len(rows)} rows")
+        tells = [it for it in ("has another answer", "growth in 5", "`call 1 wait", "exit 2 7") if it in text]
+        expect(not tells, f"{way}: it tells an answer: {tells}")
     text = run([*MARKS, "junit", room / "marks.json"])
     compare("junit.xml", text)
     suites = xml.etree.ElementTree.fromstring(text)

@@ -13,6 +13,7 @@ import shutil
 import subprocess
 import sys
 import tempfile
+import tomllib
 import unicodedata
 
 from modules import what_lacks
@@ -321,6 +322,86 @@ def try_numbered(room):
         expect(told in done.stdout.decode(), f"numbered: {told} isn't said of {text!r}: {done.stdout}")
 
 
+# ---- numbers by a secret, and an exercise that is tried
+
+DRAWS = [
+    ("first = 5", "line 1: first takes one of number, letters, one_of, sum, length, text"), ("first = { number = [9, 3] }", "line 1: first"),
+    ("first = { number = [1] }", "line 1: first"), ("first = { number = [1, 2], sum = [1] }", "line 1: first"),
+    ("first = { sum = [\"then\"] }", "line 1: first"), ("first = { text = \"{nope}\" }", "line 1: first"), ("first = { one_of = [] }", "line 1: first"),
+    ("first = { letters = [0, 3] }", "line 1: first"), ("first = { constructor = 1 }", "line 1: first"), ("first = [1", "line"),
+    ("first = { number = [1, 2] }\nlater = { length = \"first\" }", "line 2: later"), ("first = { number = [1, 9007199254740993] }", ""),
+]
+
+
+def try_draw(room):
+    """The same secret draws the same, another one or exercise something else; what is no draw is refused with its line."""
+    exercise = EXERCISES / "5-uptime.toml"
+    says(["secret", room / "nowhere/secret"], 5, "can't be written")
+    put(room / "short", "123456789012345")
+    put(room / "other", "1234567890123456")
+    says(["secret", room / "secret"], 0)
+    says(["secret", room / "secret"], 5, "is there")
+    expect((room / "secret").stat().st_mode & 0o777 == 0o600, "others may read a secret")
+    words = ["draw", exercise, "--to", room / "made/one.toml", "--secret"]
+    says([*words, room / "short"], 2, "has 15 bytes")
+    says([*words, room / "nobody"], 2, "can't be read")
+    says([*words, room / "secret"], 5, "can't be written")
+    (room / "made").mkdir()
+    says([*words, room / "secret", "--variants", "0"], 1, "--variants takes a number from 1 to 1000")
+    says(["draw", EXERCISES / "3-chain.toml", "--to", room / "made/x.toml", "--secret", room / "secret"], 2, "draw/3-chain.toml isn't there")
+    texts = []
+    for secret in ("secret", "secret", "other"):
+        says([*words, room / secret], 0, "101 variants")
+        texts.append((room / "made/one.toml").read_text(encoding="utf-8"))
+    expect(texts[0] == texts[1] != texts[2], "the same secret draws something else, or another one the same")
+    tables = [tomllib.loads(text)["variant"] for text in texts]
+    expect(all(it["first"] + it["then"] == it["both"] and 200 <= it["first"] <= 900 for it in tables[0]), "other numbers than are asked for")
+    expect(len({it["first"] for it in tables[0]}) > 50, "many have the same number")
+    for k, (text, why) in enumerate(DRAWS):
+        put(room / f"draw-{k}.toml", f"{text}\nthen = {{ number = [1, 2] }}\nboth = {{ number = [1, 2] }}\n")
+        says([*words, room / "secret", "--draw", room / f"draw-{k}.toml"], 2, why)
+    put(room / "few.toml", "first = { number = [1, 2] }\n")
+    says([*words, room / "secret", "--draw", room / "few.toml"], 2, "few.toml doesn't draw then")
+
+
+def try_all_draws(room):
+    """The grader takes each exercise that has draws, from another folder; the right answers to drawn words have all points."""
+    put(room / "secret", "a secret of the teacher's\n")
+    for draw in sorted((EXERCISES / "draw").iterdir()):
+        made = room / "made" / draw.name
+        made.parent.mkdir(exist_ok=True)
+        says(["draw", EXERCISES / draw.name, "--secret", room / "secret", "--to", made, "--variants", "7"], 0, "7 variants")
+        mine = next((TOP / "checks/grading/answers" / draw.stem).glob("right*"))
+        said = says(["check", made, mine], 0)
+        expect("MISSING" not in said, f"{draw.name}: {said}")
+        before, after = (tomllib.loads(it.read_text(encoding="utf-8")) for it in (EXERCISES / draw.name, made))
+        expect([run["name"] for run in before["run"]] == [run["name"] for run in after["run"]], f"{draw.name}: other runs")
+    says(["try", room / "made/11-overrun.toml", TOP / "checks/grading/answers/11-overrun"], 0, "all is as their names say")
+
+
+def try_tried(room):
+    """An exercise that its own answers don't meet is refused with the lines of its rules."""
+    put(room / "exercise.toml", EXERCISE)
+    line = 1 + EXERCISE.split("\n").index('name = "it says yes"')
+    exercise, answers = room / "exercise.toml", room / "answers"
+    yes = '  la a0, name\n  li a1, 1\n  li a7, 15\n  ecall\n  la a1, text\n  li a2, 3\n  li a7, 16\n  ecall\n  li a0, 0\n  li a7, 2\n  ecall\n.data\nname: .asciz "console"\ntext: .asciz "yes"\n'
+    no = yes.replace('"yes"', '"no!"')
+    says(["try", exercise, room / "nowhere"], 2, "can't be read")
+    put(answers / "fake-no/init.s", no)
+    says(["try", exercise, answers], 2, "has no right answer")
+    put(answers / "right/init.s", yes)
+    says(["try", exercise, answers], 0, "1 of 1  right", "0 of 1  fake-no", "all is as their names say")
+    put(answers / "right-too/init.s", no)
+    says(["try", exercise, answers], 2, f"line {line}: it says yes: right-too is right, and lacks it: ")
+    put(answers / "right/init.s", no)
+    says(["try", exercise, answers], 2, f"line {line}: it says yes: no right answer has it: ")
+    put(answers / "fake-yes/init.s", yes)
+    put(answers / "wrong/init.s", yes)
+    says(["try", exercise, answers], 2, f"fake-yes is a fake, and has 1 of 1 points, by the lines {line}", "wrong lacks something, and has all 1 points")
+    put(answers / "mine/init.s", yes)
+    says(["try", exercise, answers], 2, "mine begins with none of right, fake, wrong")
+
+
 # ---- folders
 
 def made_by(folder):
@@ -472,7 +553,7 @@ def main():
         return 0
     asked = Asked()
     with tempfile.TemporaryDirectory() as made:
-        for it in (try_moodle, try_others, try_gradescope, try_words, try_class, try_notes, try_numbered, courses, books, sheets):
+        for it in (try_moodle, try_others, try_gradescope, try_words, try_class, try_notes, try_numbered, try_draw, try_all_draws, try_tried, courses, books, sheets):
             attempt(it, pathlib.Path(made).resolve() / it.__name__)
     asked.end()
     told = f"{len(failed)} of {len(tried)} things are not" if failed else f"all {len(tried)} things are"

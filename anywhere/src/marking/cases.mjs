@@ -23,6 +23,14 @@ export const why_of = ({ standing, cause, why }) => (
   [cause, standing === "refused" ? "" : why].filter(Boolean).join("; ")
 );
 
+const CAME_TO = { fault: "a process faults", loops: "it doesn't end", waits: "it waits for ever" };
+
+/**
+ * The same in words that tell no answer: only what its run came to. What couldn't be run is told whole. What was asked, the
+ * case's name says.
+ */
+export const told_closed = (it) => (it.standing === "refused" ? why_of(it) : CAME_TO[it.standing] ?? "not so");
+
 /** What a submission came to: {name, points, of, standing, reason, cases}. */
 export function cases_of(xml, csv) {
   const [[name, points, of, standing, reason] = []] = rows_of(csv);

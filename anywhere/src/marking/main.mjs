@@ -8,6 +8,9 @@ import { Stop } from "./held.mjs";
 /** Each command: how many words it takes, and which options: true if it needs one, null if one has no value. */
 const COMMANDS = {
   sheet: [1, { "--open": false }],
+  try: [2, {}],
+  secret: [1, {}],
+  draw: [1, { "--secret": true, "--to": true, "--draw": false, "--variants": false }],
   collect: [2, { "--to": true, "--roster": false, "--exercise": false, "--prefix": false }],
   json: [1, { "--to": true, "--on": false }],
   csv: [2, {}],
@@ -25,6 +28,9 @@ const ACTS = {
     const { sheet_of, text_of_sheet } = await import("./sheet.mjs");
     return text_of_sheet(sheet_of(exercise, open));
   },
+  try: async (words) => (await import("./tried.mjs")).try_exercise(...words),
+  secret: async ([path]) => (await import("./drawn.mjs")).make_secret(path),
+  draw: async ([exercise], options) => (await import("./drawn.mjs")).write_drawn(exercise, options),
   collect: async (words, options) => (await import("./collect.mjs")).collect(...words, options),
   json: async ([course], options) => (await import("./gradebook.mjs")).write_book(course, options),
   csv: async ([way, file]) => (await import("./tables.mjs")).table(way, file),

@@ -2,7 +2,7 @@
 // asks for nothing: its policy allows its own style alone.
 import { createHash } from "node:crypto";
 import { join } from "node:path";
-import { is_right, why_of } from "./cases.mjs";
+import { is_right, told_closed, why_of } from "./cases.mjs";
 import { line_of } from "./csv.mjs";
 import { make_folder, write_file } from "./files.mjs";
 import { read_book } from "./gradebook.mjs";
@@ -23,12 +23,10 @@ const paragraph = (text) => (text ? `<p>${text}</p>\n` : "");
 const row = (...its) => `<tr>${its.map((it) => `<td>${it}</td>`).join("")}</tr>\n`;
 const points = (got, of) => `${got === null ? "?" : escaped(got)} of ${escaped(of)}`;
 
-const CAME_TO = { fault: "a process faults", loops: "it doesn't end", waits: "it waits for ever" };
-
 /** What failed in a part; only its standing, if answers aren't to be told. */
 function failure_of(part, { is_closed }) {
   if (is_right(part)) return "";
-  return escaped(is_closed && part.standing !== "refused" ? CAME_TO[part.standing] ?? "not so" : why_of(part));
+  return escaped(is_closed ? told_closed(part) : why_of(part));
 }
 
 /** The rows of a mark. If answers aren't to be told, parts have the exercise's names, without what a variant has. */

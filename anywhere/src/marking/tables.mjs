@@ -1,5 +1,6 @@
-// Tables of marks: for people, for Moodle's import of grades, and for Canvas's.
+// Tables of marks: for people, for students, for Moodle's import of grades, and for Canvas's.
 import { write_all } from "../streams.mjs";
+import { is_right, told_closed } from "./cases.mjs";
 import { line_of } from "./csv.mjs";
 import { read_book } from "./gradebook.mjs";
 import { Stop } from "./held.mjs";
@@ -23,6 +24,20 @@ function for_people({ exercises, students }) {
   return [head, ...students.map((it) => [it.id, it.name, ...pairs(it), it.points, it.of])];
 }
 
+/** The parts of a mark by the exercise's own words, without a number of the student's, and in place of a reason no value. */
+const closed_parts = (mark, { parts }) => (mark.parts ?? []).map((it, k) => (
+  [`${parts[k].run}: ${parts[k].name}`, it.points, it.of, is_right(it) ? "" : told_closed(it)]));
+const hand_parts = ({ hand }) => hand.map((it) => [it.name, it.points ?? "", it.of, it.remark]);
+
+/** A row for each part of each student's marks, to be shown to students. */
+function for_students({ exercises, students }) {
+  const rows_of = (mark, exercise) => (mark.state === "graded" ? [...closed_parts(mark, exercise), ...hand_parts(mark)]
+    : [["", cell(mark), mark.of, mark.state]]);
+  const rows = students.flatMap(({ id, name, marks }) => marks.flatMap((mark, k) => (
+    rows_of(mark, exercises[k]).map((row) => [id, name, mark.exercise, ...row]))));
+  return [["id", "name", "exercise", "part", "points", "of", "remark"], ...rows];
+}
+
 /** By which columns of the roster Moodle finds a user, and what it calls them. */
 const MOODLE = { email: "Email address", login: "Username", id: "ID number" };
 
@@ -41,7 +56,7 @@ function for_canvas(book) {
   ))];
 }
 
-const WAYS = { people: for_people, moodle: for_moodle, canvas: for_canvas };
+const WAYS = { people: for_people, students: for_students, moodle: for_moodle, canvas: for_canvas };
 
 /** `csv WAY FILE`: the table, as text. */
 export function table(way, file) {
