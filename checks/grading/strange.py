@@ -376,6 +376,12 @@ def try_all_draws(room):
         expect("MISSING" not in said, f"{draw.name}: {said}")
         before, after = (tomllib.loads(it.read_text(encoding="utf-8")) for it in (EXERCISES / draw.name, made))
         expect([run["name"] for run in before["run"]] == [run["name"] for run in after["run"]], f"{draw.name}: other runs")
+    # A program that knows the answer still lies beside its exercise: so no page for students has it in a link.
+    own = [it for run in tomllib.loads((room / "made/14-sieve.toml").read_text(encoding="utf-8"))["run"] for it in run["with"]]
+    expect(own.count("sieve/init.s") == 2 and (room / "made/sieve/init.s").exists(), f"a teacher's program lies elsewhere: {own}")
+    said = says(["draw", room / "made/5-uptime.toml", "--secret", room / "secret", "--to", room / "secret", "--draw",
+                 EXERCISES / "draw/5-uptime.toml"], 1, "--to names", "itself")
+    expect((room / "secret").read_text() == "a secret of the teacher's\n", f"the secret is written over: {said}")
     says(["try", room / "made/11-overrun.toml", TOP / "checks/grading/answers/11-overrun"], 0, "all is as their names say")
 
 

@@ -2,9 +2,9 @@
 // draws says how each key of a variant comes about; what is drawn is a function of the secret, the exercise's title, the
 // variant and the key. So the same secret gives the same exercise, and each exercise has numbers of its own.
 import { createHmac, randomBytes } from "node:crypto";
-import { existsSync, writeFileSync } from "node:fs";
+import { existsSync, realpathSync, writeFileSync } from "node:fs";
 import { basename, dirname, join, posix, relative, sep } from "node:path";
-import { bytes_of, reason_of, text_of, write_file } from "./files.mjs";
+import { bytes_of, make_folder, reason_of, text_of, write_file } from "./files.mjs";
 import { Stop, held_exercise, text_of_held } from "./held.mjs";
 import { read_table } from "./sheet.mjs";
 import { shown } from "./shown.mjs";
@@ -94,8 +94,21 @@ const lines_of = (table, without) => Object.entries(table).filter(([key]) => !wi
   .map(([key, it]) => `${toml_of(key)} = ${toml_of(it)}`);
 const part_of = (head, table, ...without) => [head, ...lines_of(table, without)].join("\n");
 
-/** A path of an exercise's, from another folder. */
-const moved = (file, from, to) => posix.normalize([...relative(to, from).split(sep), file].filter(Boolean).join("/"));
+/** Whether a file lies beside an exercise, or below: a program of the teacher's own, which may know the answer. */
+const is_own = (file) => !posix.normalize(file).startsWith("../");
+
+/** A path of an exercise's, from another folder; what is its own goes with it. */
+const moved = (file, from, to) => (is_own(file) ? file
+  : posix.normalize([...relative(to, from).split(sep), file].filter(Boolean).join("/")));
+
+/** Copies the files that lie beside an exercise, or below, to another folder. */
+function copy_own(table, from, to) {
+  const its = list_of(table.run).flatMap((run) => list_of(run.with)).filter(is_own);
+  for (const file of new Set(its)) {
+    make_folder(dirname(join(to, file)));
+    write_file(join(to, file), bytes_of(join(from, file)));
+  }
+}
 
 function run_of(run, from, to) {
   const placed = run.with ? { ...run, with: list_of(run.with).map((file) => moved(file, from, to)) } : run;
@@ -125,13 +138,22 @@ function check_keys({ keys, path }, table) {
   if (lacking) throw new Stop(2, `${path} doesn't draw ${shown(lacking)}, which the exercise's variants have`);
 }
 
+/** That nothing is written over of which something is drawn. */
+function check_apart(to, ...paths) {
+  const real = (path) => (existsSync(path) ? realpathSync(path) : path);
+  const over = paths.find((path) => existsSync(to) && real(path) === real(to));
+  if (over) throw new Stop(1, `--to names ${over} itself`);
+}
+
 /** Writes the exercise that a secret makes of this one. It is read once by the grader, which refuses what is none. */
 export function write_drawn(path, { secret, to, draw = usual_draws(path), variants }) {
+  check_apart(to, path, secret, draw);
   if (!existsSync(draw)) throw new Stop(2, `${draw} isn't there: it says how the numbers of ${path} are drawn`);
   const table = read_table(text_of_held(held_exercise(path)), path);
   const draws = { keys: read_table(text_of(draw), draw), path: draw };
   check_keys(draws, table);
   const made = variants_of(draws, secret_of(secret), String(table.title), count_of(variants));
+  if (relative(dirname(path), dirname(to)) !== "") copy_own(table, dirname(path), dirname(to));
   write_file(to, text_with_variants(table, made, dirname(path), dirname(to)));
   held_exercise(to);
   return `${to}: ${made.length} variants, each by the secret\n`;
