@@ -74,7 +74,7 @@ abbrev pub with_pipe : (frame : Option ℕ) → Made → Made
 with_pipe None made = made
 with_pipe (Some frame) made = record { count = with_more made.count 1; latest = insert_entry nat_cmp made.latest frame (with_more made.count 1) }
 
--- behind a step of process p that came to the world t, and whose call was given this: `pipe` has answered 0
+-- after a step of process p that came to the world t, and whose call was given this: `pipe` has answered 0
 abbrev pub pipes_stepped : Given → (t : World) → (p : ℕ) → Answer → Made → Made
 pipes_stepped given t p (Called number value) made = if int_eq number PIPE && int_eq value (pos 0) then with_pipe (frame_made t.state p given) made else made
 pipes_stepped given t p Stepped made = made

@@ -94,7 +94,7 @@ pub record Noted : Type 0 where
 abbrev pub nothing_noted : Noted
 nothing_noted = record { notes = []; fault = None; events = 0; pipes = none_made }
 
--- behind an event, of which this came, from the world w to t: its note, of the world before it, stands behind those before, the fault that is told has its place, and a pipe that it made is the next one
+-- after an event, of which this came, from the world w to t: its note, of the world before it, stands behind those before, the fault that is told has its place, and a pipe that it made is the next one
 abbrev pub noted_with : (w t : World) → Outcome → Noted → Noted
 noted_with w t o n = record {
   notes = n.notes ++ all_of (note_of n.pipes w o);

@@ -92,7 +92,7 @@ pub record AnswersMarked (may_end : Bool) (read : Word) (d e : Debugger) (s t : 
   pub chosen : e.chosen ≡ left (length s.events) (length t.events) d.chosen
   pub rest : e ≡ record d { shown = e.shown; marks = e.marks; chosen = e.chosen }
 
--- Behind that it is told whether the run has left its record, and what is shown after each word that moves it
+-- After that it is told whether the run has left its record, and what is shown after each word that moves it
 pub record AnswersWord (may_end : Bool) (read : Word) (d e : Debugger) (s t : Recorded) (before after : List ℕ) (next : behind_words.Next) : Type 0 where
   pub marked : List ℕ
   pub answers : AnswersMarked may_end read d e s t before marked next
