@@ -2,6 +2,7 @@
 // machine is booted are looked up when one is; what is found then is told.
 import { text_in } from "./arguments.mjs";
 import { condition_of } from "../machine/conditions.mjs";
+import { variable_in_condition } from "./variables.mjs";
 
 const NOT_YET = "no machine is booted yet", NO_DEBUG = "this run is one without debugging";
 
@@ -39,10 +40,16 @@ export class BreakRequests {
     it.told = { id: it.id, verified: is_there, ...more, ...(line === undefined ? {} : { line }) };
   }
 
+  /** What a word of a condition stands for that is no register: a variable of C, if a program has tables of such. */
+  named(session, word) {
+    const has_tables = session?.programs.files.some((_, place) => session.programs.tables_of(place) !== null) ?? true;
+    return has_tables ? variable_in_condition(session, word) : undefined;
+  }
+
   found({ id, wanted, find, reason }, { session, is_debugged }) {
     try {
       const [condition, hits] = ["condition", "hitCondition"].map((it) => text_in(wanted, it) ?? "");
-      const holds = condition_of(condition, hits);
+      const holds = condition_of(condition, hits, (word) => this.named(session, word));
       if (!session || !is_debugged) return { places: [], words: session ? NO_DEBUG : NOT_YET };
       const { places, name, words } = find();
       const own = { kind: "address", program: null, id, reason, name, holds };

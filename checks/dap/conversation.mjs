@@ -282,6 +282,25 @@ async function of_c() {
   await left(client);
 }
 
+/** Conditions of variables of C: where they hold, and of one that isn't there. */
+async function conditions() {
+  const stopping = ["k == 1 && part == 7", "shapes[1].side == 1", "nothing == 1"];
+  const others = ["letter != 97", "p->x == 1"];
+  for (const condition of [...stopping, ...others]) {
+    const client = await begun({ program: POINTS.path.slice(0, -2), keys: "", stopOnEntry: false }, async (it) => {
+      const wanted = { source: POINTS, breakpoints: [{ line: 20, condition }] };
+      const { breakpoints: [told] } = await it.ask("setBreakpoints", wanted);
+      say(`${condition}:`, told.verified ? "stands" : told.message);
+    });
+    if (stopping.includes(condition)) {
+      const pid = await stopped(client, "there", await client.event("stopped"));
+      await variables(client, pid, "Locals", ["letter", "part", "k"]);
+    } else say("ended with", (await client.event("exited")).exitCode);
+    say(client.output.trim().split("\n").slice(1).join("\n"));
+    await left(client);
+  }
+}
+
 /** A source that was changed after its program was made. */
 async function changed() {
   const program = join(room, "points"), [early, late] = [1000000000, 1000000060]; // seconds
@@ -298,7 +317,9 @@ async function changed() {
   }
 }
 
-const CONVERSATIONS = { refusals, pipeline, fault, stops, typed, looked, recorded, early, playing, of_c, changed };
+const CONVERSATIONS = {
+  refusals, pipeline, fault, stops, typed, looked, recorded, early, playing, of_c, conditions, changed,
+};
 for (const [name, plays] of Object.entries(CONVERSATIONS)) {
   say(`== ${name}`);
   await plays();
