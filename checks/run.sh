@@ -113,11 +113,12 @@ case "$*" in
 --node)
     begin_node
     do_all $quick $longer checks/dap/run.sh 'node checks/dap/hostile.mjs 1 1000' 'node checks/dap/extension.mjs' \
-        'node checks/dap/stops.mjs 200' 'node anywhere/try/machine_room.mjs' 'node checks/slides.mjs'
+        'node checks/dap/stops.mjs 200' 'node anywhere/try/machine_room.mjs' 'node anywhere/try/break_points.mjs' \
+        'node checks/slides.mjs'
     ;;
 '--node --quick' | '--quick --node')
     begin_node
-    do_all $quick checks/dap/run.sh 'node anywhere/try/machine_room.mjs'
+    do_all $quick checks/dap/run.sh 'node anywhere/try/machine_room.mjs' 'node anywhere/try/break_points.mjs'
     ;;
 --others) tell_others ;;
 *)
