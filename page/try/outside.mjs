@@ -149,7 +149,7 @@ async function files(page) {
   for (const text of TABLES) {
     const table = `function 0 8 main\nfile wc.c\n0 5\n${text}`;
     await told(page, `the table ${JSON.stringify(text)}`, async () => {
-      await page.eval("page.app.work.files = page.app.work.files.filter((it) => !it.name.startsWith('wc'))");
+      await page.eval("page.app.work.files = page.app.work.files.filter((it) => !it.name.startsWith('wc')); 0");
       await drop(page, [["wc", "Uint8Array.from(atob(PAGE_DATA.programs.wc), (it) => it.charCodeAt(0))"], ["wc.lines", JSON.stringify(table)]]);
       await is_booted(page, "document.getElementById('boot').click()");
     });
