@@ -86,12 +86,14 @@ const ACTS = {
     if (random(2)) return;
     await stands();
     await page.eval("document.getElementById('take-back').click()");
+    await page.eval(ASKED_IS_DONE); // (on a busy host what is here may be as long as what comes back)
     await comes(page, `page.app.view.end >= ${before.end}`, PATIENCE);
     await pause(page);
     await page.eval("page.ask('go', { place: page.app.view.end })");
+    await page.eval(ASKED_IS_DONE);
     await page.sleep(300);
     const after = await page.eval(NOW);
-    if (!begins(before.events, after.events)) lost("a future that was cut off doesn't come back as it was");
+    if (!begins(before.events, after.events)) lost(`a future that was cut off doesn't come back as it was: ${words_of(before)}; then ${words_of(after)}`);
   },
   async edits() {
     const name = ["hello", "fork"][here];
