@@ -1,5 +1,5 @@
 //! The debugger: a line goes in, its answer comes out.
-ghost use Rattle.std.specs.Prelude.{◌≡◌, ◌++◌, IfOk, Ok, OnOk, string_bytes};
+ghost use Rattle.std.specs.Prelude.{◌≡◌, ◌≢◌, ◌++◌, true, false, IfOk, Ok, OnOk, length, string_bytes};
 ghost use Rattle.xv_debug.specs.Effects.{next_of};
 ghost use Rattle.xv_debug.specs.Kept.{goes_on, marks_after};
 ghost use Rattle.xv_debug.specs.Obeyed.{goes_by_plan, may_leave, sends_by_hand, text_in};
@@ -194,6 +194,14 @@ fn show_never(answer: &mut String) -> Result<(), AllocError>
     ensures { OnOk result (string_bytes answer.new ≡ string_bytes answer.old ++ never) }
 {
     answer.push_str("it never came before this place, and nothing is changed\n")
+}
+
+/// Whether a session has got so many events.
+fn is_at(session: &Session, at: u64) -> bool
+    ensures same { result ≡ true → at ≡ length session.now.events }
+    ensures other { result ≡ false → at ≢ length session.now.events }
+{
+    session.at() == at
 }
 
 /// Whether a process lives that a word looks at: whose registers and names are known.
@@ -554,10 +562,10 @@ impl Debugger {
             (ShowsIfMoved self.now.sources self.now.chosen at session.now self.now.displays.kept.items
             (string_bytes answer.old) (string_bytes answer.new)) }
     {
-        if session.at() != at {
-            return self.show_displays(alloc, session, answer);
+        if is_at(session, at) {
+            return Ok(());
         }
-        Ok(())
+        self.show_displays(alloc, session, answer)
     }
 
     /// Does what a word of a line asks for, and writes its answer; if the run isn't on the record any more, that; and if it is
