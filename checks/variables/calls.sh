@@ -21,7 +21,8 @@ else
     CFLAGS='' programs/c/build.sh --library "$room/library"
     (cd "$room" && clang --target=riscv64-unknown-elf -march=rv64i -mabi=lp64 -mno-relax -std=gnu11 -ffreestanding -fno-pic \
         -fno-builtin -g "$@" -I"$top/programs/c/lib" -c init.c -o init.o)
-    ld.lld -n --gc-sections -T programs/c/lib/program.ld -o "$room/init" "$room"/library/*.o "$room/init.o"
+    # Of a function that is left out lld's tables would tell that it is at 0, where programs begin here.
+    ld.lld -n --gc-sections -z 'dead-reloc-in-nonalloc=.debug_*=0xffffffffffffffff' -T programs/c/lib/program.ld -o "$room/init" "$room"/library/*.o "$room/init.o"
     riscv64-unknown-elf-objcopy --only-keep-debug "$room/init" "$room/init.debug"
     riscv64-unknown-elf-strip "$room/init"
     bin/xv_lines <"$room/init.debug" >"$room/init.lines"

@@ -1,13 +1,13 @@
 #!/bin/sh
-# many.sh [STOPS [SEED]]: twelve programs, each by gcc at -O0, -O1, -O2 and -Os and by clang with lld at -O0 and -O2, beside GDB at
-# so many random stops (20): calls, lines and values, as calls.sh compares them. It tells each build, and at the end the sums.
+# many.sh [STOPS [SEED [FILE.c..]]]: programs in C, each by gcc at -O0, -O1, -O2 and -Os and by clang with lld at -O0 and -O2, beside GDB
+# at so many random stops (20): calls, lines and values, as calls.sh compares them. Without files kinds.c and fields.c. It tells each
+# build, and at the end the sums. A program that waits goes another way under GDB than in the debugger, since ticks come at other events.
 set -u
 here=$(dirname "$(readlink -f -- "$0")")
-src=$here/../../programs/c/src
 stops=${1-20} seed=${2-1}
 said=$(mktemp) && trap 'rm -f "$said"' EXIT
-for program in "$here/kinds.c" "$here/fields.c" "$src/primes.c" "$src/pingpong.c" "$src/storm.c" "$src/forks.c" "$src/lazy.c" \
-    "$src/tests.c" "$src/crash.c" "$src/sh.c" "$src/grep.c" "$src/help.c"; do
+if [ $# -gt 2 ]; then shift 2; else set -- "$here/kinds.c" "$here/fields.c"; fi
+for program; do
     for switches in -O0 -O1 -O2 -Os '--clang -O0' '--clang -O2'; do
         compiler=${switches%-O*}
         echo "$(basename "$program") $switches"
