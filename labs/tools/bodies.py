@@ -88,6 +88,13 @@ def test_brackets(found, first):
         raise Refused(f"line {first + opened[-1][1]}: `{opened[-1][0]}` isn't closed within the body")
 
 
+def is_itself(lab, above, below):
+    """Whether the function's name between these words may be the function, called or as a value. A variable may have the name of a
+    method, which no word alone stands for."""
+    is_free, path = not lab.said.get("owner"), [":", ":"]
+    return below[0] == "(" or below == path or above == path or is_free and above[-1:] != ["."]
+
+
 def test_words(lab, found, first):
     """Refuses words that have no place in a body."""
     forbidden = lab.said.get("forbidden", {})
@@ -115,7 +122,8 @@ def test_words(lab, found, first):
             raise Refused(here + f"`{word}!` stands in the body: a body that gives up does not do its work")
         if is_macro and word not in [*MACROS, *GIVES_UP]:
             raise Refused(here + f"the macro `{word}!` has no place in a body")
-        if word == lab.function and follows in ("(", "::") or word == "lab" or word.startswith("lab_"):
+        above = [it[1] for it in found[max(0, at - 2) : at]]
+        if word == lab.function and is_itself(lab, above, [follows, behind]) or word == "lab" or word.startswith("lab_"):
             raise Refused(here + f"`{word}` is the function itself, or a name of the labs' own")
         if word in forbidden:
             raise Refused(here + f"`{word}` isn't to be used: {forbidden[word]}")

@@ -19,7 +19,7 @@ NO_WORDS = "use mod module postulate private ghost ground assumption macro synta
 HEADS = {
     LEMMAS: re.compile(r"(?:abbrev )?[A-Za-z][\w+-]* :|[A-Za-z][\w+-]*(?: [^=]*)? =|unfolding "),
     LOOPS: re.compile(r"(?:invariant|decreases)-[\w+-]+ l ="),
-    ANSWERS: re.compile(r"[a-z][\w+-]* c(?: \w+)* =|unfolding "),
+    ANSWERS: re.compile(r"[a-z][\w+-]* c(?: \w+)* =|unfolding |\]"),
 }
 
 
@@ -34,6 +34,11 @@ class Proof:
 def is_one(lab):
     """Whether the lab asks for more than a body."""
     return "proof" in lab.said
+
+
+def has_answers(lab):
+    """Whether the lab has a place for answers to goals."""
+    return is_one(lab) and ANSWERS in lab.said["proof"]["places"]
 
 
 def signs(kind):
@@ -138,9 +143,14 @@ def answers_of(proof):
             waiting.append((number, line))
             continue
         goal = head[1] if head else goal
-        found.setdefault(goal, []).extend([*waiting, (number, line)])
+        found.setdefault(goal, []).extend([*waiting, (number, f"  {line}" if line.startswith("]") else line)])
         waiting = []
     return found
+
+
+def cases_of(proof):
+    """The ways of a `match` or an `if` that the answers tell apart, as `| in-Some w ↦ ..`: the prover has a name for each."""
+    return list(dict.fromkeys(it for line in proof.answers for it in re.findall(r"\|\s+((?:in|then|else)[-_][\w-]+)\s+\w+\s+↦", line[1])))
 
 
 def write(path, told):

@@ -1,6 +1,8 @@
 """Plays bodies in a build without proofs, over small states and over random ones: after each the contract's clauses are looked
 at, which a lab's play.rs has as code."""
 import dataclasses
+import math
+import os
 import re
 
 import limits
@@ -9,7 +11,7 @@ from way import Way
 
 # What a play comes to: a case in which the contract doesn't hold, none, no play at all, or one that took too much.
 WRONG, SAME, UNTRIED, OVER = "wrong", "same", "untried", "over"
-# How many seconds one body is played; it takes a few, and a loop without an end takes all of them.
+# How many seconds one body is played on a host that does nothing else; it takes a few, and a loop without an end takes all of them.
 SECONDS = 60
 # What is said of a body that takes more stack, time or memory than a play has. That is no case against the contract.
 TOO_MUCH = re.compile(r"no-answer(?:: (.*))?$")
@@ -36,9 +38,16 @@ def module_of(lab, name):
     return f"\n#[cfg(test)]\nmod {name}_play {{\n" + text.replace("STUDENT", name) + "}\n"
 
 
+def seconds_of(way):
+    """How many seconds one body is played: the more, the more processes want each processor of the host, so that a right body isn't
+    over the limit since others work there too."""
+    wanted = os.getloadavg()[0] / (os.cpu_count() or 1)
+    return min(way.limits.seconds, math.ceil(SECONDS * max(1, 2 * wanted)))
+
+
 def tried(room, way):
     """What `rt try --test` prints of the room's crate."""
-    _, text = limits.run(["rt", "try", "--test", "--seconds", SECONDS], room.crate, way.limits)
+    _, text = limits.run(["rt", "try", "--test", "--seconds", seconds_of(way)], room.crate, way.limits)
     (room.home / "said.txt").write_text(text, encoding="utf-8")
     return text
 

@@ -56,13 +56,37 @@ def open_goals(lab, text, name):
     return ()
 
 
+# What stands in each step's list of names, and is of no use to a student.
+NO_USE = re.compile(r" \.(?:lifetimes|well_formed|type_inv|auto|ref_ptr|ghost_name)(?: \{[^}]*\})?,?| \.new \{\.frame\},?|(?<=\{)\.ref_ptr, \.ghost_name, ")
+
+
+def names_in(blocks):
+    """Of each goal the names that a proof of it may use, a line for each step; blocks has the lines below each goal."""
+    found = {}
+    for goal, block in blocks:
+        lines = []
+        for line in block.split("\n"):
+            as_in = re.search(r"as in `([^`]+)` above(?:, as far as (\S+))?", line)
+            if as_in:
+                known = found.get(as_in[1], [])
+                ends = next((at + 1 for at, it in enumerate(known) if it.startswith(f"{as_in[2]}:")), len(known))
+                lines += known[:ends]
+            elif line.startswith("  | "):
+                lines.append(line[4:].rstrip())
+        found[goal] = lines
+    told = {goal: [NO_USE.sub("", it).rstrip(", ") for it in lines if "the elim needs:" not in it] for goal, lines in found.items()}
+    return {goal: [it for it in lines if not it.endswith(":")] for goal, lines in told.items()}
+
+
 def asked_in(lab, text, name):
-    """Of a function's goals the line of the lab's file, and what is to be shown there, as far as a check tells it."""
+    """Of a function's goals the line of the lab's file, what is to be shown there, and the names that a proof may use, as far as
+    a check tells it."""
     places = re.findall(rf"^note: {re.escape(lab.file)}:(\d+):\d+: it is not proved .*\(`([^`]+)`\)", text, re.M)
     of_goal = {goal: int(line) for line, goal in places}
     file = re.escape("/".join(["proofs", *lab.path[:-1], name, "Answers.antt"]))
-    shown = dict(re.findall(rf"^note: `([^`]+)` of {file} must prove: (.*)", text, re.M))
-    return {goal: (of_goal.get(goal, 0), shown.get(goal, "")) for goal in {*of_goal, *shown}}
+    told = re.findall(rf"^note: `([^`]+)` of {file} must prove: (.*)\n((?:  .*\n)*)", text, re.M)
+    shown, names = {it[0]: it[1] for it in told}, names_in([(it[0], it[2]) for it in told])
+    return {goal: (of_goal.get(goal, 0), shown.get(goal, ""), names.get(goal, [])) for goal in {*of_goal, *shown}}
 
 
 def unfoldings_in(text):
@@ -82,7 +106,8 @@ def write_answers(lab, room, name, tried, unfolded, proof=None):
     module = ".".join(["Rattle", lab.crate, "proofs", *lab.path[:-1], name, "Goals"])
     own = places.answers_of(proof) if proof else {}
     uses = dict.fromkeys([*lab.said.get("uses", []), *(places.uses_of(lab, proof) if proof else [])])
-    told = [(None, it) for it in [*uses, f"use {module} as goal", ""]]
+    cases = places.cases_of(proof) if proof else []
+    told = [(None, it) for it in [*uses, f"use {module} as goal", *([f"use {module}.{{{', '.join(cases)}}}"] if cases else []), ""]]
     for goal, lines in own.items():
         told += [(None, f"pub {goal} : goal.{goal}"), *lines, (None, "")]
     for goal, turn in tried.items():
@@ -141,6 +166,8 @@ def prove(lab, room, names, way=Way(), jobs=1, is_over=lambda text: False, answe
     answer. Each further one has, for the goals that were open, the next of the lab's terms; there is none if it is over by
     what a check said. `answers` writes them, by a function's name."""
     tried, unfolded, asked = ({name: {} for name in names} for _ in range(3))
+    for name, why in taken.anew(lab) if not taken.folder_for(lab, way) else []:
+        way.say(f"the library {name} of this clone {why}: what rt doesn't take it proves anew, which may take minutes")
     while True:
         status, text = checked(room, way, jobs)
         ended = ends_at_once(lab, status, text, names)

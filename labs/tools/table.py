@@ -15,7 +15,8 @@ HEAD = """\
 # its proof did: `proved` or `open`. A play `fails` if a case is found in which the contract doesn't hold, and `holds` if none is,
 # with the number of its cases. Where - stands, nobody has looked since the play or the lab is as it is. Bodies in `right`, `open`
 # and `unlike` are right; those in `unlike` are unlike the crate's own, some of them in what they answer where the contract leaves
-# that open. checks/labs.sh --write writes what it sees.
+# that open. Those in `wrong` and `hidden` are wrong; no play has the case that would tell one in `hidden`, so the proof alone stands
+# before it. checks/labs.sh --write writes what it sees.
 """
 
 

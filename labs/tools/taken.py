@@ -90,6 +90,19 @@ def libraries_in(folder, names):
     return found
 
 
+def anew(lab):
+    """The libraries of this clone below a lab that `rt` may not take as they lie there, each with why."""
+    import base
+    crates = base.read_list((TOP / "crates.txt").read_text(encoding="utf-8"))
+    tree, found = base.Tree(crates, {it: {} for it in crates}), {}
+    for name in lab.below():
+        why = refusal_of(base, name, TOP, {it: found[it] for it in tree.below(name) if it in found})
+        if why:
+            yield name, why
+        else:
+            found[name] = place_of(TOP, name)
+
+
 def stale_part(lab):
     """What of the fetched pack isn't of this clone's sources any more, as far as the lab stands on it; nothing if all is."""
     parts = parts_of(FETCHED)

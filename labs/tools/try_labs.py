@@ -27,7 +27,7 @@ from way import Way
 # How many stored bodies of each kind a lab has to have, and one of the track, whose bodies are judged one by one; and all kinds.
 LEAST = {"right": 5, "wrong": 6, "unlike": 3}
 LEAST_ON_TRACK = {"right": 1, "wrong": 2}
-KINDS = ["right", "open", "unlike", "wrong"]
+KINDS = ["right", "open", "unlike", "wrong", "hidden"]
 
 
 def names_of(kind, found):
@@ -54,9 +54,11 @@ def played(lab, stored, found):
         yield "it can't be played: " + " | ".join(next(iter(plays.values())).lines)
         return
     for name, it in plays.items():
-        found[lab.name, place_of(name)] = [f"holds {it.cases}" if it.verdict == SAME else "fails", ""]
+        word = {SAME: f"holds {it.cases}", WRONG: "fails"}.get(it.verdict)
+        if word:
+            found[lab.name, place_of(name)] = [word, ""]
         wanted = WRONG if name in stored["wrong"] else SAME
-        if it.verdict != wanted:
+        if it.verdict != wanted and name not in stored["hidden"]:
             yield f"{name} is played as {it.verdict}: {' | '.join(it.lines)}"
         elif "-v" in sys.argv:
             print(f"    {name}: {it.verdict} {it.cases or ''} {' | '.join(it.lines)}")
@@ -113,7 +115,7 @@ def judged_one_by_one(lab, words, way):
         for name, body in lab.variants(kind).items():
             begun = time.time()
             verdict = verdicts.judge(lab, body, 0, way, missing, places.stored(lab, kind, name))
-            wanted = {"right": [PROVED], "wrong": [WRONG, OPEN], "open": [OPEN], "unlike": [PROVED, OPEN]}[kind]
+            wanted = {"right": [PROVED], "wrong": [WRONG, OPEN], "open": [OPEN], "unlike": [PROVED, OPEN], "hidden": [WRONG, OPEN]}[kind]
             if verdict.word not in (wanted if not missing else [*wanted, OPEN]):
                 yield f"{kind}/{name} is {verdict.word}: {verdict.reason()}"
             elif "-v" in sys.argv:

@@ -66,6 +66,8 @@ BODIES = [
     ("    ghost let x = 0;\n    0", "`ghost`"),
     ("        self.close(file)", "function itself"),
     ("        Files::close(self, file)", "function itself"),
+    ("        let shut = Files::close;\n        shut(self, file)", "function itself"),
+    ("        let close = true;\n        close", ""),
     ("        self.lab_right_as_shipped(file)", "labs' own"),
     ("    0 \u202e", "no place"),
 ]
@@ -209,6 +211,8 @@ TOLD = [
     ("◌≡◌ {A = Option ℕ} (Some c.loop-n.n) (position (is_none {T = Rattle.a.B.C}) c.args.files.now)", "(Some n) ≡ (position (is_none) files.now)"),
     ("f (◌+◌ a (g b)) c.from_bits.result", "f (a + (g b)) (the answer of from_bits)"),
     ("map (◌+◌ a) xs", "map (◌+◌ a) xs"),
+    ("Rattle.a.b.Traded.Traded c.args.self.now record {first = Rattle.std.proofs.Common.Some c.args.f; count = c.match-self.self.count + 1} c.write_u64.new.self []",
+     "Traded self.now record {first = Some f; count = self.count + 1} (self after write_u64) []"),
 ]
 
 
@@ -236,10 +240,20 @@ def reason_of(test, text):
     return ""
 
 
+# Bodies of labs whose function is no method, and a word of the reason why they are refused.
+FREE = [
+    ("scheduler", "    let turn = nearest;\n    turn(places, last, top)", "function itself"),
+    ("walk", "    crate::walking::last_entry(ram, root, va)", "function itself"),
+    ("scheduler", "    let found = lab_holds(places, last, top, None);\n    None", "labs' own"),
+]
+
+
 def meanings():
     """What is handed in to the labs of meaning: each text with what has to be said of it, and what is."""
     for text, word in CASES:
         yield f"case {text!r}", word, reason_of(laws.read_answer, text)
+    for name, body, word in FREE:
+        yield f"{name} {body!r}", word, reason_of(lambda it, lab=Lab(name): bodies.test_body(lab, it, 0), body)
     for text, word in ROWS:
         yield f"row {text!r}", word, reason_of(lambda it: rows.test_row(it.split("\n")), text)
 

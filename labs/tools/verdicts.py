@@ -95,29 +95,37 @@ def infix(text):
 
 def in_names(text):
     """What is to be shown, in the names that the student gave: the prover names each by the step that it comes of. The types
-    that it writes between braces are left out."""
-    text = infix(re.sub(r"\{\w+ = [^{}]*\} ?", "", text).replace(" )", ")"))
+    that it writes between braces are left out, and the fields of a record stay."""
+    text = infix(re.sub(r"(?<!\brecord )\{\w+ = [^{}]*\} ?", "", text).replace(" )", ")"))
     text = re.sub(r"\b(?:Rattle|mathlib|lib)(?:\.\w+)*\.(?=[\w◌])", "", text)
     text = re.sub(r"\bc\.args\.", "", text)
     text = re.sub(r"\bc\.from_residual[\w-]*\.result\b", "result", text)
-    text = re.sub(r"\bc\.(?:in_|loop-)[\w-]+\.([\w-]+)", r"\1", text)
+    text = re.sub(r"\bc\.(?:in[_-]|loop-|match-|if-|then-|else-)[\w-]+\.([\w-]+)", r"\1", text)
+    text = re.sub(r"\bc\.([\w-]+)\.new\.([\w-]+)", r"(\2 after \1)", text)
     return re.sub(r"\bc\.([\w-]+)\.result\b", r"(the answer of \1)", text)
 
 
 def goal_told(lab, proof, goal, first):
     """An open goal: the line of the answer, what it asks in words, and what is to be shown there."""
-    line, text = proof.asked.get(goal, (0, ""))
+    line, text = proof.asked.get(goal, (0, "", []))[:2]
     place = f"answer.rs:{line - first[0] + first[1]}: " if first and line > first[0] else ""
     shown = f". To be shown: {in_names(text)[:400]}" if text else ""
     page = f". labs/GOALS.md, `{kind_of(goal)}`" if kind_of(goal) else ""
     return f"{place}{in_words(lab, goal)}  [{goal}]{shown}{page}"
 
 
+def names_told(lab, proof, goal):
+    """The names that an answer to a goal may use, in a lab that has a place for answers."""
+    names = proof.asked.get(goal, (0, "", []))[2] if places.has_answers(lab) else []
+    return ["    an answer may use:", *(f"    {it}" for it in names[:20])] if names else []
+
+
 def open_lines(lab, proof, play, first):
     """What is open, clause by clause, and what was played."""
     goals = [it for it in proof.goals if it]
     lines = [f"{places.NAME}:{number}: {why[:300]}" for number, why in proof.mistakes[:5]]
-    lines += [goal_told(lab, proof, it, first) for it in dict.fromkeys(goals)]
+    for it in dict.fromkeys(goals):
+        lines += [goal_told(lab, proof, it, first), *names_told(lab, proof, it)]
     lines = lines or ["the prover has no proof of this form of code: " + last_words(proof.text, lab)]
     return [*lines, told_of_play(play)] if play else lines
 

@@ -1,0 +1,1 @@
+    table.parent(slot).map_or(0, |pid| i64::from(pid.number()))
