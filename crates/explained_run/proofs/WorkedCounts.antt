@@ -10,7 +10,7 @@ use Rattle.explained_run.specs.Counts.{added, counted, done_by, done_if, program
 use Rattle.explained_run.specs.declared.choice.Choice.{Choice}
 
 abbrev chosen : (calls : Option (Vec KernelCall Global)) → (failed : Bool) → Choice
-chosen calls failed = record { lines = false; pid = None; program = None; calls = calls; failed = failed; numbers = false }
+chosen calls failed = record { lines = false; pid = None; program = None; calls = calls; failed = failed; numbers = false; shown = 32 }
 
 abbrev all : Choice
 all = chosen None false
@@ -50,10 +50,10 @@ the_call : (calls : Vec KernelCall Global) → calls.items ≡ Fork ∷ Kill ∷
 the_call calls are = rw are refl
 
 -- a process that isn't asked for has no row
-another_process : counted (record { lines = false; pid = Some 2; program = None; calls = None; failed = false; numbers = false }) [] (row 3 (Some 1) 1 1 0) ≡ []
+another_process : counted (record { lines = false; pid = Some 2; program = None; calls = None; failed = false; numbers = false; shown = 32 }) [] (row 3 (Some 1) 1 1 0) ≡ []
 another_process = refl
 
-the_process : counted (record { lines = false; pid = Some 3; program = None; calls = None; failed = false; numbers = false }) [] (row 3 (Some 1) 1 1 0) ≡ row 3 (Some 1) 1 1 0 ∷ []
+the_process : counted (record { lines = false; pid = Some 3; program = None; calls = None; failed = false; numbers = false; shown = 32 }) [] (row 3 (Some 1) 1 1 0) ≡ row 3 (Some 1) 1 1 0 ∷ []
 the_process = refl
 
 -- the first of a process makes a row behind the others; more of it is added there, and its program is the last one
