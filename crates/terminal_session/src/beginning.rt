@@ -131,17 +131,17 @@ fn play_through<'a>(
     rt: &HostRuntime,
     session: &mut Session,
     settings: &'a Settings,
-    record: &Record,
+    kept: &Record,
 ) -> Result<u8, Failure<'a>>
-    ensures { IfOk result (EndsSo (λ screen after. Plays (events_of_lines record.now.events.items) session.old session.new screen after) session.new) }
+    ensures { IfOk result (EndsSo (λ screen after. Plays (events_of_lines kept.now.events.items) session.old session.new screen after) session.new) }
 {
     let file = record_file(rt, settings)?;
     let mut screen = Screen {
         sink: Counted::new(rt.stdout()),
         teller: Notes::new(rt.stderr(), rt.alloc(), settings.apart),
     };
-    let status = replay(session, record, &mut screen);
-    let recorder = begin_recording(session, file, record.frames, &mut screen.teller)?;
+    let status = replay(session, kept, &mut screen);
+    let recorder = begin_recording(session, file, kept.frames, &mut screen.teller)?;
     Ok(status_with(status, &recorder))
 }
 
@@ -163,13 +163,13 @@ fn play_record<'a>(
     rt: &HostRuntime,
     settings: &'a Settings,
     programs: &[Program],
-    record: &Record,
+    kept: &Record,
 ) -> Result<u8, Failure<'a>>
-    ensures { IfOk result (PlayedOf settings.now.trace programs.now record.now) }
+    ensures { IfOk result (PlayedOf settings.now.trace programs.now kept.now) }
 {
-    let programs = recorded_programs(rt.alloc(), programs, record)?;
-    let mut session = boot(rt.alloc(), record.frames, settings.trace, programs)?;
-    play_through(rt, &mut session, settings, record)
+    let programs = recorded_programs(rt.alloc(), programs, kept)?;
+    let mut session = boot(rt.alloc(), kept.frames, settings.trace, programs)?;
+    play_through(rt, &mut session, settings, kept)
 }
 
 // Plays the record that is asked for, with programs of the FILEs.
