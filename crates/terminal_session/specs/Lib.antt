@@ -1,4 +1,3 @@
-pub mod Asked
 pub mod Begun
 pub mod DebugSettings
 pub mod Lines

@@ -1,20 +1,14 @@
 //! A session, from the files to its end.
-ghost use Rattle.std.specs.Prelude.{◌≡◌, ◌⊎◌, true, IfOk, map};
-ghost use Rattle.kernel_spec.specs.views.State.{named_file};
-ghost use Rattle.xv_session.specs.Answers.{IsNew};
-ghost use Rattle.terminal_session.specs.Asked.{Came, EndsSo, IsStatusOf, LivedAsked, PlayedAsked, PlayedOf};
-ghost use Rattle.terminal_session.specs.Stretches.{Lives};
-ghost use Rattle.terminal_session.specs.Tells.{Tells};
-ghost use Rattle.xv_live.specs.Plays.{Plays, events_of_lines};
-
 use crate::NAME;
 use crate::conversing::{live, replay};
 use crate::first_screen::FirstScreen;
+use crate::history::History;
 use crate::host::Desk;
 use crate::line::Settings;
-use crate::notes::Notes;
+use crate::notes::{Notes, OpenLine};
 use crate::record_file::{HostFile, open_record};
 use crate::recording::head_of;
+use crate::telling::PLAYED_AGAIN;
 use program_files::exit_statuses::DEVICE_FAILED;
 use program_files::{Failure, line_table, programs};
 use recorded_runs::{Replay, record_of, recorded_programs};
@@ -35,9 +29,7 @@ fn boot(
     frames: u32,
     trace: u32,
     programs: Vec<Program>,
-) -> Result<Session, BootError>
-    ensures { IfOk result (IsNew frames trace (map named_file programs.items)) }
-{
+) -> Result<Session, BootError> {
     Session::boot(alloc, Config { frames, trace }, programs)
 }
 
@@ -60,9 +52,7 @@ fn attend_to<W: ByteSink, E: Write>(
     settings: &Settings,
     recorder: &mut Recorder<HostFile>,
     screen: &mut Screen<W, Notes<E>>,
-) -> u8
-    ensures { Tells (Lives true debugger.old.plan session.old session.new (W.sink screen.old.sink).held (W.sink screen.new.sink).held) result session.new }
-{
+) -> u8 {
     if settings.terminal && !settings.apart {
         let programs = session.machine().programs();
         screen.teller.write_note(FirstScreen { programs });
@@ -98,122 +88,90 @@ fn begin_recording<E: Write>(
 }
 
 // The exit status of a session: that of its end, or that its record couldn't be written.
-fn status_with(status: u8, recorder: &Recorder<HostFile>) -> u8
-    ensures { (result ≡ status) ⊎ (result ≡ 5) }
-{
+fn status_with(status: u8, recorder: &Recorder<HostFile>) -> u8 {
     match recorder.failure {
         Some(_) => DEVICE_FAILED,
         None => status,
     }
 }
 
-// A session that has booted is attended to up to its end, which is told. Its record is kept meanwhile.
-fn live_through<'a>(
+// A session that has booted, up to its end, which is told. Its record is kept meanwhile; that of a session that plays a
+// record is written at its end.
+fn go_through<'a>(
     rt: &HostRuntime,
     session: &mut Session,
     debugger: &mut Debugger,
     settings: &'a Settings,
-) -> Result<u8, Failure<'a>>
-    ensures { IfOk result (EndsSo (λ screen after. Lives true debugger.old.plan session.old session.new screen after) session.new) }
-{
+    record: Option<&Record>,
+) -> Result<u8, Failure<'a>> {
     let file = record_file(rt, settings)?;
+    let notes = Notes {
+        errors: rt.stderr(),
+        line: OpenLine::new(),
+        apart: settings.apart,
+        alloc: rt.alloc(),
+        plays_left: PLAYED_AGAIN,
+        history: History::new(rt.alloc()),
+    };
     let mut screen = Screen {
         sink: Counted::new(rt.stdout()),
-        teller: Notes::new(rt.stderr(), rt.alloc(), settings.apart),
+        teller: notes,
     };
-    let mut recorder = begin_recording(session, file, settings.frames, &mut screen.teller)?;
-    let status = attend_to(rt, session, debugger, settings, &mut recorder, &mut screen);
+    let Some(record) = record else {
+        let mut recorder = begin_recording(session, file, settings.frames, &mut screen.teller)?;
+        let status = attend_to(rt, session, debugger, settings, &mut recorder, &mut screen);
+        return Ok(status_with(status, &recorder));
+    };
+    let status = replay(session, record, &mut screen);
+    let recorder = begin_recording(session, file, record.frames, &mut screen.teller)?;
     Ok(status_with(status, &recorder))
 }
 
-// A session that has booted plays a record, and its end is told. Its own record is written then.
-fn play_through<'a>(
+// Boots the machine that the settings ask for, and attends to it, or plays the record that is asked for.
+fn begin<'a>(
     rt: &HostRuntime,
-    session: &mut Session,
     settings: &'a Settings,
-    kept: &Record,
-) -> Result<u8, Failure<'a>>
-    ensures { IfOk result (EndsSo (λ screen after. Plays (events_of_lines kept.now.events.items) session.old session.new screen after) session.new) }
-{
-    let file = record_file(rt, settings)?;
-    let mut screen = Screen {
-        sink: Counted::new(rt.stdout()),
-        teller: Notes::new(rt.stderr(), rt.alloc(), settings.apart),
+    asked: Option<Replay<'a>>,
+) -> Result<u8, Failure<'a>> {
+    let files = settings.files.as_slice();
+    let made = programs(rt, files)?;
+    let Some(asked) = asked else {
+        let table = line_table(rt, &settings.lines)?;
+        let sources = Sources::of_files(rt, files, made.lines, table.as_str())?;
+        let mut debugger = Debugger::with_sources(sources);
+        let mut session = boot(rt.alloc(), settings.frames, settings.trace, made.programs)?;
+        return go_through(rt, &mut session, &mut debugger, settings, None);
     };
-    let status = replay(session, kept, &mut screen);
-    let recorder = begin_recording(session, file, kept.frames, &mut screen.teller)?;
-    Ok(status_with(status, &recorder))
+    let record = record_of(rt, NAME, &asked)?;
+    begin_record(rt, settings, made.programs.as_slice(), &record)
 }
 
-// Boots the machine that the settings ask for, and attends to it.
-fn live_files<'a>(rt: &HostRuntime, settings: &'a Settings) -> Result<u8, Failure<'a>>
-    ensures { IfOk result (LivedAsked settings.now) }
-{
-    let given = settings.files.as_slice();
-    let made = programs(rt, given)?;
-    let table = line_table(rt, &settings.lines)?;
-    let sources = Sources::of_files(rt, given, made.lines, table.as_str())?;
-    let mut debugger = Debugger::with_sources(sources);
-    let mut session = boot(rt.alloc(), settings.frames, settings.trace, made.programs)?;
-    live_through(rt, &mut session, &mut debugger, settings)
-}
-
-// Boots the machine that was recorded, with those of these programs that the record names, and plays its record.
-fn play_record<'a>(
+// Boots the machine that was recorded, and plays its record.
+fn begin_record<'a>(
     rt: &HostRuntime,
     settings: &'a Settings,
     programs: &[Program],
-    kept: &Record,
-) -> Result<u8, Failure<'a>>
-    ensures { IfOk result (PlayedOf settings.now.trace programs.now kept.now) }
-{
-    let programs = recorded_programs(rt.alloc(), programs, kept)?;
-    let mut session = boot(rt.alloc(), kept.frames, settings.trace, programs)?;
-    play_through(rt, &mut session, settings, kept)
-}
-
-// Plays the record that is asked for, with programs of the FILEs.
-fn play_files<'a>(
-    rt: &HostRuntime,
-    settings: &'a Settings,
-    asked: Replay<'a>,
-) -> Result<u8, Failure<'a>>
-    ensures { IfOk result (PlayedAsked settings.now asked.entry) }
-{
-    let given = settings.files.as_slice();
-    let made = programs(rt, given)?;
-    let record = record_of(rt, NAME, &asked)?;
-    let files = made.programs.as_slice();
-    play_record(rt, settings, files, &record)
-}
-
-// Attends to the machine that the settings ask for, if it can be had, and gives the exit status.
-fn live_asked(rt: &HostRuntime, settings: &Settings) -> u8
-    ensures { Came result (LivedAsked settings.now result) }
-{
-    match live_files(rt, settings) {
-        Ok(status) => status,
-        Err(failure) => failure.close(NAME, &mut rt.stderr()),
-    }
-}
-
-// Plays the record that is asked for, if it can be had, and gives the exit status.
-fn play_asked<'a>(rt: &HostRuntime, settings: &'a Settings, asked: Replay<'a>) -> u8
-    ensures { Came result (PlayedAsked settings.now asked.entry result) }
-{
-    match play_files(rt, settings, asked) {
-        Ok(status) => status,
-        Err(failure) => failure.close(NAME, &mut rt.stderr()),
-    }
+    record: &Record,
+) -> Result<u8, Failure<'a>> {
+    let programs = recorded_programs(rt.alloc(), programs, record)?;
+    let mut session = boot(rt.alloc(), record.frames, settings.trace, programs)?;
+    go_through(
+        rt,
+        &mut session,
+        &mut Debugger::new(),
+        settings,
+        Some(record),
+    )
 }
 
 /// Does what the settings ask for, and gives the exit status.
-pub fn run(rt: &HostRuntime, settings: &Settings) -> u8
-    ensures { IsStatusOf settings.now result }
-{
-    match settings.replay.replay() {
-        Ok(Some(asked)) => play_asked(rt, settings, asked),
-        Ok(None) => live_asked(rt, settings),
-        Err(refusal) => refusal.close(NAME, &mut rt.stderr()),
+pub fn run(rt: &HostRuntime, settings: &Settings) -> u8 {
+    let asked = match settings.replay.replay() {
+        Ok(asked) => asked,
+        Err(refusal) => return refusal.close(NAME, &mut rt.stderr()),
+    };
+    match begin(rt, settings, asked) {
+        Ok(status) => status,
+        Err(failure) => failure.close(NAME, &mut rt.stderr()),
     }
 }

@@ -7,7 +7,6 @@
 ghost use Rattle.std.specs.Prelude.{◌≡◌, [], IfOk, map};
 ghost use Rattle.program_files.specs.Statuses.{IsPlainStatus};
 ghost use Rattle.xv_record.specs.Told.{program_told, told_program};
-ghost use Rattle.terminal_session.specs.Asked.{Conversed, IsDebugStatus, IsDebugStatusOfWords};
 ghost use Rattle.terminal_session.specs.Begun.{IsBegunBy, IsFollowed, IsFollowedIf, IsOfRecord};
 ghost use Rattle.terminal_session.specs.DebugSettings.{IsPlanOf};
 
@@ -189,9 +188,7 @@ fn converse<'a>(
     rt: &HostRuntime,
     settings: &'a Settings,
     asked: Option<Replay<'a>>,
-) -> Result<(), Failure<'a>>
-    ensures { IfOk result (λ _. Conversed settings.now asked.entry) }
-{
+) -> Result<(), Failure<'a>> {
     let record = record_asked(rt, asked)?;
     let mut conversation = begun(rt, settings, record)?;
     tell_played(
@@ -205,20 +202,12 @@ fn converse<'a>(
 
 /// Does what the settings say, and gives the exit status.
 fn debug(rt: &HostRuntime, settings: &Settings) -> u8
-    ensures status { IsPlainStatus result }
-    ensures says { IsDebugStatus settings.now result }
+    ensures { IsPlainStatus result }
 {
-    match settings.replay.replay() {
-        Ok(asked) => debug_asked(rt, settings, asked),
-        Err(refusal) => refusal.close(NAME, &mut rt.stderr()),
-    }
-}
-
-// A session of the record that is asked for, if one is, and its exit status.
-fn debug_asked<'a>(rt: &HostRuntime, settings: &'a Settings, asked: Option<Replay<'a>>) -> u8
-    ensures status { IsPlainStatus result }
-    ensures says { result ≡ 0 → Conversed settings.now asked.entry }
-{
+    let asked = match settings.replay.replay() {
+        Ok(asked) => asked,
+        Err(refusal) => return refusal.close(NAME, &mut rt.stderr()),
+    };
     match converse(rt, settings, asked) {
         Ok(()) => DONE,
         Err(failure) => failure.close(NAME, &mut rt.stderr()),
@@ -227,8 +216,7 @@ fn debug_asked<'a>(rt: &HostRuntime, settings: &'a Settings, asked: Option<Repla
 
 /// Debugs the programs that the words of a command line name, by the words of standard input, and gives the exit status.
 pub fn debug_by_words<W: Env + AllocGlobal>(rt: &HostRuntime, words: &W) -> u8
-    ensures status { IsPlainStatus result }
-    ensures says { IsDebugStatusOfWords result }
+    ensures { IsPlainStatus result }
 {
     match read_settings(words) {
         Ok(settings) => debug(rt, &settings),

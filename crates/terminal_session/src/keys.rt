@@ -101,13 +101,8 @@ fn ended(byte: u8, digit: u8) -> Option<Key> {
 }
 
 impl Keys {
-    ghost use Rattle.std.specs.Prelude.{◌≡◌};
-    ghost use Rattle.terminal_session.specs.declared.keys.Sequence.TheVariants as sequences;
-
     /// None has come.
-    pub fn new() -> Keys
-        ensures { result.sequence ≡ sequences.None }
-    {
+    pub fn new() -> Keys {
         Keys {
             sequence: Sequence::None,
         }

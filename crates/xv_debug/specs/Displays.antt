@@ -1,6 +1,5 @@
 -- The lines that are obeyed after each word that moves the session, and what words do to them.
-use Rattle.std.specs.Prelude.{◌≡◌, ℕ, ◌+◌, ◌-◌, ◌^◌, ◌==◌, Bool, not, nat_lt, if◌then◌else◌, List, [], ◌∷◌, ◌++◌, codes, decimal, flat_map, length, filter, min, Option, None, Some}
-use Rattle.std.specs.List.{concat}
+use Rattle.std.specs.Prelude.{◌≡◌, ℕ, ◌+◌, ◌-◌, ◌^◌, ◌==◌, Bool, not, nat_lt, if◌then◌else◌, List, [], ◌∷◌, ◌++◌, length, filter, min, Option, None, Some}
 use Rattle.arrayvec.specs.ArrayString.{ArrayString as Text}
 use Rattle.xv_debug.specs.declared.frame_words.Display.{Display}
 use Rattle.xv_debug.specs.declared.frame_words.Display.TheVariants as asks
@@ -18,10 +17,6 @@ next_display displays line = record { number = min (displays.made + 1) (2 ^ 32 -
 abbrev pub kept_after : KeptDisplays → Text → List Displayed
 kept_after displays line =
     if nat_lt (length displays.kept.items) DISPLAYS_MOST then displays.kept.items ++ next_display displays line ∷ [] else displays.kept.items
-
--- that one, if there is room
-abbrev pub added : KeptDisplays → Text → Option Displayed
-added displays line = if nat_lt (length displays.kept.items) DISPLAYS_MOST then Some (next_display displays line) else None
 
 -- how many were given: one more, if there is room
 abbrev pub made_after : KeptDisplays → ℕ
@@ -49,23 +44,3 @@ displays_after asks.List displays = displays.kept.items
 abbrev pub displays_by : FrameWord → KeptDisplays → List Displayed
 displays_by (words.Display display) shown = displays_after display shown
 displays_by _ shown = shown.kept.items
-
--- ---- what is told of them
-
--- a line behind its number
-abbrev pub line_text : Displayed → List ℕ
-line_text d = concat (decimal d.number ∷ codes ": " ∷ d.line.bytes ∷ codes "\n" ∷ [])
-
--- those that there are
-abbrev pub list_text : List Displayed → List ℕ
-list_text [] = codes "there is no display\n"
-list_text (d ∷ ds) = flat_map line_text (d ∷ ds)
-
--- where none was forgotten
-abbrev pub forgotten_text : Option ℕ → List Displayed → List ℕ
-forgotten_text number displays =
-    if nat_lt (length (left_without number displays)) (length displays) then [] else codes "there is no such display: info display lists them\n"
-
--- where there is no room for one more
-abbrev pub full_text : List ℕ
-full_text = codes "there are 20 displays, and no more: undisplay ends them\n"

@@ -10,7 +10,6 @@ pub mod Instructions
 pub mod Kept
 pub mod LookText
 pub mod motion
-pub mod Obeyed
 pub mod OutcomeText
 pub mod OutputText
 pub mod Pipes

@@ -1,5 +1,5 @@
 -- What is told of what a line asks of a program in C, in the call at which words look, and what is written of it.
-use Rattle.std.specs.Prelude.{◌≡◌, ◌≢◌, ◌++◌, ℕ, Bool, true, false, List, [], ◌∷◌, codes, decimal, length, option_map, Option, None, Some, string_bytes}
+use Rattle.std.specs.Prelude.{◌≡◌, ◌⊎◌, ◌++◌, ℕ, Bool, true, false, List, [], ◌∷◌, codes, decimal, length, option_map, Option, None, Some, string_bytes}
 use Rattle.std.specs.List.{concat}
 use Rattle.c_expressions.specs.Answers.{IsAnswer}
 use Rattle.c_expressions.specs.Asked.{asked_in, seen}
@@ -14,16 +14,12 @@ use Rattle.xv_report.specs.declared.sources.ProgramSource.{ProgramSource}
 use Rattle.xv_report.specs.declared.sources.Sources.{Sources}
 use Rattle.xv_session.specs.Recorded.{Recorded}
 use Rattle.xv_debug.specs.Chosen.{IsLookedAt, address_in, registers_in}
-use Rattle.xv_debug.specs.Displays.{added, forgotten_text, full_text, list_text}
 use Rattle.xv_debug.specs.Focus.{IsFocus}
 use Rattle.xv_debug.specs.LookText.{Shows}
 use Rattle.xv_debug.specs.WhereText.{IsWhereOf}
 use Rattle.xv_debug.specs.declared.choosing.Chosen.{Chosen}
 use Rattle.xv_debug.specs.declared.choosing.SeenCall.{SeenCall}
 use Rattle.xv_debug.specs.declared.displays.Displayed.{Displayed}
-use Rattle.xv_debug.specs.declared.displays.KeptDisplays.{KeptDisplays}
-use Rattle.xv_debug.specs.declared.frame_words.Display.{Display}
-use Rattle.xv_debug.specs.declared.frame_words.Display.TheVariants as asks
 use Rattle.xv_debug.specs.declared.variables.ToldInCall.{ToldInCall}
 
 -- ---- what is told in a call
@@ -106,19 +102,6 @@ abbrev pub AreDisplaysTold : Option Sources → Chosen → Recorded → List Dis
 AreDisplaysTold known c s [] old new = new ≡ old
 AreDisplaysTold known c s (d ∷ ds) old new = (mid : List ℕ) × IsDisplayTold known c s d old mid × AreDisplaysTold known c s ds mid new
 
--- after a word that has moved the run, to more events or to fewer, they are told, and else nothing is
-pub data ShowsIfMoved (known : Option Sources) (c : Chosen) (before : ℕ) (s : Recorded) (ds : List Displayed) (old new : List ℕ) : Type 0 where
-  is_still : before ≡ length s.events → new ≡ old → ShowsIfMoved known c before s ds old new
-  is_moved : before ≢ length s.events → AreDisplaysTold known c s ds old new → ShowsIfMoved known c before s ds old new
-
--- one that was added to them, or that there was no room for it
-abbrev pub TellsAdded : Option Sources → Chosen → Recorded → Option Displayed → (old new : List ℕ) → Type 0
-TellsAdded known c s None old new = new ≡ old ++ full_text
-TellsAdded known c s (Some d) old new = IsDisplayTold known c s d old new
-
--- what the words tell that keep one, forget some, or show them
-abbrev pub TellsDisplay : Option Sources → Chosen → Recorded → Display → KeptDisplays → (old new : List ℕ) → Type 0
-TellsDisplay known c s asks.Show shown old new = AreDisplaysTold known c s shown.kept.items old new
-TellsDisplay known c s (asks.Add line) shown old new = TellsAdded known c s (added shown line) old new
-TellsDisplay known c s (asks.Forget number) shown old new = new ≡ old ++ forgotten_text number shown.kept.items
-TellsDisplay known c s asks.List shown old new = new ≡ old ++ list_text shown.kept.items
+-- after a word that has moved the run, to more events or to fewer, they are what is told last
+abbrev pub ShowsIfMoved : Option Sources → Chosen → (before : ℕ) → Recorded → List Displayed → (told : List ℕ) → Type 0
+ShowsIfMoved known c before s ds told = (before ≡ length s.events) ⊎ ((mid : List ℕ) × AreDisplaysTold known c s ds mid told)

@@ -1,8 +1,7 @@
 //! The debugger: a line goes in, its answer comes out.
-ghost use Rattle.std.specs.Prelude.{◌≡◌, ◌≢◌, ◌++◌, true, false, IfOk, Ok, OnOk, length, string_bytes};
+ghost use Rattle.std.specs.Prelude.{◌≡◌, ◌++◌, OnOk, string_bytes};
 ghost use Rattle.xv_debug.specs.Effects.{next_of};
 ghost use Rattle.xv_debug.specs.Kept.{goes_on, marks_after};
-ghost use Rattle.xv_debug.specs.Obeyed.{goes_by_plan, may_leave, sends_by_hand, text_in};
 ghost use Rattle.xv_debug.specs.StopText.{never, no_return};
 
 use crate::callers::told_calls;
@@ -114,9 +113,7 @@ fn goes_on(word: &Word) -> bool
 }
 
 /// Whether it is a word that goes on by the plan.
-fn goes_by_plan(word: &Word) -> bool
-    ensures { result ≡ goes_by_plan word.now }
-{
+fn goes_by_plan(word: &Word) -> bool {
     match word {
         Word::Next
         | Word::Until(_)
@@ -129,20 +126,11 @@ fn goes_by_plan(word: &Word) -> bool
 }
 
 /// Whether it is a word that sends the events that it names.
-fn sends_by_hand(word: &Word) -> bool
-    ensures { result ≡ sends_by_hand word.now }
-{
+fn sends_by_hand(word: &Word) -> bool {
     match word {
         Word::Tick { .. } | Word::Send { .. } | Word::Key(_) => true,
         _ => false,
     }
-}
-
-/// Whether it is a word that may leave a record.
-fn may_leave(word: &Word) -> bool
-    ensures { result ≡ may_leave word.now }
-{
-    goes_by_plan(word) || sends_by_hand(word)
 }
 
 /// Writes what a word does; of no word a line for each, and for each of those that ask of calls and variables.
@@ -161,27 +149,6 @@ fn put_text(text: &str, answer: &mut String) -> Result<(), AllocError>
     answer.push_str(text)
 }
 
-/// Writes what is told of marks behind an answer, if both came.
-fn put_met(
-    next: Result<Next, AllocError>,
-    met: Result<String, AllocError>,
-    answer: &mut String,
-) -> Result<Next, AllocError>
-    ensures came { IfOk result (λ n. next ≡ Ok n) }
-    ensures told { OnOk result (string_bytes answer.new ≡ string_bytes answer.old ++ text_in met) }
-{
-    match next {
-        Ok(next) => match met {
-            Ok(met) => {
-                put_text(met.as_str(), answer)?;
-                Ok(next)
-            }
-            Err(error) => Err(error),
-        },
-        Err(error) => Err(error),
-    }
-}
-
 /// Writes that it isn't known where a function ends.
 fn show_no_return(answer: &mut String) -> Result<(), AllocError>
     ensures { OnOk result (string_bytes answer.new ≡ string_bytes answer.old ++ no_return) }
@@ -194,14 +161,6 @@ fn show_never(answer: &mut String) -> Result<(), AllocError>
     ensures { OnOk result (string_bytes answer.new ≡ string_bytes answer.old ++ never) }
 {
     answer.push_str("it never came before this place, and nothing is changed\n")
-}
-
-/// Whether a session has got so many events.
-fn is_at(session: &Session, at: u64) -> bool
-    ensures same { result ≡ true → at ≡ length session.now.events }
-    ensures other { result ≡ false → at ≢ length session.now.events }
-{
-    session.at() == at
 }
 
 /// Whether a process lives that a word looks at: whose registers and names are known.
@@ -251,14 +210,12 @@ impl Debugger {
     ghost use Rattle.xv_debug.specs.AnswerText.{Answers, BackTells, BackUntilTells, FinishTells, GoalTells, GoesOnTells, GotoTells, IsBackText};
     ghost use Rattle.xv_debug.specs.AnswerText.{IsSentText, PlaysOnTell, RoundsTell, SearchTells, SearchTellsWithin, SeekBackTells, SendsTell, StepTells, StepsOnTell};
     ghost use Rattle.xv_debug.specs.Effects.{Does, DoesOrStays, DoesSome, Finishes, GoesBack, GoesOn, GoesTo, IsAimOf, Obeys, Plays, PlaysOn, Searches, SearchesGoal, SearchesWithin, SeeksBack, SendsFirst, Steps, StepsOn, next_of};
-    ghost use Rattle.xv_debug.specs.Kept.{IsToMarks, goes_to_none, left_after, marks_after, marks_of};
+    ghost use Rattle.xv_debug.specs.Kept.{IsToMarks, goes_to_none, left_after, marks_of};
     ghost use Rattle.xv_debug.specs.LookText.{IsOfFocus, Shows};
-    ghost use Rattle.xv_debug.specs.CallWords.{TellsOfCalls, TellsOfDisplays};
+    ghost use Rattle.xv_debug.specs.CallWords.{LeavesChosen, TellsOfCalls};
     ghost use Rattle.xv_debug.specs.Chosen.{Chooses, left};
     ghost use Rattle.xv_debug.specs.Displays.{displays_after, displays_by};
-    ghost use Rattle.xv_debug.specs.Obeyed.{AnswersMarked, AnswersWord, IsApart, IsOffText, ObeysLine, goes_to_marks};
-    ghost use Rattle.xv_debug.specs.ToldOfC.{AreDisplaysTold, IsDisplayTold, IsLineRead, IsLineTold, IsToldOf, ShowsIfMoved, ShowsRead, TellsAdded, TellsDisplay, TellsOfC};
-    ghost use Rattle.xv_debug.specs.motion.Clock.{HasAhead};
+    ghost use Rattle.xv_debug.specs.ToldOfC.{AreDisplaysTold, IsDisplayTold, IsLineRead, IsLineTold, IsToldOf, ShowsIfMoved, ShowsRead, TellsOfC};
     ghost use Rattle.xv_debug.specs.Focus.{IsSourceLookedAt};
     ghost use Rattle.xv_report.specs.Locations.{IsSourceOf};
     ghost use Rattle.xv_debug.specs.OutputText.{output_text};
@@ -365,17 +322,15 @@ impl Debugger {
         answer: &mut String,
     ) -> Result<Next, AllocError>
         ensures done { IfOk result (λ next. Obeys P.may_end self.old.plan session.old session.new next) }
-        ensures told { IfOk result
-            (ObeysLine P.may_end line.now self.old self.new session.old session.new
-            (string_bytes answer.old) (string_bytes answer.new)) }
+        ensures chosen { IfOk result (λ _. LeavesChosen self.old.sources line.now session.old (length session.old.events) (length session.new.events) self.old.chosen self.new.chosen) }
         ensures failed { IfErr result (λ _. (session.new ≡ session.old) ⊎ DoesSome P.may_end self.old.plan session.old session.new) }
         ensures plan { self.new.plan ≡ self.old.plan }
     {
         if self.tells_of_calls(alloc, session, line, answer)? {
-            return Ok(Next::Stays);
+            return self.answer_marked(alloc, session, Word::Nothing, patience, answer);
         }
         if self.tells_of_c(alloc, session, line, answer)? {
-            return Ok(Next::Stays);
+            return self.answer_marked(alloc, session, Word::Nothing, patience, answer);
         }
         match self.read(session, line) {
             Ok(word) => self.answer_displayed(alloc, session, word, patience, answer),
@@ -395,7 +350,7 @@ impl Debugger {
         line: &str,
         answer: &mut String,
     ) -> Result<bool, AllocError>
-        ensures told { IfOk result (TellsOfCalls self.old self.new line.now session.now (string_bytes answer.old) (string_bytes answer.new)) }
+        ensures told { IfOk result (TellsOfCalls self.old.sources line.now session.now self.old.chosen self.new.chosen self.old.displays self.new.displays) }
         ensures sources { self.new.sources ≡ self.old.sources }
         ensures plan { self.new.plan ≡ self.old.plan }
     {
@@ -422,8 +377,6 @@ impl Debugger {
     ) -> Result<(), AllocError>
         ensures chosen { OnOk result (Chooses self.old.sources word session.now self.old.chosen self.new.chosen) }
         ensures displays { self.new.displays.kept.items ≡ displays_by word self.old.displays }
-        ensures told { OnOk result (TellsOfDisplays self.old word session.now (string_bytes answer.old) (string_bytes answer.new)) }
-        ensures rest { self.new ≡ record self.old { chosen = self.new.chosen; displays = self.new.displays } }
         ensures sources { self.new.sources ≡ self.old.sources }
         ensures plan { self.new.plan ≡ self.old.plan }
     {
@@ -518,56 +471,6 @@ impl Debugger {
         Word::ToMark(self.marks.marks())
     }
 
-    /// Whether a word may leave the record, and the record has an event for the place where the run is.
-    fn is_along(&self, session: &Session, word: &Word) -> bool
-        ensures some { result ≡ true → HasAhead self.now.plan.recorded session.now.events }
-        ensures none { result ≡ false → IsApart self.now.plan.recorded word.now session.now }
-    {
-        if !may_leave(word) {
-            return false;
-        }
-        self.plan.has_ahead(session)
-    }
-
-    /// Writes that the run isn't on its record any more, if it was on it before a word that may leave it.
-    fn tell_off(
-        &self,
-        session: &Session,
-        along: bool,
-        by_plan: bool,
-        answer: &mut String,
-    ) -> Result<(), AllocError>
-        ensures { OnOk result
-            (Writes (string_bytes answer.old) (string_bytes answer.new)
-            (IsOffText self.now.plan.recorded along by_plan session.now)) }
-    {
-        if !along {
-            return Ok(());
-        }
-        if self.plan.is_followed(session) {
-            return Ok(());
-        }
-        show_off(by_plan, self.plan.recorded(), answer)
-    }
-
-    /// Writes what is shown after each word that moves the session, if the run is at another place than after so many events.
-    fn show_if_moved(
-        &self,
-        alloc: Global,
-        session: &Session,
-        at: u64,
-        answer: &mut String,
-    ) -> Result<(), AllocError>
-        ensures { OnOk result
-            (ShowsIfMoved self.now.sources self.now.chosen at session.now self.now.displays.kept.items
-            (string_bytes answer.old) (string_bytes answer.new)) }
-    {
-        if is_at(session, at) {
-            return Ok(());
-        }
-        self.show_displays(alloc, session, answer)
-    }
-
     /// Does what a word of a line asks for, and writes its answer; if the run isn't on the record any more, that; and if it is
     /// at another place, what is shown after each word that moves it, too.
     fn answer_displayed<P: Patience>(
@@ -579,9 +482,7 @@ impl Debugger {
         answer: &mut String,
     ) -> Result<Next, AllocError>
         requires { IsInRange word }
-        ensures told { IfOk result
-            (AnswersWord P.may_end word self.old self.new session.old session.new
-            (string_bytes answer.old) (string_bytes answer.new)) }
+        ensures shown { OnOk result (ShowsIfMoved self.new.sources self.new.chosen (length session.old.events) session.new self.new.displays.kept.items (string_bytes answer.new)) }
         ensures done { IfOk result (λ next. Obeys P.may_end self.old.plan session.old session.new next) }
         ensures chosen { self.new.chosen ≡ left (length session.old.events) (length session.new.events) self.old.chosen }
         ensures failed { IfErr result (λ _. (session.new ≡ session.old) ⊎ DoesSome P.may_end self.old.plan session.old session.new) }
@@ -589,10 +490,14 @@ impl Debugger {
     {
         let at = session.at();
         let by_plan = goes_by_plan(&word);
-        let along = self.is_along(session, &word);
+        let along = (by_plan || sends_by_hand(&word)) && self.plan.has_ahead(session);
         let next = self.answer_marked(alloc, session, word, patience, answer)?;
-        self.tell_off(session, along, by_plan, answer)?;
-        self.show_if_moved(alloc, session, at, answer)?;
+        if along && !self.plan.is_followed(session) {
+            show_off(by_plan, self.plan.recorded(), answer)?;
+        }
+        if session.at() != at {
+            self.show_displays(alloc, session, answer)?;
+        }
         Ok(next)
     }
 
@@ -607,9 +512,6 @@ impl Debugger {
         answer: &mut String,
     ) -> Result<Next, AllocError>
         requires { IsInRange word }
-        ensures told { IfOk result
-            (AnswersMarked P.may_end word self.old self.new session.old session.new
-            (string_bytes answer.old) (string_bytes answer.new)) }
         ensures done { IfOk result (λ next. Obeys P.may_end self.old.plan session.old session.new next) }
         ensures chosen { self.new.chosen ≡ left (length session.old.events) (length session.new.events) self.old.chosen }
         ensures failed { IfErr result (λ _. (session.new ≡ session.old) ⊎ DoesSome P.may_end self.old.plan session.old session.new) }
@@ -619,29 +521,31 @@ impl Debugger {
         let at = session.at();
         let chosen = self.chosen;
         let next = self.obey_word(alloc, session, &word, patience, answer);
-        let met = self.told_met(alloc, session, &word);
+        let told = self.tell_met(alloc, session, &word, answer);
         self.forget_met(session, &word);
         self.chosen = chosen.left(at, session.at());
-        put_met(next, met, answer)
+        let next = next?;
+        told?;
+        Ok(next)
     }
 
-    /// What is told of the marks that are met where the session is, after the word that goes on to them; nothing after any
-    /// other.
-    fn told_met(&self, alloc: Global, session: &Session, word: &Word) -> Result<String, AllocError>
-        ensures { IfOk result (λ met. goes_to_marks word.now ≡ false → string_bytes met ≡ []) }
-    {
-        let mut met = String::new(alloc);
-        let Word::ToMark(_) = word else {
-            return Ok(met);
-        };
-        self.marks.show_met(alloc, session, &mut met)?;
-        Ok(met)
+    /// Writes which marks are met where the session is, after the word that goes on to them.
+    fn tell_met(
+        &self,
+        alloc: Global,
+        session: &Session,
+        word: &Word,
+        answer: &mut String,
+    ) -> Result<(), AllocError> {
+        match word {
+            Word::ToMark(_) => self.marks.show_met(alloc, session, answer),
+            _ => Ok(()),
+        }
     }
 
     /// Forgets the marks for once that are met where the session is, after the word that goes on to them.
     fn forget_met(&mut self, session: &Session, word: &Word)
         ensures marks { self.new.marks.kept.items ≡ left_after (running_of session.now) word.now self.old.marks.kept.items }
-        ensures rest { self.new ≡ record self.old { marks = self.new.marks } }
         ensures plan { self.new.plan ≡ self.old.plan }
     {
         if let Word::ToMark(_) = word {
@@ -659,15 +563,8 @@ impl Debugger {
         answer: &mut String,
     ) -> Result<Next, AllocError>
         requires { IsInRange word.now }
-        ensures does { IfOk result (λ _. Does P.may_end self.old.plan word.now session.old session.new) }
-        ensures next { IfOk result (λ next. next ≡ next_of word.now) }
-        ensures told { OnOk result
-            (Answers self.old.sources P.may_end self.old.plan self.old.shown word.now session.old session.new
-            (string_bytes answer.old) (string_bytes answer.new)) }
         ensures done { IfOk result (λ next. Obeys P.may_end self.old.plan session.old session.new next) }
         ensures failed { IfErr result (λ _. (session.new ≡ session.old) ⊎ DoesSome P.may_end self.old.plan session.old session.new) }
-        ensures marks { self.new.marks.kept.items ≡ marks_after word.now self.old.marks }
-        ensures rest { self.new ≡ record self.old { shown = self.new.shown; marks = self.new.marks } }
         ensures plan { self.new.plan ≡ self.old.plan }
     {
         self.answer(alloc, session, word, patience, answer)
@@ -692,8 +589,6 @@ impl Debugger {
             (Answers self.old.sources P.may_end self.old.plan self.old.shown word.now session.old session.new
             (string_bytes answer.old) (string_bytes answer.new)) }
         ensures failed { IfErr result (λ _. DoesOrStays P.may_end self.old.plan word.now session.old session.new) }
-        ensures marks { self.new.marks.kept.items ≡ marks_after word.now self.old.marks }
-        ensures rest { self.new ≡ record self.old { shown = self.new.shown; marks = self.new.marks } }
         ensures plan { self.new.plan ≡ self.old.plan }
     {
         self.act(alloc, session, word, patience, answer)?;
@@ -714,8 +609,6 @@ impl Debugger {
             (Answers self.old.sources P.may_end self.old.plan self.old.shown word.now session.old session.new
             (string_bytes answer.old) (string_bytes answer.new)) }
         ensures failed { IfErr result (λ _. DoesOrStays P.may_end self.old.plan word.now session.old session.new) }
-        ensures marks { self.new.marks.kept.items ≡ marks_after word.now self.old.marks }
-        ensures rest { self.new ≡ record self.old { shown = self.new.shown; marks = self.new.marks } }
         ensures plan { self.new.plan ≡ self.old.plan }
     {
         match word {
@@ -1254,8 +1147,6 @@ impl Debugger {
         ensures shows { OnOk result
             (Shows self.old.shown session.now word.now
             (string_bytes answer.old) (string_bytes answer.new)) }
-        ensures marks { self.new.marks.kept.items ≡ marks_after word.now self.old.marks }
-        ensures rest { self.new ≡ record self.old { shown = self.new.shown; marks = self.new.marks } }
         ensures plan { self.new.plan ≡ self.old.plan }
     {
         match word {
@@ -1309,10 +1200,6 @@ impl Debugger {
         answer: &mut String,
     ) -> Result<(), AllocError>
         ensures kept { self.new.displays.kept.items ≡ displays_after display self.old.displays }
-        ensures told { OnOk result
-            (TellsDisplay self.old.sources self.old.chosen session.now display self.old.displays
-            (string_bytes answer.old) (string_bytes answer.new)) }
-        ensures rest { self.new ≡ record self.old { displays = self.new.displays } }
         ensures chosen { self.new.chosen ≡ self.old.chosen }
         ensures sources { self.new.sources ≡ self.old.sources }
         ensures plan { self.new.plan ≡ self.old.plan }
@@ -1320,29 +1207,28 @@ impl Debugger {
         match display {
             Display::Show => self.show_displays(alloc, session, answer),
             Display::Add(line) => {
-                let added = self.displays.add(line);
-                self.show_added(alloc, session, &added, answer)
+                let has_room = self.displays.add(line);
+                self.show_last_display(alloc, session, has_room, answer)
             }
             Display::Forget { number } => self.displays.delete(number, answer),
             Display::List => show_kept(&self.displays, answer),
         }
     }
 
-    /// Writes what a line tells that was added to those that are shown again and again, or that there was no room for it.
-    fn show_added(
+    /// Writes what the line tells that was given last to be shown again and again, or that there was no room for it.
+    fn show_last_display(
         &self,
         alloc: Global,
         session: &Session,
-        added: &Option<Displayed>,
+        has_room: bool,
         answer: &mut String,
-    ) -> Result<(), AllocError>
-        ensures { OnOk result
-            (TellsAdded self.now.sources self.now.chosen session.now added.now
-            (string_bytes answer.old) (string_bytes answer.new)) }
-    {
-        match added {
+    ) -> Result<(), AllocError> {
+        if !has_room {
+            return answer.push_str("there are 20 displays, and no more: undisplay ends them\n");
+        }
+        match self.displays.as_slice().last() {
             Some(displayed) => self.show_displayed(alloc, session, displayed, answer),
-            None => answer.push_str("there are 20 displays, and no more: undisplay ends them\n"),
+            None => Ok(()),
         }
     }
 
@@ -1499,7 +1385,6 @@ impl Debugger {
             (Writes (string_bytes answer.old) (string_bytes answer.new)
             (IsOfFocus session.now named
             (λ p text. text ≡ memory_shown session.now p (unwrap_or address self.old.shown) count))) }
-        ensures rest { self.new ≡ record self.old { shown = self.new.shown } }
         ensures plan { self.new.plan ≡ self.old.plan }
     {
         let Some(pid) = focus(session, named) else {

@@ -1,7 +1,5 @@
 //! What is shown again and again: lines that are obeyed after each word that moves the session (Debugging with GDB,
-//! "Automatic Display").
-ghost use Rattle.std.specs.Prelude.{◌≡◌, ◌++◌, OnOk, flat_map, string_bytes};
-ghost use Rattle.xv_debug.specs.Displays.{line_text, list_text};
+//! "Automatic Display"). How they are told, no contract says.
 
 use crate::frame_words::DisplayLine;
 use arrayvec::ArrayVec;
@@ -27,16 +25,10 @@ pub(crate) struct KeptDisplays {
     made: u32,
 }
 
-/// A line behind its number.
-fn numbered(number: u32, line: DisplayLine) -> Displayed
-    ensures { result ≡ record { number = number; line = line } }
-{
-    Displayed { number, line }
-}
-
 impl KeptDisplays {
-    ghost use Rattle.std.specs.Prelude.{◌≡◌, ◌++◌, [], OnOk, string_bytes};
-    ghost use Rattle.xv_debug.specs.Displays.{added, forgotten_text, kept_after, left_without, made_after};
+    ghost use Rattle.std.specs.Prelude.{◌≡◌, [], length, nat_lt};
+    ghost use Rattle.xv_debug.specs.Displays.{kept_after, left_without, made_after};
+    ghost use Rattle.xv_debug.specs.declared.displays.TheConstants.{DISPLAYS_MOST};
 
     /// None yet.
     pub fn new() -> KeptDisplays
@@ -55,19 +47,18 @@ impl KeptDisplays {
         self.kept.as_slice()
     }
 
-    /// Keeps a line from now on, and gives it with its number; `None` if there are as many as may be.
-    pub fn add(&mut self, line: DisplayLine) -> Option<Displayed>
+    /// Keeps a line from now on; `false` if there are as many as may be.
+    pub fn add(&mut self, line: DisplayLine) -> bool
         ensures kept { self.new.kept.items ≡ kept_after self.old line }
-        ensures added { result ≡ added self.old line }
+        ensures room { result ≡ nat_lt (length self.old.kept.items) DISPLAYS_MOST }
         ensures made { self.new.made ≡ made_after self.old }
     {
         let number = self.made.saturating_add(1);
-        let displayed = numbered(number, line);
-        let Ok(()) = self.kept.try_push(displayed) else {
-            return None;
+        let Ok(()) = self.kept.try_push(Displayed { number, line }) else {
+            return false;
         };
         self.made = number;
-        Some(displayed)
+        true
     }
 
     /// Forgets the line of this number, or all.
@@ -82,8 +73,7 @@ impl KeptDisplays {
 
     /// Forgets the line of this number, or all; tells if there is none.
     pub fn delete(&mut self, number: Option<u32>, answer: &mut String) -> Result<(), AllocError>
-        ensures kept { self.new.kept.items ≡ left_without number self.old.kept.items }
-        ensures told { OnOk result (string_bytes answer.new ≡ string_bytes answer.old ++ forgotten_text number self.old.kept.items) }
+        ensures { self.new.kept.items ≡ left_without number self.old.kept.items }
     {
         let count = self.kept.len();
         self.forget(number);
@@ -95,31 +85,15 @@ impl KeptDisplays {
     }
 }
 
-/// Writes a line that is obeyed again and again, behind its number.
-fn show_one(displayed: &Displayed, answer: &mut String) -> Result<(), AllocError>
-    ensures { OnOk result (string_bytes answer.new ≡ string_bytes answer.old ++ line_text displayed.now) }
-{
-    let number = displayed.number;
-    let line = displayed.line.as_str();
-    writeln!(answer, "{number}: {line}")
-}
-
-/// Writes these lines, each behind its number.
-fn show_each(displays: &[Displayed], answer: &mut String) -> Result<(), AllocError>
-    ensures { OnOk result (string_bytes answer.new ≡ string_bytes answer.old ++ flat_map line_text displays.now) }
-{
-    for displayed in displays {
-        show_one(displayed, answer)?;
-    }
-    Ok(())
-}
-
 /// Writes which lines are obeyed again and again.
-pub(crate) fn show_kept(displays: &KeptDisplays, answer: &mut String) -> Result<(), AllocError>
-    ensures { OnOk result (string_bytes answer.new ≡ string_bytes answer.old ++ list_text displays.now.kept.items) }
-{
+pub(crate) fn show_kept(displays: &KeptDisplays, answer: &mut String) -> Result<(), AllocError> {
     if displays.as_slice().is_empty() {
         return answer.push_str("there is no display\n");
     }
-    show_each(displays.as_slice(), answer)
+    for displayed in displays.as_slice() {
+        let number = displayed.number;
+        let line = displayed.line.as_str();
+        writeln!(answer, "{number}: {line}")?;
+    }
+    Ok(())
 }

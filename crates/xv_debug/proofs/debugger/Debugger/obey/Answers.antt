@@ -1,36 +1,23 @@
-use Rattle.std.proofs.Common.{string_bytes}
-use Rattle.xv_debug.proofs.LineObeyed.{does-nothing, obeys-calls, obeys-none, obeys-of-c, obeys-word}
+use Rattle.std.proofs.Common.{length, refl}
+use Rattle.debug_words.specs.declared.vocabulary.Word.TheVariants.{Nothing}
+use Rattle.xv_debug.proofs.Left.{if-ok, leaves, stays-left}
 use Rattle.xv_debug.proofs.debugger.Debugger.obey.Goals as goal
 
-pub returns-then-branch-clause-done : goal.returns-then-branch-clause-done
-returns-then-branch-clause-done g c = does-nothing g.P.Patience.may_end c.args.self.now.plan c.args.session.now
+pub returns-then-branch-clause-chosen : goal.returns-then-branch-clause-chosen
+returns-then-branch-clause-chosen g c =
+    if-ok c.answer_marked.result _ (leaves _ _ _ _ _ _ _ _ _ _ _ c.in_ok-tells_of_calls.ensures.told c.answer_marked.ensures.chosen)
 
-pub returns-then-branch-clause-told : goal.returns-then-branch-clause-told
-returns-then-branch-clause-told g c =
-    obeys-calls g.P.Patience.may_end c.args.line.now c.args.self.now c.tells_of_calls.new.self c.args.session.now (string_bytes c.args.answer.now) (string_bytes c.tells_of_calls.new.answer)
-    c.in_ok-tells_of_calls.field-0 c.in_ok-tells_of_calls.ensures.told c.if-branch.true
+pub returns-then-branch-2-clause-chosen : goal.returns-then-branch-2-clause-chosen
+returns-then-branch-2-clause-chosen g c =
+    if-ok c.answer_marked-then-branch-2.result _ (leaves _ _ _ _ _ _ _ _ _ _ _ c.in_ok-tells_of_calls.ensures.told c.answer_marked-then-branch-2.ensures.chosen)
 
-pub returns-then-branch-2-clause-done : goal.returns-then-branch-2-clause-done
-returns-then-branch-2-clause-done g c = does-nothing g.P.Patience.may_end c.args.self.now.plan c.args.session.now
-
-pub returns-then-branch-2-clause-told : goal.returns-then-branch-2-clause-told
-returns-then-branch-2-clause-told g c =
-    obeys-of-c g.P.Patience.may_end c.args.line.now c.args.self.now c.tells_of_calls.new.self c.args.session.now (string_bytes c.args.answer.now) (string_bytes c.tells_of_calls.new.answer)
-    (string_bytes c.tells_of_c.new.answer) c.in_ok-tells_of_calls.field-0 c.in_ok-tells_of_c.field-0 c.in_ok-tells_of_calls.ensures.told c.if-branch.false c.in_ok-tells_of_c.ensures
-    c.if-branch-2.true
-
-pub returns-in-Ok-clause-told : goal.returns-in-Ok-clause-told
-returns-in-Ok-clause-told g c =
-    obeys-word g.P.Patience.may_end c.args.line.now c.args.self.now c.tells_of_calls.new.self c.args.session.now (string_bytes c.args.answer.now) (string_bytes c.tells_of_calls.new.answer)
-    (string_bytes c.tells_of_c.new.answer) c.in_ok-tells_of_calls.field-0 c.in_ok-tells_of_c.field-0 c.in_ok-tells_of_calls.ensures.told c.if-branch.false c.in_ok-tells_of_c.ensures
-    c.if-branch-2.false c.answer_displayed.result c.in-Ok.word c.answer_displayed.new.self c.answer_displayed.new.session (string_bytes c.answer_displayed.new.answer)
-    c.answer_displayed.ensures.told
+pub returns-in-Ok-clause-chosen : goal.returns-in-Ok-clause-chosen
+returns-in-Ok-clause-chosen g c =
+    if-ok c.answer_displayed.result _ (leaves _ _ _ _ _ _ _ _ _ _ _ c.in_ok-tells_of_calls.ensures.told c.answer_displayed.ensures.chosen)
 
 pub returns-in_ok-tell_nameless-in-Err-clause-done : goal.returns-in_ok-tell_nameless-in-Err-clause-done
-returns-in_ok-tell_nameless-in-Err-clause-done g c = does-nothing g.P.Patience.may_end c.args.self.now.plan c.args.session.now
+returns-in_ok-tell_nameless-in-Err-clause-done g c = record { word = Nothing; in_range = tt; does = refl; behind = refl }
 
-pub returns-in_ok-tell_nameless-in-Err-clause-told : goal.returns-in_ok-tell_nameless-in-Err-clause-told
-returns-in_ok-tell_nameless-in-Err-clause-told g c =
-    obeys-none g.P.Patience.may_end c.args.line.now c.args.self.now c.tells_of_calls.new.self c.args.session.now (string_bytes c.args.answer.now) (string_bytes c.tells_of_calls.new.answer)
-    (string_bytes c.tells_of_c.new.answer) c.in_ok-tells_of_calls.field-0 c.in_ok-tells_of_c.field-0 c.in_ok-tells_of_calls.ensures.told c.if-branch.false c.in_ok-tells_of_c.ensures
-    c.if-branch-2.false _
+pub returns-in_ok-tell_nameless-in-Err-clause-chosen : goal.returns-in_ok-tell_nameless-in-Err-clause-chosen
+returns-in_ok-tell_nameless-in-Err-clause-chosen g c =
+    leaves _ _ _ _ _ _ _ _ _ _ _ c.in_ok-tells_of_calls.ensures.told (stays-left (length c.args.session.now.events) c.tells_of_calls.new.self.chosen)
